@@ -1,10 +1,10 @@
 //! The program: the files of the system, the network, a journal or a database, the standard output, and the call that runs the command. It exits with that call's status.
 #![tactic(auto)]
 
+use mmtel_base::Text;
 use mmtel_cli::{DiskFiles, OutSink, out_of_memory, program};
-use mmtel_net::NetLink;
-use mmtel_scan::Text;
-use mmtel_stores::StoreKeeper;
+use mmtel_sockets::NetLink;
+use mmtel_stored_keepers::StoreKeeper;
 use std::alloc::Global;
 use std::io::ErrorKind;
 use std::process::ExitCode;

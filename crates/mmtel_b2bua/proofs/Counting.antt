@@ -7,22 +7,22 @@ use Rattle.std.proofs.lemmas.List.Sums.{get_or-le-sum_by, sum_by-append, sum_by-
 use Rattle.std.proofs.lemmas.Option.{get_or_from_slice_get, none-some, slice_get_within}
 use Rattle.std.specs.Prelude.{◌==◌, ◌-◌, count_by, flat_map, if◌then◌else◌, min, option_to_list, remove, slice_get, sum_by}
 use Rattle.std.specs.List.{AllByRecursion}
-use Rattle.mmtel_call.specs.Opening.{opened}
+use Rattle.mmtel_call.specs.Opening.{call_after_opening}
 use Rattle.mmtel_call.specs.Table.{step}
 use Rattle.mmtel_call.specs.declared.signals.Signal as calls
-use Rattle.mmtel_call_decisions.specs.Busy.{Counts, calls_of, live_of}
-use Rattle.mmtel_call_decisions.specs.Site.{Site, calls_among, is_account}
-use Rattle.mmtel_call_decisions.specs.declared.openings.Arrival.{Arrival}
-use Rattle.mmtel_desk.specs.Marks.{Ascend}
-use Rattle.mmtel_desk.specs.declared.desks.Desk.{Desk}
-use Rattle.mmtel_desk.proofs.Marking.{below_at}
-use Rattle.mmtel_precedence.specs.Calls.{Standing}
-use Rattle.mmtel_sheet_values.specs.View.{InForce, end_in, sheet_in}
+use Rattle.mmtel_call_services.specs.Busy.{BusyCountsView, calls_of, live_of}
+use Rattle.mmtel_call_services.specs.CallConfig.{CallConfigView, calls_among, is_account}
+use Rattle.mmtel_call_services.specs.declared.openings.Arrival.{Arrival}
+use Rattle.mmtel_output.specs.Marks.{Ascend}
+use Rattle.mmtel_output.specs.declared.outputs.StepOutput.{StepOutput}
+use Rattle.mmtel_output.proofs.Marking.{below_at}
+use Rattle.mmtel_precedence.specs.Calls.{SnapshotView}
+use Rattle.mmtel_sheet_values.specs.View.{SheetsInForce, registration_end_in, sheet_in}
 use Rattle.mmtel_types.specs.declared.numbers.Account.{Account}
 use Rattle.mmtel_b2bua.specs.Entries.{accounts_of, beside, busy_beside, is_numbered, origin_of, served_of}
-use Rattle.mmtel_b2bua.specs.Kept.{keeps_busy, number_of, often}
-use Rattle.mmtel_b2bua.specs.Names.{live}
-use Rattle.mmtel_b2bua.specs.Tables.{busy_with, open_of, standing, step_of}
+use Rattle.mmtel_b2bua.specs.Invariant.{account_count, busy_count, number_of}
+use Rattle.mmtel_b2bua.specs.Queries.{live}
+use Rattle.mmtel_b2bua.specs.Tables.{busy_with, call_step, opening_step, snapshot_at}
 use Rattle.mmtel_b2bua.specs.declared.entries.Entry.{Entry}
 
 -- ---- the accounts of one call
@@ -31,22 +31,22 @@ module _ (n : ℕ) where
   abbrev one : Account → ℕ
   one account = cond (is_account n account) 1 0
 
-  listed : (o : Option Account) → count_by (is_account n) (option_to_list o) ≡ often o n
+  listed : (o : Option Account) → count_by (is_account n) (option_to_list o) ≡ account_count o n
   listed None = refl
   listed (Some account) = sum_by-cons one account [] ∙ (let z : one account + 0 ≡ one account = omega arith in z)
 
-  accounts : (e : Entry) → count_by (is_account n) (accounts_of e) ≡ keeps_busy n e
+  accounts : (e : Entry) → count_by (is_account n) (accounts_of e) ≡ busy_count n e
   unfolding accounts_of
   accounts e =
       sum_by-append one (option_to_list (origin_of e)) (option_to_list (served_of e))
       ∙ ap (λ (m : ℕ). m + count_by (is_account n) (option_to_list (served_of e))) (listed (origin_of e))
-      ∙ ap (λ (m : ℕ). often (origin_of e) n + m) (listed (served_of e))
+      ∙ ap (λ (m : ℕ). account_count (origin_of e) n + m) (listed (served_of e))
 
-  beside_own : (number : ℕ) (e : Entry) → is_numbered number e ≡ true → count_by (is_account n) (beside number e) ≡ often (origin_of e) n
+  beside_own : (number : ℕ) (e : Entry) → is_numbered number e ≡ true → count_by (is_account n) (beside number e) ≡ account_count (origin_of e) n
   unfolding beside
   beside_own number e is = ap (λ (b : Bool). count_by (is_account n) (if b then option_to_list (origin_of e) else accounts_of e)) is ∙ listed (origin_of e)
 
-  beside_other : (number : ℕ) (e : Entry) → is_numbered number e ≡ false → count_by (is_account n) (beside number e) ≡ keeps_busy n e
+  beside_other : (number : ℕ) (e : Entry) → is_numbered number e ≡ false → count_by (is_account n) (beside number e) ≡ busy_count n e
   unfolding beside
   beside_other number e is = ap (λ (b : Bool). count_by (is_account n) (if b then option_to_list (origin_of e) else accounts_of e)) is ∙ accounts e
 
@@ -55,21 +55,21 @@ module _ (n : ℕ) where
   flat_cons : (f : Entry → List Account) (e : Entry) (es : List Entry) → count_by (is_account n) (flat_map f (e ∷ es)) ≡ count_by (is_account n) (f e) + count_by (is_account n) (flat_map f es)
   flat_cons f e es = sum_by-append one (f e) (flat_map f es)
 
-  all_counted : (es : List Entry) → count_by (is_account n) (flat_map accounts_of es) ≡ sum_by (keeps_busy n) es
+  all_counted : (es : List Entry) → count_by (is_account n) (flat_map accounts_of es) ≡ sum_by (busy_count n) es
   all_counted [] = refl
   all_counted (e ∷ es) =
       flat_cons accounts_of e es
       ∙ ap (λ (m : ℕ). m + count_by (is_account n) (flat_map accounts_of es)) (accounts e)
-      ∙ ap (λ (m : ℕ). keeps_busy n e + m) (all_counted es)
-      ∙ sym (sum_by-cons (keeps_busy n) e es)
+      ∙ ap (λ (m : ℕ). busy_count n e + m) (all_counted es)
+      ∙ sym (sum_by-cons (busy_count n) e es)
 
-  others_counted : (number : ℕ) (es : List Entry) → AllByRecursion (λ e. is_numbered number e ≡ false) es → count_by (is_account n) (busy_beside number es) ≡ sum_by (keeps_busy n) es
+  others_counted : (number : ℕ) (es : List Entry) → AllByRecursion (λ e. is_numbered number e ≡ false) es → count_by (is_account n) (busy_beside number es) ≡ sum_by (busy_count n) es
   others_counted number [] other = refl
   others_counted number (e ∷ es) other =
       flat_cons (beside number) e es
       ∙ ap (λ (m : ℕ). m + count_by (is_account n) (busy_beside number es)) (beside_other number e other.0)
-      ∙ ap (λ (m : ℕ). keeps_busy n e + m) (others_counted number es other.1)
-      ∙ sym (sum_by-cons (keeps_busy n) e es)
+      ∙ ap (λ (m : ℕ). busy_count n e + m) (others_counted number es other.1)
+      ∙ sym (sum_by-cons (busy_count n) e es)
 
 -- ---- other numbers
 
@@ -101,7 +101,7 @@ all_below number low high (x ∷ es) l a = let g = least (number_of x) high es a
 -- ---- as the step of a call sees them
 
 own_counted : (n number low high : ℕ) (es : List Entry) (k : ℕ) (e : Entry) → Ascend number_of low es high → slice_get es k ≡ Some e → number ≡ number_of e
-    → count_by (is_account n) (busy_beside number es) + often (served_of e) n ≡ sum_by (keeps_busy n) es
+    → count_by (is_account n) (busy_beside number es) + account_count (served_of e) n ≡ sum_by (busy_count n) es
 own_counted n number low high [] k e a is same = absurd (none-some e is)
 own_counted n number low high (x ∷ es) zero e a is same =
     let h : x ≡ e = cc in
@@ -109,14 +109,14 @@ own_counted n number low high (x ∷ es) zero e a is same =
     let whole = flat_cons n (beside number) x es in
     let own = beside_own n number x (own_is number x mine) in
     let rest = others_counted n number es (all_above number (number_of x) high es (omega (arith, mine)) a.1) in
-    let all = sum_by-cons (keeps_busy n) x es in
-    subst (λ (z : Entry). count_by (is_account n) (busy_beside number (x ∷ es)) + often (served_of z) n ≡ sum_by (keeps_busy n) (x ∷ es)) h (omega (arith, whole, own, rest, all))
+    let all = sum_by-cons (busy_count n) x es in
+    subst (λ (z : Entry). count_by (is_account n) (busy_beside number (x ∷ es)) + account_count (served_of z) n ≡ sum_by (busy_count n) (x ∷ es)) h (omega (arith, whole, own, rest, all))
 own_counted n number low high (x ∷ es) (suc k) e a is same =
     let above = below_at number_of (number_of x) high es k e a.1 is in
     let whole = flat_cons n (beside number) x es in
     let other = beside_other n number x (lower_not number x (omega (arith, above, same))) in
     let rest = own_counted n number (number_of x) high es k e a.1 is same in
-    let all = sum_by-cons (keeps_busy n) x es in
+    let all = sum_by-cons (busy_count n) x es in
     omega (arith, whole, other, rest, all)
 
 -- ---- a call is changed, and stays or leaves
@@ -126,39 +126,39 @@ module _ (n : ℕ) (es : List Entry) (k : ℕ) (e y : Entry) (is : slice_get es 
   at = get_or_from_slice_get es k e e is
 
   -- it was counted
-  few : keeps_busy n e ≤ sum_by (keeps_busy n) es
-  few = subst (λ (z : Entry). keeps_busy n z ≤ sum_by (keeps_busy n) es) at (get_or-le-sum_by (keeps_busy n) es k e (slice_get_within es k e is))
+  few : busy_count n e ≤ sum_by (busy_count n) es
+  few = subst (λ (z : Entry). busy_count n z ≤ sum_by (busy_count n) es) at (get_or-le-sum_by (busy_count n) es k e (slice_get_within es k e is))
 
-  put : sum_by (keeps_busy n) (set es k y) + keeps_busy n e ≡ sum_by (keeps_busy n) es + keeps_busy n y
-  put = subst (λ (z : Entry). sum_by (keeps_busy n) (set es k y) + keeps_busy n z ≡ sum_by (keeps_busy n) es + keeps_busy n y) at (sum_by-set (keeps_busy n) es k y e (slice_get_within es k e is))
+  put : sum_by (busy_count n) (set es k y) + busy_count n e ≡ sum_by (busy_count n) es + busy_count n y
+  put = subst (λ (z : Entry). sum_by (busy_count n) (set es k y) + busy_count n z ≡ sum_by (busy_count n) es + busy_count n y) at (sum_by-set (busy_count n) es k y e (slice_get_within es k e is))
 
-  gone_from : sum_by (keeps_busy n) (remove (set es k y) k) + keeps_busy n y ≡ sum_by (keeps_busy n) (set es k y)
+  gone_from : sum_by (busy_count n) (remove (set es k y) k) + busy_count n y ≡ sum_by (busy_count n) (set es k y)
   gone_from =
-      subst (λ (z : Entry). sum_by (keeps_busy n) (remove (set es k y) k) + keeps_busy n z ≡ sum_by (keeps_busy n) (set es k y)) (get_or-set_same es k y y (slice_get_within es k e is))
-      (sum_by-remove (keeps_busy n) (set es k y) k y (lt-length-set es k y (slice_get_within es k e is)))
+      subst (λ (z : Entry). sum_by (busy_count n) (remove (set es k y) k) + busy_count n z ≡ sum_by (busy_count n) (set es k y)) (get_or-set_same es k y y (slice_get_within es k e is))
+      (sum_by-remove (busy_count n) (set es k y) k y (lt-length-set es k y (slice_get_within es k e is)))
 
-  pub left_counted : (gone : Bool) (now : ℕ) → now + keeps_busy n e ≡ sum_by (keeps_busy n) es + (if gone then 0 else keeps_busy n y)
-      → now ≡ sum_by (keeps_busy n) (if gone then remove (set es k y) k else set es k y)
+  pub left_counted : (gone : Bool) (now : ℕ) → now + busy_count n e ≡ sum_by (busy_count n) es + (if gone then 0 else busy_count n y)
+      → now ≡ sum_by (busy_count n) (if gone then remove (set es k y) k else set es k y)
   left_counted true now is_now = let a = put in let b = gone_from in omega (arith, a, b, is_now)
   left_counted false now is_now = let a = put in omega (arith, a, is_now)
 
 -- its accounts were removed, and added again if it stays
-module _ (es : List Entry) (k : ℕ) (e y : Entry) (is : slice_get es k ≡ Some e) (gone : Bool) (before after : Counts) (counted : (n : ℕ) → calls_of before n ≡ sum_by (keeps_busy n) es) where
+module _ (es : List Entry) (k : ℕ) (e y : Entry) (is : slice_get es k ≡ Some e) (gone : Bool) (before after : BusyCountsView) (counted : (n : ℕ) → calls_of before n ≡ sum_by (busy_count n) es) where
   -- that of its attempt before the step, and that of its caller after it
-  pub parted : (mid next : Counts) (served origin : Option Account) → served ≡ served_of e → origin ≡ origin_of e → ((n : ℕ) → calls_of mid n ≡ calls_of before n - often served n)
-      → ((n : ℕ) → calls_of next n ≡ calls_of mid n + (if gone then 0 else keeps_busy n y)) → ((n : ℕ) → calls_of after n ≡ calls_of next n - often origin n)
-      → (n : ℕ) → calls_of after n + keeps_busy n e ≡ sum_by (keeps_busy n) es + (if gone then 0 else keeps_busy n y)
+  pub parted : (mid next : BusyCountsView) (served origin : Option Account) → served ≡ served_of e → origin ≡ origin_of e → ((n : ℕ) → calls_of mid n ≡ calls_of before n - account_count served n)
+      → ((n : ℕ) → calls_of next n ≡ calls_of mid n + (if gone then 0 else busy_count n y)) → ((n : ℕ) → calls_of after n ≡ calls_of next n - account_count origin n)
+      → (n : ℕ) → calls_of after n + busy_count n e ≡ sum_by (busy_count n) es + (if gone then 0 else busy_count n y)
   parted mid next served origin its_served its_origin out into last n =
       let f = few n es k e y is in
       let h = counted n in
-      let a = out n ∙ ap (λ (o : Option Account). calls_of before n - often o n) its_served in
+      let a = out n ∙ ap (λ (o : Option Account). calls_of before n - account_count o n) its_served in
       let b = into n in
-      let c = last n ∙ ap (λ (o : Option Account). calls_of next n - often o n) its_origin in
+      let c = last n ∙ ap (λ (o : Option Account). calls_of next n - account_count o n) its_origin in
       omega (arith, f, h, a, b, c)
 
   -- both before it
-  pub recounted : (mid : Counts) → ((n : ℕ) → calls_of mid n ≡ calls_of before n - keeps_busy n e) → ((n : ℕ) → calls_of after n ≡ calls_of mid n + (if gone then 0 else keeps_busy n y))
-      → (n : ℕ) → calls_of after n + keeps_busy n e ≡ sum_by (keeps_busy n) es + (if gone then 0 else keeps_busy n y)
+  pub recounted : (mid : BusyCountsView) → ((n : ℕ) → calls_of mid n ≡ calls_of before n - busy_count n e) → ((n : ℕ) → calls_of after n ≡ calls_of mid n + (if gone then 0 else busy_count n y))
+      → (n : ℕ) → calls_of after n + busy_count n e ≡ sum_by (busy_count n) es + (if gone then 0 else busy_count n y)
   recounted mid out into n =
       let f = few n es k e y is in
       let h = counted n in
@@ -168,45 +168,45 @@ module _ (es : List Entry) (k : ℕ) (e y : Entry) (is : slice_get es k ≡ Some
 
 -- ---- one more call
 
-pub one_more : (n : ℕ) (es : List Entry) (e : Entry) (before after : ℕ) → before ≡ sum_by (keeps_busy n) es → after ≡ before + keeps_busy n e → after ≡ sum_by (keeps_busy n) (es ++ e ∷ [])
-one_more n es e before after counted more = more ∙ ap (λ (m : ℕ). m + keeps_busy n e) counted ∙ sym (sum_by_push (keeps_busy n) es e)
+pub one_more : (n : ℕ) (es : List Entry) (e : Entry) (before after : ℕ) → before ≡ sum_by (busy_count n) es → after ≡ before + busy_count n e → after ≡ sum_by (busy_count n) (es ++ e ∷ [])
+one_more n es e before after counted more = more ∙ ap (λ (m : ℕ). m + busy_count n e) counted ∙ sym (sum_by_push (busy_count n) es e)
 
 -- ---- how many calls an account has
 
-pub live_counted : (es : List Entry) (counts : Counts) (n : ℕ) → calls_of counts n ≡ sum_by (keeps_busy n) es → live_of counts n ≡ live n es
+pub live_counted : (es : List Entry) (counts : BusyCountsView) (n : ℕ) → calls_of counts n ≡ sum_by (busy_count n) es → live_of counts n ≡ live n es
 live_counted es counts n counted = ap (λ (m : ℕ). min m (2 ^ 32 - 1)) (counted ∙ sym (all_counted n es))
 
 -- ---- the state according to these counts
 
 -- functions that are equal everywhere are equal
-lives : (counts : Counts) (busy : List Account) → ((n : ℕ) → calls_of counts n ≡ count_by (is_account n) busy) → live_of counts ≡ calls_among busy
+lives : (counts : BusyCountsView) (busy : List Account) → ((n : ℕ) → calls_of counts n ≡ count_by (is_account n) busy) → live_of counts ≡ calls_among busy
 lives counts busy same = λ i n. min (same n i) (2 ^ 32 - 1)
 
-module _ (site : Site) (at : ℕ) (view : InForce) (counts : Counts) where
-  abbrev pub by_counts : Standing
-  by_counts = record { at = at; sheets = sheet_in view; ends = end_in view; live = live_of counts }
+module _ (config : CallConfigView) (at : ℕ) (view : SheetsInForce) (counts : BusyCountsView) where
+  abbrev pub by_counts : SnapshotView
+  by_counts = record { at = at; sheets = sheet_in view; registration_ends = registration_end_in view; live = live_of counts }
 
-  stands : (busy : List Account) → ((n : ℕ) → calls_of counts n ≡ count_by (is_account n) busy) → by_counts ≡ standing at view busy
-  stands busy same = ap (λ (f : ℕ → ℕ). let s : Standing = record { at = at; sheets = sheet_in view; ends = end_in view; live = f } in s) (lives counts busy same)
+  snapshot_same : (busy : List Account) → ((n : ℕ) → calls_of counts n ≡ count_by (is_account n) busy) → by_counts ≡ snapshot_at at view busy
+  snapshot_same busy same = ap (λ (f : ℕ → ℕ). let s : SnapshotView = record { at = at; sheets = sheet_in view; registration_ends = registration_end_in view; live = f } in s) (lives counts busy same)
 
   -- for the call at this index, where the account of its attempt was removed
-  pub stepped : (es : List Entry) (high k : ℕ) (e : Entry) (before : Counts) (served : Option Account) → Ascend number_of 0 es high → slice_get es k ≡ Some e → ((n : ℕ) → calls_of before n ≡ sum_by (keeps_busy n) es)
-      → served ≡ served_of e → ((n : ℕ) → calls_of counts n ≡ calls_of before n - often served n) → (heard : calls.Signal) (desk : Desk)
-      → step site by_counts heard e.call desk ≡ step_of site at view (busy_beside (number_of e) es) heard desk e
-  unfolding step_of
-  stepped es high k e before served a is counted its out heard desk =
-      ap (λ (now : Standing). step site now heard e.call desk) (stands (busy_beside (number_of e) es) (λ n.
+  pub stepped : (es : List Entry) (high k : ℕ) (e : Entry) (before : BusyCountsView) (served : Option Account) → Ascend number_of 0 es high → slice_get es k ≡ Some e → ((n : ℕ) → calls_of before n ≡ sum_by (busy_count n) es)
+      → served ≡ served_of e → ((n : ℕ) → calls_of counts n ≡ calls_of before n - account_count served n) → (received : calls.Signal) (output : StepOutput)
+      → step config by_counts received e.call output ≡ call_step config at view (busy_beside (number_of e) es) received output e
+  unfolding call_step
+  stepped es high k e before served a is counted its out received output =
+      ap (λ (now : SnapshotView). step config now received e.call output) (snapshot_same (busy_beside (number_of e) es) (λ n.
       let own = own_counted n (number_of e) 0 high es k e a is refl in
       let h = counted n in
-      let b = out n ∙ ap (λ (o : Option Account). calls_of before n - often o n) its in
+      let b = out n ∙ ap (λ (o : Option Account). calls_of before n - account_count o n) its in
       omega (arith, own, h, b)))
 
   -- for a call that is opened, where that of its caller was added
-  pub begun : (es : List Entry) (high : ℕ) (arrival : Arrival) (before : Counts) → Ascend number_of 0 es high → high < arrival.number.0 → ((n : ℕ) → calls_of before n ≡ sum_by (keeps_busy n) es)
-      → ((n : ℕ) → calls_of counts n ≡ calls_of before n + often arrival.served.origin n) → (desk : Desk) → opened site by_counts arrival desk ≡ open_of site at view (busy_with arrival es) arrival desk
-  unfolding open_of
-  begun es high arrival before a above counted into desk =
-      ap (λ (now : Standing). opened site now arrival desk) (stands (busy_with arrival es) (λ n.
+  pub begun : (es : List Entry) (high : ℕ) (arrival : Arrival) (before : BusyCountsView) → Ascend number_of 0 es high → high < arrival.number.0 → ((n : ℕ) → calls_of before n ≡ sum_by (busy_count n) es)
+      → ((n : ℕ) → calls_of counts n ≡ calls_of before n + account_count arrival.served.origin n) → (output : StepOutput) → call_after_opening config by_counts arrival output ≡ opening_step config at view (busy_with arrival es) arrival output
+  unfolding opening_step
+  begun es high arrival before a above counted into output =
+      ap (λ (now : SnapshotView). call_after_opening config now arrival output) (snapshot_same (busy_with arrival es) (λ n.
       let both = sum_by-append (one n) (option_to_list arrival.served.origin) (busy_beside arrival.number.0 es) in
       let mine = listed n arrival.served.origin in
       let others = others_counted n arrival.number.0 es (all_below arrival.number.0 0 high es above a) in

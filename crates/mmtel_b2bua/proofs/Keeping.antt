@@ -8,16 +8,16 @@ use Rattle.std.specs.List.{position_or_len}
 use Rattle.std.specs.Option.{option_map}
 use Rattle.std.specs.List.Sorted.{IsNonDecreasingBy}
 use Rattle.mmtel_call.specs.Settled.{is_settled}
-use Rattle.mmtel_call_decisions.specs.Busy.{Counts, calls_of}
-use Rattle.mmtel_desk.proofs.Ascending.{ascends}
-use Rattle.mmtel_desk.proofs.Marking.{pushed_ascends, pushed_marked, removed_ascends, removed_marked, same_marked, set_ascends, set_marked}
-use Rattle.mmtel_desk.specs.Marks.{AreBelow, AreMarked, Ascend, Holds, HoldsAll, Written}
-use Rattle.mmtel_desk.specs.declared.index.Index.{Index}
-use Rattle.mmtel_desk.specs.declared.marks.Key.{Key}
-use Rattle.mmtel_scan.specs.Numbers.{next_number}
-use Rattle.mmtel_scan.specs.declared.memory.NoMemory.{NoMemory}
+use Rattle.mmtel_call_services.specs.Busy.{BusyCountsView, calls_of}
+use Rattle.mmtel_output.proofs.Ascending.{ascends}
+use Rattle.mmtel_output.proofs.Marking.{pushed_ascends, pushed_marked, removed_ascends, removed_marked, same_marked, set_ascends, set_marked}
+use Rattle.mmtel_output.specs.Marks.{AreBelow, AreMarked, Ascend, Holds, HoldsAll, MarkUpdate}
+use Rattle.mmtel_output.specs.declared.index.Index.{Index}
+use Rattle.mmtel_output.specs.declared.marks.Key.{Key}
+use Rattle.mmtel_base.specs.Numbers.{next_number}
+use Rattle.mmtel_base.specs.declared.memory.NoMemory.{NoMemory}
 use Rattle.mmtel_b2bua.specs.Entries.{is_live, is_numbered}
-use Rattle.mmtel_b2bua.specs.Kept.{AreKept, is_gone, keeps_busy, lives_on, number_of, one_if, unboxed}
+use Rattle.mmtel_b2bua.specs.Invariant.{TableInvariant, box_values, busy_count, is_gone, lives_on, number_of, one_if}
 use Rattle.mmtel_b2bua.specs.Marks.{marks_of}
 use Rattle.mmtel_b2bua.specs.Tables.{Table, put_at}
 use Rattle.mmtel_b2bua.specs.declared.entries.Entry.{Entry}
@@ -25,27 +25,27 @@ use Rattle.mmtel_b2bua.proofs.Counting.{left_counted, one_more}
 
 -- ---- boxes
 
-pub length_boxes : {X A : Type 0} (bs : List (Box X A)) → length (unboxed bs) ≡ length bs
+pub length_boxes : {X A : Type 0} (bs : List (Box X A)) → length (box_values bs) ≡ length bs
 length_boxes bs = length-map bs (λ b. b.value)
 
 -- the boxes from an index on
-pub rest_boxes : {X A : Type 0} (bs : List (Box X A)) (k : ℕ) → unboxed (take (length bs - k) (drop k bs)) ≡ drop k (unboxed bs)
-rest_boxes bs k = ap unboxed (take_rest bs k) ∙ sym (drop-map (λ b. b.value) k bs)
+pub rest_boxes : {X A : Type 0} (bs : List (Box X A)) (k : ℕ) → box_values (take (length bs - k) (drop k bs)) ≡ drop k (box_values bs)
+rest_boxes bs k = ap box_values (take_rest bs k) ∙ sym (drop-map (λ b. b.value) k bs)
 
-pub removed_boxes : {X A : Type 0} (bs : List (Box X A)) (k : ℕ) → unboxed (remove bs k) ≡ remove (unboxed bs) k
+pub removed_boxes : {X A : Type 0} (bs : List (Box X A)) (k : ℕ) → box_values (remove bs k) ≡ remove (box_values bs) k
 removed_boxes [] zero = refl
 removed_boxes [] (suc k) = refl
 removed_boxes (b ∷ bs) zero = refl
 removed_boxes (b ∷ bs) (suc k) = ap (λ xs. b.value ∷ xs) (removed_boxes bs k)
 
-placed_boxes : {X A : Type 0} (p : X → Bool) (bs : List (Box X A)) → position_or_len (λ (b : Box X A). p b.value) bs ≡ position_or_len p (unboxed bs)
+placed_boxes : {X A : Type 0} (p : X → Bool) (bs : List (Box X A)) → position_or_len (λ (b : Box X A). p b.value) bs ≡ position_or_len p (box_values bs)
 placed_boxes p [] = refl
 placed_boxes p (b ∷ bs) = ap (λ n. cond (not (p b.value)) (1 + n) 0) (placed_boxes p bs)
 
-pub position_boxes : {X A : Type 0} (p : X → Bool) (bs : List (Box X A)) → position (λ (b : Box X A). p b.value) bs ≡ position p (unboxed bs)
+pub position_boxes : {X A : Type 0} (p : X → Bool) (bs : List (Box X A)) → position (λ (b : Box X A). p b.value) bs ≡ position p (box_values bs)
 position_boxes p bs =
     ap (λ n. cond (nat_lt n (length bs)) (Some n) None) (placed_boxes p bs)
-    ∙ ap (λ m. cond (nat_lt (position_or_len p (unboxed bs)) m) (Some (position_or_len p (unboxed bs))) None) (sym (length-map bs (λ b. b.value)))
+    ∙ ap (λ m. cond (nat_lt (position_or_len p (box_values bs)) m) (Some (position_or_len p (box_values bs))) None) (sym (length-map bs (λ b. b.value)))
 
 -- ---- numbers that ascend: what holds for all owners of marks is in `mmtel_desk`
 
@@ -64,19 +64,19 @@ module _ {A : Type 0} where
   abbrev pub number_in : Box Entry A → ℕ
   number_in b = number_of b.value
 
-  ascend_in : (low high : ℕ) (bs : List (Box Entry A)) → Ascend number_of low (unboxed bs) high → Ascend number_in low bs high
+  ascend_in : (low high : ℕ) (bs : List (Box Entry A)) → Ascend number_of low (box_values bs) high → Ascend number_in low bs high
   ascend_in low high [] a = a
   ascend_in low high (b ∷ bs) a = (a.0, ascend_in (number_of b.value) high bs a.1)
 
-  pub boxes_ascend : (low high : ℕ) (bs : List (Box Entry A)) → Ascend number_of low (unboxed bs) high → IsNonDecreasingBy number_in bs
+  pub boxes_ascend : (low high : ℕ) (bs : List (Box Entry A)) → Ascend number_of low (box_values bs) high → IsNonDecreasingBy number_in bs
   boxes_ascend low high bs a = ascends number_in low high bs (ascend_in low high bs a)
 
   -- the box of this number is that of the call of this number
-  pub numbered_boxes : (n : ℕ) (bs : List (Box Entry A)) → position (λ (b : Box Entry A). number_in b == n) bs ≡ position (is_numbered n) (unboxed bs)
+  pub numbered_boxes : (n : ℕ) (bs : List (Box Entry A)) → position (λ (b : Box Entry A). number_in b == n) bs ≡ position (is_numbered n) (box_values bs)
   unfolding is_numbered
   numbered_boxes n bs = position_boxes (is_numbered n) bs
 
-  pub below_boxes : (n k : ℕ) (bs : List (Box Entry A)) → AreBelow number_in n (take k bs) → AreBelow number_of n (take k (unboxed bs))
+  pub below_boxes : (n k : ℕ) (bs : List (Box Entry A)) → AreBelow number_in n (take k bs) → AreBelow number_of n (take k (box_values bs))
   below_boxes n zero [] all = tt
   below_boxes n (suc k) [] all = tt
   below_boxes n zero (b ∷ bs) all = tt
@@ -107,10 +107,10 @@ counted_removed (x ∷ es) (suc k) e y is =
 abbrev pub left : (gone : Bool) → List Entry → ℕ → Entry → List Entry
 left gone es k y = if gone then remove (set es k y) k else set es k y
 
-module _ (es : List Entry) (opened alive : ℕ) (i : Index) (busy : Counts) (k : ℕ) (e y : Entry) (are : AreKept es opened alive i busy) (is : slice_get es k ≡ Some e) where
+module _ (es : List Entry) (opened alive : ℕ) (i : Index) (busy : BusyCountsView) (k : ℕ) (e y : Entry) (are : TableInvariant es opened alive i busy) (is : slice_get es k ≡ Some e) where
   counted_left : (gone : Bool) → count_by is_live (left gone es k y) + one_if (is_live e) ≡ alive + one_if (lives_on gone y)
-  counted_left true = counted_removed es k e y is ∙ (sym are.alive ∙ (let z : alive ≡ alive + 0 = omega arith in z))
-  counted_left false = counted_set es k e y is ∙ ap (λ (n : ℕ). n + one_if (is_live y)) (sym are.alive)
+  counted_left true = counted_removed es k e y is ∙ (sym are.live_count ∙ (let z : alive ≡ alive + 0 = omega arith in z))
+  counted_left false = counted_set es k e y is ∙ ap (λ (n : ℕ). n + one_if (is_live y)) (sym are.live_count)
 
   ascends_left : (gone : Bool) → (gone ≡ false → number_of y ≡ number_of e) → Ascend number_of 0 (left gone es k y) opened
   ascends_left true same = subst (λ (l : List Entry). Ascend number_of 0 l opened) (set_away es k y) (removed_ascends number_of 0 opened es k are.ascend)
@@ -120,7 +120,7 @@ module _ (es : List Entry) (opened alive : ℕ) (i : Index) (busy : Counts) (k :
   pub was_counted : one_if (is_live e) ≤ alive
   was_counted =
       let h : count_by is_live (remove (set es k y) k) + one_if (is_live e) ≡ count_by is_live es = counted_removed es k e y is in
-      omega (arith, h, are.alive)
+      omega (arith, h, are.live_count)
 
   length_left : (gone : Bool) → length (left gone es k y) ≤ length es
   length_left true = let a = length_removed (set es k y) k in let b = length-set es k y in omega (arith, a, b)
@@ -141,12 +141,12 @@ module _ (es : List Entry) (opened alive : ℕ) (i : Index) (busy : Counts) (k :
       omega (arith, h, g, f, l)
 
   -- its marks and its accounts were removed, and added again if it stays
-  pub left_kept : (gone : Bool) (after : ℕ) (mid j : Index) (now : Counts) → Written false (number_of e) (marks_of e) i mid → Written (not gone) (number_of e) (marks_of y) mid j
+  pub left_kept : (gone : Bool) (after : ℕ) (mid j : Index) (now : BusyCountsView) → MarkUpdate false (number_of e) (marks_of e) i mid → MarkUpdate (not gone) (number_of e) (marks_of y) mid j
       → (gone ≡ false → number_of y ≡ number_of e) → after + one_if (is_live e) ≡ alive + one_if (lives_on gone y)
-      → ((n : ℕ) → calls_of now n + keeps_busy n e ≡ sum_by (keeps_busy n) es + (if gone then 0 else keeps_busy n y)) → AreKept (left gone es k y) opened after j now
+      → ((n : ℕ) → calls_of now n + busy_count n e ≡ sum_by (busy_count n) es + (if gone then 0 else busy_count n y)) → TableInvariant (left gone es k y) opened after j now
   left_kept gone after mid j now out into same counted again = record {
     ascend = ascends_left gone same;
-    alive = let h = counted_left gone in omega (arith, h, counted);
+    live_count = let h = counted_left gone in omega (arith, h, counted);
     marked = marked_left gone same (λ stays. into.noted (ap not stays));
     counts = λ n. left_counted n es k e y is gone (calls_of now n) (again n);
   }
@@ -163,41 +163,41 @@ module _ (es : List Entry) (opened alive : ℕ) (i : Index) (busy : Counts) (k :
 -- ---- one more call
 
 -- its marks are inserted first, and its accounts too, unless they are removed again
-pub noted_kept : (es : List Entry) (opened alive : ℕ) (i j : Index) (busy now : Counts) (e : Entry) → AreKept es opened alive i busy → Written true (number_of e) (marks_of e) i j
-    → ((n : ℕ) → calls_of now n ≡ calls_of busy n) → AreKept es opened alive j now
+pub noted_kept : (es : List Entry) (opened alive : ℕ) (i j : Index) (busy now : BusyCountsView) (e : Entry) → TableInvariant es opened alive i busy → MarkUpdate true (number_of e) (marks_of e) i j
+    → ((n : ℕ) → calls_of now n ≡ calls_of busy n) → TableInvariant es opened alive j now
 noted_kept es opened alive i j busy now e are into same = record {
   ascend = are.ascend;
-  alive = are.alive;
+  live_count = are.live_count;
   marked = same_marked number_of marks_of i j es (into.kept refl) are.marked;
   counts = λ n. same n ∙ are.counts n;
 }
 
 -- it was not opened after all
-pub same_kept : (es : List Entry) (opened alive : ℕ) (i : Index) (busy now : Counts) → AreKept es opened alive i busy → ((n : ℕ) → calls_of now n ≡ calls_of busy n) → AreKept es opened alive i now
-same_kept es opened alive i busy now are same = record { ascend = are.ascend; alive = are.alive; marked = are.marked; counts = λ n. same n ∙ are.counts n }
+pub same_kept : (es : List Entry) (opened alive : ℕ) (i : Index) (busy now : BusyCountsView) → TableInvariant es opened alive i busy → ((n : ℕ) → calls_of now n ≡ calls_of busy n) → TableInvariant es opened alive i now
+same_kept es opened alive i busy now are same = record { ascend = are.ascend; live_count = are.live_count; marked = are.marked; counts = λ n. same n ∙ are.counts n }
 
-module _ (es : List Entry) (opened alive : ℕ) (i : Index) (busy : Counts) (e : Entry) (are : AreKept es opened alive i busy) (number : number_of e ≡ next_number opened) (fits : opened < 2 ^ 64) where
+module _ (es : List Entry) (opened alive : ℕ) (i : Index) (busy : BusyCountsView) (e : Entry) (are : TableInvariant es opened alive i busy) (number : number_of e ≡ next_number opened) (fits : opened < 2 ^ 64) where
   above : opened ≤ next_number opened
   above = let h : opened ≤ min (opened + 1) (2 ^ 64 - 1) = omega (arith, fits) in h
 
-  pub added_none : AreKept es (next_number opened) alive i busy
-  added_none = record { ascend = raised 0 opened (next_number opened) es above are.ascend; alive = are.alive; marked = are.marked; counts = are.counts }
+  pub added_none : TableInvariant es (next_number opened) alive i busy
+  added_none = record { ascend = raised 0 opened (next_number opened) es above are.ascend; live_count = are.live_count; marked = are.marked; counts = are.counts }
 
   counted_more : count_by is_live (es ++ e ∷ []) ≡ alive + one_if (is_live e)
   counted_more =
-      let h = are.alive in
+      let h = are.live_count in
       let s : count_by is_live (es ++ e ∷ []) ≡ count_by is_live es + count_by is_live (e ∷ []) = sum_by-append (λ (x : Entry). one_if (is_live x)) es (e ∷ []) in
       let o : count_by is_live (e ∷ []) ≡ one_if (is_live e) + count_by is_live [] = counted_cons e [] in
       let z : count_by is_live [] ≡ 0 = refl in
       omega (arith, h, s, o, z)
 
-  pub added_one : (after : ℕ) (j : Index) (now : Counts) → Written true (number_of e) (marks_of e) i j → opened < 2 ^ 64 - 1 → after ≡ alive + one_if (is_live e)
-      → ((n : ℕ) → calls_of now n ≡ calls_of busy n + keeps_busy n e) → AreKept (es ++ e ∷ []) (next_number opened) after j now
+  pub added_one : (after : ℕ) (j : Index) (now : BusyCountsView) → MarkUpdate true (number_of e) (marks_of e) i j → opened < 2 ^ 64 - 1 → after ≡ alive + one_if (is_live e)
+      → ((n : ℕ) → calls_of now n ≡ calls_of busy n + busy_count n e) → TableInvariant (es ++ e ∷ []) (next_number opened) after j now
   added_one after j now into below counted more = record {
     ascend =
         let h : opened < min (opened + 1) (2 ^ 64 - 1) = omega (arith, below) in
         pushed_ascends number_of 0 opened (next_number opened) es e (omega (arith, h, number)) (omega (arith, number)) are.ascend;
-    alive = counted ∙ sym counted_more;
+    live_count = counted ∙ sym counted_more;
     marked = pushed_marked number_of marks_of i j es e (into.kept refl) (into.noted refl) are.marked;
     counts = λ n. one_more n es e (calls_of busy n) (calls_of now n) (are.counts n) (more n);
   }
@@ -205,21 +205,21 @@ module _ (es : List Entry) (opened alive : ℕ) (i : Index) (busy : Counts) (e :
 -- ---- the box at an index
 
 module _ {A : Type 0} (bs : List (Box Entry A)) (k : ℕ) where
-  pub stands_at : (b : Box Entry A) (e : Entry) → k < length (unboxed bs) → b ≡ get_or bs k b → e ≡ b.value → slice_get (unboxed bs) k ≡ Some e
+  pub stands_at : (b : Box Entry A) (e : Entry) → k < length (box_values bs) → b ≡ get_or bs k b → e ≡ b.value → slice_get (box_values bs) k ≡ Some e
   stands_at b e within at is =
       slice_get-map (λ (x : Box Entry A). x.value) bs k
       ∙ (ap (option_map (λ (x : Box Entry A). x.value)) (slice_get_read bs (length bs) k b refl (let h = length-map bs (λ (x : Box Entry A). x.value) in omega (arith, within, h)) at) ∙ ap Some (sym is))
 
-  pub left_boxes : (gone : Bool) (b : Box Entry A) → unboxed (if gone then remove (set bs k b) k else set bs k b) ≡ left gone (unboxed bs) k b.value
+  pub left_boxes : (gone : Bool) (b : Box Entry A) → box_values (if gone then remove (set bs k b) k else set bs k b) ≡ left gone (box_values bs) k b.value
   left_boxes true b = removed_boxes (set bs k b) k ∙ ap (λ (xs : List Entry). remove xs k) (map-set (λ (x : Box Entry A). x.value) bs k b)
   left_boxes false b = map-set (λ (x : Box Entry A). x.value) bs k b
 
-  pub set_boxes : (b : Box Entry A) → unboxed (set bs k b) ≡ set (unboxed bs) k b.value
+  pub set_boxes : (b : Box Entry A) → box_values (set bs k b) ≡ set (box_values bs) k b.value
   set_boxes b = map-set (λ (x : Box Entry A). x.value) bs k b
 
 -- ---- the effect of a step
 
-pub not_gone : (heard : Result Bool NoMemory) (P : Type 0) → OnOk heard P → is_gone heard ≡ false → P
+pub not_gone : (received : Result Bool NoMemory) (P : Type 0) → OnOk received P → is_gone received ≡ false → P
 not_gone (Ok settled) P p e = p
 not_gone (Err fault) P p e = absurd (let f : true ≡ false = e in cc)
 
@@ -227,17 +227,17 @@ pub recount : (r alive : ℕ) (b a p q : Bool) → b ≡ p → a ≡ q → r + o
 recount r alive b a p q e f h = sym (ap (λ (x : Bool). r + one_if x) e) ∙ (h ∙ ap (λ (x : Bool). alive + one_if x) f)
 
 -- what held of the step still holds after the accounts were counted again
-pub still_on : (P : Type 0) (heard counted : Result Bool NoMemory) → IfOk counted (λ settled. heard ≡ Ok settled) → OnOk heard P → OnOk counted P
-still_on P heard (Ok settled) e p = subst (λ (r : Result Bool NoMemory). OnOk r P) e p
-still_on P heard (Err fault) e p = tt
+pub still_on : (P : Type 0) (received counted : Result Bool NoMemory) → IfOk counted (λ settled. received ≡ Ok settled) → OnOk received P → OnOk counted P
+still_on P received (Ok settled) e p = subst (λ (r : Result Bool NoMemory). OnOk r P) e p
+still_on P received (Err fault) e p = tt
 
-pub still_if : (P : Bool → Type 0) (heard counted : Result Bool NoMemory) → IfOk counted (λ settled. heard ≡ Ok settled) → IfOk heard P → IfOk counted P
-still_if P heard (Ok settled) e p = subst (λ (r : Result Bool NoMemory). IfOk r P) e p
-still_if P heard (Err fault) e p = tt
+pub still_if : (P : Bool → Type 0) (received counted : Result Bool NoMemory) → IfOk counted (λ settled. received ≡ Ok settled) → IfOk received P → IfOk counted P
+still_if P received (Ok settled) e p = subst (λ (r : Result Bool NoMemory). IfOk r P) e p
+still_if P received (Err fault) e p = tt
 
 -- a call leaves where it is settled
-pub left_put : (heard : Result Bool NoMemory) (gone : Bool) → gone ≡ is_gone heard → (es : List Entry) (k : ℕ) (y z : Entry) → OnOk heard (y ≡ z) → IfOk heard (λ settled. settled ≡ is_settled z.call)
-    → OnOk heard (left gone es k y ≡ put_at k z es)
+pub left_put : (received : Result Bool NoMemory) (gone : Bool) → gone ≡ is_gone received → (es : List Entry) (k : ℕ) (y z : Entry) → OnOk received (y ≡ z) → IfOk received (λ settled. settled ≡ is_settled z.call)
+    → OnOk received (left gone es k y ≡ put_at k z es)
 left_put (Ok settled) gone g es k y z same is = ap (λ (b : Bool). left b es k y) (g ∙ is) ∙ ap (λ (x : Entry). left (is_settled z.call) es k x) same
 left_put (Err fault) gone g es k y z same is = tt
 

@@ -1,7 +1,7 @@
-mod Away
+mod DetachedLegs
 mod Counting
 mod Finding
 mod Keeping
-mod Marking
-mod Opened
-mod Meanings
+mod MarkWrites
+mod OpenedCalls
+mod Dispatches

@@ -1,10 +1,10 @@
 -- A call in the table of calls: whether it stays there, to which call a signal belongs, and which accounts a call keeps busy.
 use Rattle.std.specs.Prelude.{ℕ, ◌==◌, not, Bool, false, if◌then◌else◌, Option, Some, None, List, [], ◌∷◌, ◌++◌, flat_map, option_to_list}
 use Rattle.std.specs.Option.{option_map}
-use Rattle.mmtel_call.specs.declared.calls.Phase.TheVariants.{Lent, Offered, Over, Stood}
+use Rattle.mmtel_call.specs.declared.calls.Phase.TheVariants.{Detached, Established, Offered, Over}
 use Rattle.mmtel_call.specs.declared.calls.Phase.{Phase}
 use Rattle.mmtel_call.specs.Closing.{account_in}
-use Rattle.mmtel_call.specs.Settled.{has_heard, has_sent, is_over_in, is_settled}
+use Rattle.mmtel_call.specs.Settled.{has_received, has_sent, is_over_in, is_settled}
 use Rattle.mmtel_transaction.specs.declared.words.TKey.{TKey}
 use Rattle.mmtel_types.specs.declared.numbers.Account.{Account}
 use Rattle.mmtel_b2bua.specs.declared.entries.Entry.{Entry}
@@ -16,8 +16,8 @@ unfoldable pub is_live : Entry → Bool
 is_live e = not (is_over_in e.call.phase)
 
 -- what stays of it: a call that is over stays as long as something may still be received for an INVITE of it
-abbrev pub kept : Entry → List Entry
-kept e = if is_settled e.call then [] else e ∷ []
+abbrev pub kept_entry : Entry → List Entry
+kept_entry e = if is_settled e.call then [] else e ∷ []
 
 -- ---- to which call a signal belongs
 
@@ -26,26 +26,26 @@ unfoldable pub is_numbered : ℕ → Entry → Bool
 is_numbered number e = e.call.opening.number.0 == number
 
 -- whether a request of it to which a response may still be received has this branch: an INVITE, or a PRACK or UPDATE that is in flight
-unfoldable pub sent_it : (branch : Option (List ℕ)) → Entry → Bool
-sent_it None e = false
-sent_it (Some branch) e = has_sent branch e.call
+unfoldable pub has_sent_branch : (branch : Option (List ℕ)) → Entry → Bool
+has_sent_branch None e = false
+has_sent_branch (Some branch) e = has_sent branch e.call
 
 -- whether an INVITE of it received its response in this client transaction
-unfoldable pub heard_by : TKey → Entry → Bool
-heard_by key e = has_heard key e.call
+unfoldable pub has_received_key : TKey → Entry → Bool
+has_received_key key e = has_received key e.call
 
 -- ---- the accounts that it keeps busy, as long as it is not over: the account that is served as its caller, and that of its current attempt
 
 abbrev pub origin_in : Phase → (origin : Option Account) → Option Account
 origin_in (Offered x) origin = origin
-origin_in (Stood x stage) origin = origin
-origin_in (Lent loan) origin = origin
+origin_in (Established x stage) origin = origin
+origin_in (Detached detached) origin = origin
 origin_in (Over cause) origin = None
 
 abbrev pub served_in : Phase → Option Account
 served_in (Offered x) = option_map account_in x.attempt.service
-served_in (Stood x stage) = option_map account_in x.service
-served_in (Lent loan) = option_map account_in loan.service
+served_in (Established x stage) = option_map account_in x.service
+served_in (Detached detached) = option_map account_in detached.service
 served_in (Over cause) = None
 
 unfoldable pub origin_of : Entry → Option Account

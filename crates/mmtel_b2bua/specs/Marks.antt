@@ -1,16 +1,16 @@
 -- The keys by which a call is found without examining each one: numbers computed from the branches of its requests to which a response may still be received and from the server's
 -- tags of its dialogs, and the transactions of its INVITEs.
 use Rattle.std.specs.Prelude.{Bool, if◌then◌else◌, Option, Some, None, List, [], ◌∷◌, ◌++◌, flat_map}
-use Rattle.mmtel_call.specs.declared.calls.Flight.{Flight}
-use Rattle.mmtel_call.specs.declared.calls.Phase.TheVariants.{Lent, Offered, Over, Stood}
+use Rattle.mmtel_call.specs.declared.calls.RelayedTransaction.{RelayedTransaction}
+use Rattle.mmtel_call.specs.declared.calls.Phase.TheVariants.{Detached, Established, Offered, Over}
 use Rattle.mmtel_call.specs.declared.calls.Phase.{Phase}
-use Rattle.mmtel_call.specs.declared.calls.Taken.{Taken}
-use Rattle.mmtel_call.specs.Table.{current}
-use Rattle.mmtel_transaction.specs.Told.{told_of}
-use Rattle.mmtel_desk.specs.declared.invitations.Invitation.{Invitation}
-use Rattle.mmtel_desk.specs.declared.invitations.Loose.{Loose}
-use Rattle.mmtel_desk.specs.declared.marks.Mark.{Mark}
-use Rattle.mmtel_desk.specs.declared.marks.Mark.TheVariants.{Asked, Heard, Named, Sent}
+use Rattle.mmtel_call.specs.declared.calls.AnsweredInvite.{AnsweredInvite}
+use Rattle.mmtel_call.specs.Table.{current_invite}
+use Rattle.mmtel_transaction.specs.Hashes.{hash_of}
+use Rattle.mmtel_output.specs.declared.sent_invites.SentInvite.{SentInvite}
+use Rattle.mmtel_output.specs.declared.sent_invites.AbandonedInvite.{AbandonedInvite}
+use Rattle.mmtel_output.specs.declared.marks.Mark.{Mark}
+use Rattle.mmtel_output.specs.declared.marks.Mark.TheVariants.{Branch, ClientTransaction, LocalTag, ServerTransaction}
 use Rattle.mmtel_leg.specs.declared.dialogues.Dialogue.{Dialogue}
 use Rattle.mmtel_leg.specs.Releases.{released_leg}
 use Rattle.mmtel_transaction.specs.declared.words.TKey.{TKey}
@@ -18,48 +18,48 @@ use Rattle.mmtel_b2bua.specs.Entries.{is_live}
 use Rattle.mmtel_b2bua.specs.declared.entries.Entry.{Entry}
 use Rattle.mmtel_b2bua.specs.declared.entries.InviteKey.{InviteKey}
 
-abbrev pub heard_marks : Option TKey → List Mark
-heard_marks None = []
-heard_marks (Some key) = Heard key.0 ∷ []
+abbrev pub client_key_marks : Option TKey → List Mark
+client_key_marks None = []
+client_key_marks (Some key) = ClientTransaction key.0 ∷ []
 
 -- of an INVITE that was abandoned, or had a 2xx
-abbrev pub invitation_marks : Invitation → List Mark
-invitation_marks i = Sent (told_of i.branch) ∷ heard_marks i.key
+abbrev pub sent_invite_marks : SentInvite → List Mark
+sent_invite_marks i = Branch (hash_of i.branch) ∷ client_key_marks i.key
 
-abbrev pub loose_marks : Loose → List Mark
-loose_marks l = invitation_marks l.invitation
+abbrev pub abandoned_marks : AbandonedInvite → List Mark
+abandoned_marks l = sent_invite_marks l.invite
 
-abbrev pub taken_marks : Taken → List Mark
-taken_marks t = invitation_marks t.invitation
+abbrev pub answered_marks : AnsweredInvite → List Mark
+answered_marks t = sent_invite_marks t.invite
 
 -- of a request in flight
-abbrev pub flight_marks : Flight → List Mark
-flight_marks f = Sent (told_of f.asked.invitation.branch) ∷ []
+abbrev pub relayed_marks : RelayedTransaction → List Mark
+relayed_marks f = Branch (hash_of f.exchange.invite.branch) ∷ []
 
 -- of the INVITE for which the call waits
-abbrev pub waiting_marks : Option Invitation → List Mark
+abbrev pub waiting_marks : Option SentInvite → List Mark
 waiting_marks None = []
-waiting_marks (Some i) = Sent (told_of i.branch) ∷ []
+waiting_marks (Some i) = Branch (hash_of i.branch) ∷ []
 
 -- of the INVITEs that its sides sent
 abbrev pub invite_marks : InviteKey → List Mark
-invite_marks invite = Asked invite.key.0 ∷ []
+invite_marks invite = ServerTransaction invite.key.0 ∷ []
 
-abbrev pub asked_marks : (lives : Bool) → List InviteKey → List Mark
-asked_marks lives invites = if lives then flat_map invite_marks invites else []
+abbrev pub live_invite_marks : (lives : Bool) → List InviteKey → List Mark
+live_invite_marks lives invites = if lives then flat_map invite_marks invites else []
 
 -- of its dialogs
 abbrev pub dialog_mark : Dialogue → Mark
-dialog_mark d = Named (told_of d.local_tag)
+dialog_mark d = LocalTag (hash_of d.local_tag)
 
 abbrev pub dialog_marks : Phase → List Mark
 dialog_marks (Offered x) = dialog_mark x.caller.dialogue ∷ dialog_mark x.callee.leg.dialogue ∷ []
-dialog_marks (Stood x stage) = dialog_mark x.caller.dialogue ∷ dialog_mark x.callee.dialogue ∷ []
-dialog_marks (Lent loan) = dialog_mark (released_leg loan.left).dialogue ∷ []
+dialog_marks (Established x stage) = dialog_mark x.caller.dialogue ∷ dialog_mark x.callee.dialogue ∷ []
+dialog_marks (Detached detached) = dialog_mark (released_leg detached.remaining).dialogue ∷ []
 dialog_marks (Over cause) = []
 
 unfoldable pub marks_of : Entry → List Mark
 marks_of e =
-    waiting_marks (current e.call.phase)
-    ++ (flat_map loose_marks e.call.loose
-    ++ (flat_map taken_marks e.call.taken ++ (flat_map flight_marks e.call.flights ++ (asked_marks (is_live e) e.invites ++ dialog_marks e.call.phase))))
+    waiting_marks (current_invite e.call.phase)
+    ++ (flat_map abandoned_marks e.call.abandoned
+    ++ (flat_map answered_marks e.call.answered_invites ++ (flat_map relayed_marks e.call.relayed ++ (live_invite_marks (is_live e) e.invites ++ dialog_marks e.call.phase))))

@@ -1,15 +1,15 @@
 //! Which accounts the calls keep busy.
 ghost use Rattle.std.specs.Prelude.{◌≡◌, ◌+◌, ◌-◌, ℕ, IfOk, OnErr, OnOk, Ok, if◌then◌else◌};
 ghost use Rattle.std.specs.Option.{option_copied, option_map};
-ghost use Rattle.mmtel_call_decisions.specs.Busy.{calls_of};
+ghost use Rattle.mmtel_call_services.specs.Busy.{calls_of};
 ghost use Rattle.mmtel_call.specs.Closing.{account_in};
 ghost use Rattle.mmtel_b2bua.specs.Entries.{origin_of, served_of};
-ghost use Rattle.mmtel_b2bua.specs.Kept.{is_gone, keeps_busy, often};
+ghost use Rattle.mmtel_b2bua.specs.Invariant.{account_count, busy_count, is_gone};
 
 use crate::entries::Entry;
+use mmtel_base::NoMemory;
 use mmtel_call::Phase;
-use mmtel_call_decisions::{Busy, Service};
-use mmtel_scan::NoMemory;
+use mmtel_call_services::{BusyCounts, Service};
 use mmtel_types::Account;
 
 /// The served account, if there is one.
@@ -23,32 +23,32 @@ pub fn account_of(service: Option<&Service>) -> Option<Account>
 }
 
 /// Adds one call that keeps this account busy, if there is one.
-pub fn add(busy: &mut Busy, account: Option<Account>) -> Result<(), NoMemory>
+pub fn add_account(busy: &mut BusyCounts, account: Option<Account>) -> Result<(), NoMemory>
     ensures more { OnOk result ((number : ℕ) → calls_of busy.new number
-        ≡ calls_of busy.old number + often account number) }
+        ≡ calls_of busy.old number + account_count account number) }
     ensures same { OnErr result (busy.new ≡ busy.old) }
 {
     match account {
         None => Ok(()),
-        Some(account) => busy.add(account),
+        Some(account) => busy.add_call(account),
     }
 }
 
 /// Removes one call that keeps it busy, if there is one.
-pub fn take(busy: &mut Busy, account: Option<Account>)
-    ensures { (number : ℕ) → calls_of busy.new number ≡ calls_of busy.old number - often account number }
+pub fn remove_account(busy: &mut BusyCounts, account: Option<Account>)
+    ensures { (number : ℕ) → calls_of busy.new number ≡ calls_of busy.old number - account_count account number }
 {
     match account {
         None => {}
-        Some(account) => busy.take(account),
+        Some(account) => busy.remove_call(account),
     }
 }
 
 /// Whether a call leaves after its step.
-pub fn is_gone(heard: &Result<bool, NoMemory>) -> bool
-    ensures { result ≡ is_gone heard.now }
+pub fn is_gone(step_result: &Result<bool, NoMemory>) -> bool
+    ensures { result ≡ is_gone step_result.now }
 {
-    match heard {
+    match step_result {
         Ok(settled) => *settled,
         Err(_) => true,
     }
@@ -56,19 +56,19 @@ pub fn is_gone(heard: &Result<bool, NoMemory>) -> bool
 
 /// Counts the accounts again that a call keeps busy which stays after its step. If memory runs out for that, the call does not stay.
 pub fn count_again(
-    busy: &mut Busy,
+    busy: &mut BusyCounts,
     entry: &Entry,
-    heard: Result<bool, NoMemory>,
+    step_result: Result<bool, NoMemory>,
 ) -> Result<bool, NoMemory>
     ensures counted { (number : ℕ) → calls_of busy.new number
-        ≡ calls_of busy.old number + (if is_gone result then 0 else keeps_busy number entry.now) }
-    ensures heard { IfOk result (λ settled. heard ≡ Ok settled) }
+        ≡ calls_of busy.old number + (if is_gone result then 0 else busy_count number entry.now) }
+    ensures received { IfOk result (λ settled. step_result ≡ Ok settled) }
 {
-    if is_gone(&heard) {
-        return heard;
+    if is_gone(&step_result) {
+        return step_result;
     }
     match entry.add_to(busy) {
-        Ok(()) => heard,
+        Ok(()) => step_result,
         Err(error) => Err(error),
     }
 }
@@ -81,8 +81,8 @@ impl Entry {
     {
         match &self.call.phase {
             Phase::Offered(_) => self.call.opening.served.origin,
-            Phase::Stood(_, _) => self.call.opening.served.origin,
-            Phase::Lent(_) => self.call.opening.served.origin,
+            Phase::Established(_, _) => self.call.opening.served.origin,
+            Phase::Detached(_) => self.call.opening.served.origin,
             Phase::Over(_) => None,
         }
     }
@@ -94,34 +94,34 @@ impl Entry {
     {
         match &self.call.phase {
             Phase::Offered(x) => account_of(x.attempt.service.as_ref()),
-            Phase::Stood(x, _) => account_of(x.service.as_ref()),
-            Phase::Lent(loan) => account_of(loan.service.as_ref()),
+            Phase::Established(x, _) => account_of(x.service.as_ref()),
+            Phase::Detached(loan) => account_of(loan.service.as_ref()),
             Phase::Over(_) => None,
         }
     }
 
     /// Adds the call to the counts of its accounts.
-    pub fn add_to(&self, busy: &mut Busy) -> Result<(), NoMemory>
+    pub fn add_to(&self, busy: &mut BusyCounts) -> Result<(), NoMemory>
         ensures more { OnOk result ((number : ℕ) → calls_of busy.new number
-            ≡ calls_of busy.old number + keeps_busy number self.now) }
+            ≡ calls_of busy.old number + busy_count number self.now) }
         ensures same { OnErr result ((number : ℕ) → calls_of busy.new number ≡ calls_of busy.old number) }
     {
         let origin = self.origin();
-        add(busy, origin)?;
-        match add(busy, self.served()) {
+        add_account(busy, origin)?;
+        match add_account(busy, self.served()) {
             Ok(()) => Ok(()),
             Err(error) => {
-                take(busy, origin);
+                remove_account(busy, origin);
                 Err(error)
             }
         }
     }
 
     /// Removes it from these counts.
-    pub fn take_from(&self, busy: &mut Busy)
-        ensures { (number : ℕ) → calls_of busy.new number ≡ calls_of busy.old number - keeps_busy number self.now }
+    pub fn remove_from(&self, busy: &mut BusyCounts)
+        ensures { (number : ℕ) → calls_of busy.new number ≡ calls_of busy.old number - busy_count number self.now }
     {
-        take(busy, self.origin());
-        take(busy, self.served());
+        remove_account(busy, self.origin());
+        remove_account(busy, self.served());
     }
 }

@@ -4,27 +4,27 @@ ghost use Rattle.std.specs.Prelude.{◌≡◌, ◌<◌, ◌≤◌, ◌+◌, ◌^
 ghost use Rattle.std.specs.Prelude.{count_by, drop, length, nat_le, nat_lt, option_to_list, remove, slice_get, take, ℕ};
 ghost use Rattle.std.specs.Option.{option_copied, option_map};
 ghost use Rattle.std.specs.List.Sorted.{IsNonDecreasingBy, IsPartitionPoint};
-ghost use Rattle.mmtel_desk.specs.Marks.{AreBelow, Unmarked};
+ghost use Rattle.mmtel_output.specs.Marks.{AreBelow, AreUnmarked};
 ghost use Rattle.mmtel_leg.specs.Releases.{released_leg};
-ghost use Rattle.mmtel_scan.specs.Numbers.{next_number};
-ghost use Rattle.mmtel_b2bua.specs.Entries.{is_live, kept};
-ghost use Rattle.mmtel_b2bua.specs.Kept.{lives_on, number_of, one_if, unboxed};
-ghost use Rattle.mmtel_b2bua.specs.Lending.{ended_at, is_away, leg_of_entry, lent_at, place_of, put_back_at, takes_back};
+ghost use Rattle.mmtel_base.specs.Numbers.{next_number};
+ghost use Rattle.mmtel_b2bua.specs.Entries.{is_live, kept_entry};
+ghost use Rattle.mmtel_b2bua.specs.Invariant.{box_values, lives_on, number_of, one_if};
+ghost use Rattle.mmtel_b2bua.specs.Detaching.{can_restore, has_detached_leg, leg_in_entry, place_of, released_at, restored_at, step_of_finish_at};
 ghost use Rattle.mmtel_b2bua.specs.Marks.{marks_of};
-ghost use Rattle.mmtel_b2bua.specs.Names.{live};
-ghost use Rattle.mmtel_b2bua.specs.Tables.{busy_with, most_calls, moved_at, no_calls, open_of};
+ghost use Rattle.mmtel_b2bua.specs.Queries.{live};
+ghost use Rattle.mmtel_b2bua.specs.Tables.{busy_with, most_calls, no_calls, opening_step, step_of_entry_at};
 
-use crate::busy::{add, count_again, is_gone, take};
+use crate::busy::{add_account, count_again, is_gone, remove_account};
 use crate::entries::{Entry, InviteKey};
 use crate::marks::put_call;
-use crate::steps::Step;
+use crate::step_context::StepContext;
+use mmtel_base::{List, NoMemory};
 use mmtel_call::{Call, NotTalking, Signal as CallSignal};
-use mmtel_call_decisions::{Arrival, Busy, Present, Setting};
-use mmtel_call_laws::calls_go_on;
+use mmtel_call_services::{Arrival, BusyCounts, CallConfig, Snapshot};
+use mmtel_call_theorems::calls_continue;
 use mmtel_charging::{Row, drop_first};
-use mmtel_desk::{Desk, Index, Mark};
 use mmtel_leg::Released;
-use mmtel_scan::{List, NoMemory};
+use mmtel_output::{Index, Mark, StepOutput};
 use mmtel_types::{Account, CallNo, Moment, Side};
 use std::alloc::Global;
 use std::marker::Model;
@@ -36,9 +36,9 @@ const MOST_CALLS: usize = 4_096;
 pub struct CallTable {
     entries: Vec<Box<Entry>>,
     opened: u64,
-    alive: usize,
+    live_count: usize,
     index: Index,
-    busy: Busy,
+    busy: BusyCounts,
     rows: List<Row>,
 }
 
@@ -47,23 +47,23 @@ impl Model for CallTable {
 
     ghost Value = { Table };
 
-    ghost use Rattle.mmtel_b2bua.specs.Kept.{AreKept, unboxed};
+    ghost use Rattle.mmtel_b2bua.specs.Invariant.{TableInvariant, box_values};
 
-    ghost view = { λ t. record { entries = unboxed t.entries.items; opened = t.opened; rows = t.rows } };
+    ghost view = { λ t. record { entries = box_values t.entries.items; opened = t.opened; rows = t.rows } };
 
-    ghost invariant = { λ t. AreKept (unboxed t.entries.items) t.opened t.alive t.index t.busy };
+    ghost invariant = { λ t. TableInvariant (box_values t.entries.items) t.opened t.live_count t.index t.busy };
 }
 
 /// The number of live calls after one of them, which was live before or not, is live now or not.
-fn recounted(alive: usize, before: bool, after: bool) -> usize
-    requires there { one_if before ≤ alive }
-    requires room { alive + one_if after < 2 ^ 64 + one_if before }
-    ensures { result + one_if before ≡ alive + one_if after }
+fn new_live_count(live_count: usize, old_live: bool, new_live: bool) -> usize
+    requires there { one_if old_live ≤ live_count }
+    requires room { live_count + one_if new_live < 2 ^ 64 + one_if old_live }
+    ensures { result + one_if old_live ≡ live_count + one_if new_live }
 {
-    match (before, after) {
-        (true, false) => alive - 1,
-        (false, true) => alive + 1,
-        _ => alive,
+    match (old_live, new_live) {
+        (true, false) => live_count - 1,
+        (false, true) => live_count + 1,
+        _ => live_count,
     }
 }
 
@@ -92,7 +92,7 @@ fn beginning() -> Moment {
 }
 
 /// A call in a block of its own on the heap.
-fn boxed(alloc: Global, entry: Entry, at: Moment) -> Result<Box<Entry>, NoMemory>
+fn box_entry(alloc: Global, entry: Entry, at: Moment) -> Result<Box<Entry>, NoMemory>
     ensures { IfOk result (λ b. b.value ≡ entry) }
 {
     match Box::new(alloc, entry) {
@@ -107,7 +107,7 @@ fn boxed(alloc: Global, entry: Entry, at: Moment) -> Result<Box<Entry>, NoMemory
 /// The index of the call of this number.
 fn place_in(entries: &[Box<Entry>], number: CallNo) -> Option<usize>
     requires { IsNonDecreasingBy (λ b. number_of b.value) entries.now }
-    ensures { result ≡ place_of number.0 (unboxed entries.now) }
+    ensures { result ≡ place_of number.0 (box_values entries.now) }
 {
     let place = first_from(entries, number.0);
     if place == entries.len() {
@@ -121,10 +121,10 @@ fn place_in(entries: &[Box<Entry>], number: CallNo) -> Option<usize>
 }
 
 /// The index from which on no call has a lower number.
-fn below(entries: &[Box<Entry>], number: u64) -> usize
+fn lower_bound(entries: &[Box<Entry>], number: u64) -> usize
     requires { IsNonDecreasingBy (λ b. number_of b.value) entries.now }
-    ensures within { result ≤ length (unboxed entries.now) }
-    ensures lower { AreBelow number_of number (take result (unboxed entries.now)) }
+    ensures within { result ≤ length (box_values entries.now) }
+    ensures lower { AreBelow number_of number (take result (box_values entries.now)) }
 {
     first_from(entries, number)
 }
@@ -175,7 +175,7 @@ fn first_near_end(entries: &[Box<Entry>], number: u64) -> Option<usize>
 }
 
 /// This many indices after another one, where this many calls are kept.
-fn after(from: usize, places: usize, count: usize) -> Option<usize>
+fn place_after(from: usize, places: usize, count: usize) -> Option<usize>
     requires { from + places < count }
     ensures { result ≡ Some (from + places) }
 {
@@ -187,7 +187,7 @@ fn after(from: usize, places: usize, count: usize) -> Option<usize>
 fn keep_at(entries: &mut Vec<Box<Entry>>, place: usize, gone: bool, at: Moment) -> bool
     requires { place < length entries.old.items }
     ensures entries { entries.new.items ≡ (if gone then remove entries.old.items place else entries.old.items) }
-    ensures lives { (e : Entry) → slice_get (unboxed entries.old.items) place ≡ Some e → result ≡ lives_on gone e }
+    ensures lives { (e : Entry) → slice_get (box_values entries.old.items) place ≡ Some e → result ≡ lives_on gone e }
 {
     if gone {
         give_up_entry(Box::into_inner(entries.remove(place)), at);
@@ -204,9 +204,9 @@ impl CallTable {
         CallTable {
             entries: Vec::new(alloc),
             opened: 0,
-            alive: 0,
+            live_count: 0,
             index: Index::new(alloc),
-            busy: Busy::new(alloc),
+            busy: BusyCounts::new(alloc),
             rows: List::new(),
         }
     }
@@ -222,7 +222,7 @@ impl CallTable {
     pub fn is_full(&self) -> bool
         ensures { result ≡ nat_le most_calls (count_by is_live self.now.entries) }
     {
-        self.alive >= MOST_CALLS
+        self.live_count >= MOST_CALLS
     }
 
     /// How many of the calls keep the account busy, in 32 bits.
@@ -240,33 +240,33 @@ impl CallTable {
     }
 
     /// The index from which on a call may have this mark.
-    pub fn from(&self, mark: Mark) -> usize
+    pub fn first_place_for(&self, mark: Mark) -> usize
         ensures within { result ≤ length self.now.entries }
-        ensures none { Unmarked marks_of mark (take result self.now.entries) }
+        ensures none { AreUnmarked marks_of mark (take result self.now.entries) }
     {
         match self.index.first(mark) {
             None => self.entries.len(),
-            Some(number) => below(&self.entries, number),
+            Some(number) => lower_bound(&self.entries, number),
         }
     }
 
     /// The calls from this index on.
     pub fn entries_from(&self, from: usize) -> &[Box<Entry>]
         requires { from ≤ length self.now.entries }
-        ensures { unboxed result.now ≡ drop from self.now.entries }
+        ensures { box_values result.now ≡ drop from self.now.entries }
     {
         let entries: &[Box<Entry>] = &self.entries;
         &entries[from..]
     }
 
     /// The index, in the whole table, of a call with this index among those from another index on.
-    pub fn later(&self, from: usize, place: Option<usize>) -> Option<usize>
+    pub fn absolute_place(&self, from: usize, place: Option<usize>) -> Option<usize>
         requires { (n : ℕ) → place ≡ Some n → from + n < length self.now.entries }
         ensures { result ≡ option_map (λ n. from + n) place }
     {
         match place {
             None => None,
-            Some(place) => after(from, place, self.entries.len()),
+            Some(place) => place_after(from, place, self.entries.len()),
         }
     }
 
@@ -287,7 +287,7 @@ impl CallTable {
     /// Out of memory only, for its entry or because the numbers are exhausted: 2^64 - 1 are opened in all.
     pub fn add(&mut self, alloc: Global, entry: Entry, at: Moment) -> Result<(), NoMemory>
         requires { number_of entry ≡ next_number self.old.opened }
-        ensures { OnOk result (self.new ≡ record self.old { entries = self.old.entries ++ kept entry; opened = next_number self.old.opened }) }
+        ensures { OnOk result (self.new ≡ record self.old { entries = self.old.entries ++ kept_entry entry; opened = next_number self.old.opened }) }
     {
         let number = entry.call.opening.number.0;
         if entry.call.is_settled() {
@@ -301,7 +301,7 @@ impl CallTable {
         }
         let is_live = entry.is_live();
         put_call(&mut self.index, &entry, CallNo(number), true);
-        let boxed = boxed(alloc, entry, at)?;
+        let boxed = box_entry(alloc, entry, at)?;
         match boxed.add_to(&mut self.busy) {
             Ok(()) => {}
             Err(error) => {
@@ -312,11 +312,11 @@ impl CallTable {
         match self.entries.push(boxed) {
             Ok(()) => {
                 self.opened = number;
-                self.alive = recounted(self.alive, false, is_live);
+                self.live_count = new_live_count(self.live_count, false, is_live);
                 Ok(())
             }
             Err(refused) => {
-                refused.value.take_from(&mut self.busy);
+                refused.value.remove_from(&mut self.busy);
                 give_up_entry(Box::into_inner(refused.value), at);
                 Err(NoMemory)
             }
@@ -330,35 +330,35 @@ impl CallTable {
     /// Out of memory only, also because the numbers are exhausted: 2^64 - 1 are opened in all.
     pub fn open(
         &mut self,
-        step: &Step<'_>,
+        step: &StepContext<'_>,
         arrival: Arrival,
-        desk: &mut Desk,
+        output: &mut StepOutput,
     ) -> Result<Box<Call>, NoMemory>
         requires { arrival.number.0 ≡ next_number self.old.opened }
         ensures call { IfOk result (λ call. call.value
-            ≡ (open_of step.now.setting.now step.now.at step.now.sheets.now
-            (busy_with arrival self.old.entries) arrival desk.old).call) }
-        ensures desk { OnOk result (desk.new
-            ≡ (open_of step.now.setting.now step.now.at step.now.sheets.now
-            (busy_with arrival self.old.entries) arrival desk.old).desk) }
+            ≡ (opening_step step.now.config.now step.now.at step.now.sheets.now
+            (busy_with arrival self.old.entries) arrival output.old).call) }
+        ensures output { OnOk result (output.new
+            ≡ (opening_step step.now.config.now step.now.at step.now.sheets.now
+            (busy_with arrival self.old.entries) arrival output.old).output) }
         ensures number { IfOk result (λ call. call.value.opening.number ≡ arrival.number) }
         ensures same { self.new ≡ self.old }
     {
-        calls_go_on();
+        calls_continue();
         if self.opened == u64::MAX {
             drop(arrival);
             return Err(NoMemory);
         }
         let origin = arrival.served.origin;
-        match add(&mut self.busy, origin) {
+        match add_account(&mut self.busy, origin) {
             Ok(()) => {
-                let present = Present {
+                let snapshot = Snapshot {
                     at: step.at,
                     sheets: step.sheets,
                     busy: &self.busy,
                 };
-                let call = Call::open(step.alloc, step.setting, &present, arrival, desk);
-                take(&mut self.busy, origin);
+                let call = Call::open(step.alloc, step.config, &snapshot, arrival, output);
+                remove_account(&mut self.busy, origin);
                 call
             }
             Err(error) => {
@@ -373,42 +373,42 @@ impl CallTable {
     /// # Errors
     ///
     /// Out of memory only; the call has left then.
-    pub fn hear_at(
+    pub fn receive_at(
         &mut self,
-        step: &Step<'_>,
+        step: &StepContext<'_>,
         place: usize,
         signal: CallSignal,
         invite: Option<InviteKey>,
-        desk: &mut Desk,
+        output: &mut StepOutput,
     ) -> Result<(), NoMemory>
         requires { place < length self.old.entries }
         ensures table { OnOk result (self.new ≡ record self.old {
           entries =
-              (moved_at step.now.setting.now step.now.at step.now.sheets.now signal (option_to_list invite) place
-              (slice_get self.old.entries place) self.old.entries desk.old).entries;
+              (step_of_entry_at step.now.config.now step.now.at step.now.sheets.now signal (option_to_list invite) place
+              (slice_get self.old.entries place) self.old.entries output.old).entries;
         }) }
-        ensures desk { OnOk result (desk.new
-            ≡ (moved_at step.now.setting.now step.now.at step.now.sheets.now signal (option_to_list invite) place
-            (slice_get self.old.entries place) self.old.entries desk.old).desk) }
+        ensures output { OnOk result (output.new
+            ≡ (step_of_entry_at step.now.config.now step.now.at step.now.sheets.now signal (option_to_list invite) place
+            (slice_get self.old.entries place) self.old.entries output.old).output) }
     {
         let entry = &mut *self.entries[place];
-        let before = entry.is_live();
+        let old_live = entry.is_live();
         let number = entry.call.opening.number;
         let origin = entry.origin();
         put_call(&mut self.index, entry, number, false);
-        take(&mut self.busy, entry.served());
-        let present = Present {
+        remove_account(&mut self.busy, entry.served());
+        let snapshot = Snapshot {
             at: step.at,
             sheets: step.sheets,
             busy: &self.busy,
         };
-        let heard = entry.hear(step.alloc, step.setting, &present, signal, invite, desk);
-        let counted = count_again(&mut self.busy, entry, heard);
-        take(&mut self.busy, origin);
+        let step_result = entry.receive(step.alloc, step.config, &snapshot, signal, invite, output);
+        let counted = count_again(&mut self.busy, entry, step_result);
+        remove_account(&mut self.busy, origin);
         let gone = is_gone(&counted);
         put_call(&mut self.index, entry, number, !gone);
-        let after = keep_at(&mut self.entries, place, gone, step.at);
-        self.alive = recounted(self.alive, before, after);
+        let new_live = keep_at(&mut self.entries, place, gone, step.at);
+        self.live_count = new_live_count(self.live_count, old_live, new_live);
         match counted {
             Ok(_) => Ok(()),
             Err(error) => Err(error),
@@ -423,28 +423,28 @@ impl CallTable {
     pub fn finish_at(
         &mut self,
         alloc: Global,
-        setting: &Setting<'_>,
+        config: &CallConfig<'_>,
         at: Moment,
         place: usize,
-        desk: &mut Desk,
+        output: &mut StepOutput,
     ) -> Result<(), NoMemory>
         requires place { place < length self.old.entries }
-        requires away { is_away (slice_get self.old.entries place) ≡ true }
-        ensures table { OnOk result (self.new ≡ record self.old { entries = (ended_at setting.now at place (slice_get self.old.entries place) self.old.entries desk.old).entries }) }
-        ensures desk { OnOk result (desk.new ≡ (ended_at setting.now at place
-            (slice_get self.old.entries place) self.old.entries desk.old).desk) }
+        requires away { has_detached_leg (slice_get self.old.entries place) ≡ true }
+        ensures table { OnOk result (self.new ≡ record self.old { entries = (step_of_finish_at config.now at place (slice_get self.old.entries place) self.old.entries output.old).entries }) }
+        ensures output { OnOk result (output.new ≡ (step_of_finish_at config.now at place
+            (slice_get self.old.entries place) self.old.entries output.old).output) }
     {
         let entry = &mut *self.entries[place];
-        let before = entry.is_live();
+        let old_live = entry.is_live();
         let number = entry.call.opening.number;
         put_call(&mut self.index, entry, number, false);
-        entry.take_from(&mut self.busy);
-        let finished = entry.finish(alloc, setting, at, desk);
+        entry.remove_from(&mut self.busy);
+        let finished = entry.finish(alloc, config, at, output);
         let counted = count_again(&mut self.busy, entry, finished);
-        let left = is_gone(&counted);
-        put_call(&mut self.index, entry, number, !left);
-        let after = keep_at(&mut self.entries, place, left, at);
-        self.alive = recounted(self.alive, before, after);
+        let gone = is_gone(&counted);
+        put_call(&mut self.index, entry, number, !gone);
+        let new_live = keep_at(&mut self.entries, place, gone, at);
+        self.live_count = new_live_count(self.live_count, old_live, new_live);
         match counted {
             Ok(_) => Ok(()),
             Err(error) => Err(error),
@@ -454,9 +454,9 @@ impl CallTable {
     /// Detaches a leg of the call at this index.
     pub fn release_at(&mut self, place: usize, side: Side) -> Result<Released, NotTalking>
         requires { place < length self.old.entries }
-        ensures table { self.new ≡ record self.old { entries = lent_at side place (slice_get self.old.entries place) self.old.entries } }
-        ensures leg { MatchResult result (λ leg. leg_of_entry side (slice_get self.old.entries place) ≡ Some leg)
-            (λ refused. leg_of_entry side (slice_get self.old.entries place) ≡ None) }
+        ensures table { self.new ≡ record self.old { entries = released_at side place (slice_get self.old.entries place) self.old.entries } }
+        ensures leg { MatchResult result (λ leg. leg_in_entry side (slice_get self.old.entries place) ≡ Some leg)
+            (λ refused. leg_in_entry side (slice_get self.old.entries place) ≡ None) }
     {
         let entry = &mut *self.entries[place];
         let number = entry.call.opening.number;
@@ -467,16 +467,16 @@ impl CallTable {
     }
 
     /// Puts a leg back into the call at this index.
-    pub fn restore_at(&mut self, place: usize, away: Released)
+    pub fn restore_at(&mut self, place: usize, leg: Released)
         requires place { place < length self.old.entries }
-        requires fits { takes_back away (slice_get self.old.entries place) ≡ true }
-        requires meter { (released_leg away).meter ≡ None }
-        ensures { self.new ≡ record self.old { entries = put_back_at away place (slice_get self.old.entries place) self.old.entries } }
+        requires fits { can_restore leg (slice_get self.old.entries place) ≡ true }
+        requires meter { (released_leg leg).meter ≡ None }
+        ensures { self.new ≡ record self.old { entries = restored_at leg place (slice_get self.old.entries place) self.old.entries } }
     {
         let entry = &mut *self.entries[place];
         let number = entry.call.opening.number;
         put_call(&mut self.index, entry, number, false);
-        entry.call.restore(away);
+        entry.call.restore(leg);
         put_call(&mut self.index, entry, number, true);
     }
 
@@ -513,7 +513,7 @@ impl CallTable {
         let CallTable {
             entries,
             opened: _,
-            alive: _,
+            live_count: _,
             index,
             busy,
             rows,

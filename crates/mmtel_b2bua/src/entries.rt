@@ -1,11 +1,11 @@
 //! A call in the table of calls.
 ghost use Rattle.std.specs.Prelude.{◌≡◌};
 ghost use Rattle.std.specs.Option.{option_copied};
-ghost use Rattle.mmtel_b2bua.specs.Entries.{heard_by, is_live, is_numbered, sent_it};
-ghost use Rattle.mmtel_b2bua.specs.Names.{is_key};
+ghost use Rattle.mmtel_b2bua.specs.Entries.{has_received_key, has_sent_branch, is_live, is_numbered};
+ghost use Rattle.mmtel_b2bua.specs.Queries.{is_key};
 
+use mmtel_base::List;
 use mmtel_call::Call;
-use mmtel_scan::List;
 use mmtel_transaction::TKey;
 use mmtel_types::{CallNo, Side};
 
@@ -20,7 +20,7 @@ pub struct InviteKey {
 
 impl InviteKey {
     /// Whether it is this server transaction.
-    #[tactic(auto, unfolding(crate::specs::Names::is_key))]
+    #[tactic(auto, unfolding(crate::specs::Queries::is_key))]
     pub fn is_of(&self, key: TKey) -> bool
         ensures { result ≡ is_key key self.now }
     {
@@ -54,9 +54,9 @@ impl Entry {
     }
 
     /// Whether a request of the call to which a response may still be received has this branch: an INVITE, or a PRACK or UPDATE that is in flight.
-    #[tactic(auto, unfolding(crate::specs::Entries::sent_it))]
-    pub fn sent(&self, branch: Option<&[u8]>) -> bool
-        ensures { result ≡ sent_it (option_copied branch.entry) self.now }
+    #[tactic(auto, unfolding(crate::specs::Entries::has_sent_branch))]
+    pub fn has_sent_branch(&self, branch: Option<&[u8]>) -> bool
+        ensures { result ≡ has_sent_branch (option_copied branch.entry) self.now }
     {
         match branch {
             None => false,
@@ -65,10 +65,10 @@ impl Entry {
     }
 
     /// Whether an INVITE of the call received its response in this client transaction.
-    #[tactic(auto, unfolding(crate::specs::Entries::heard_by))]
-    pub fn heard_by(&self, key: TKey) -> bool
-        ensures { result ≡ heard_by key self.now }
+    #[tactic(auto, unfolding(crate::specs::Entries::has_received_key))]
+    pub fn has_received_key(&self, key: TKey) -> bool
+        ensures { result ≡ has_received_key key self.now }
     {
-        self.call.has_heard(key)
+        self.call.has_received(key)
     }
 }

@@ -1,15 +1,15 @@
 //! The calls of a back-to-back user agent (RFC 3261 §6): the table of calls, in which each signal belongs to one call.
 #![tactic(auto)]
 
-mod asked;
 mod busy;
 mod call_table;
+mod detaching;
+mod dispatch;
 mod entries;
-mod lending;
 mod marks;
-mod moves;
+mod queries;
 mod signals;
-mod steps;
+mod step_context;
 mod tables;
 
 pub use entries::{Entry, InviteKey};

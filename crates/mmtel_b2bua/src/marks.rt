@@ -2,84 +2,88 @@
 //! dialogs.
 ghost use Rattle.std.specs.Prelude.{◌≡◌, ◌∷◌, [], flat_map};
 ghost use Rattle.std.specs.Option.{option_copied};
-ghost use Rattle.mmtel_call.specs.Table.{current};
-ghost use Rattle.mmtel_desk.specs.Marks.{Written};
+ghost use Rattle.mmtel_call.specs.Table.{current_invite};
+ghost use Rattle.mmtel_output.specs.Marks.{MarkUpdate};
 ghost use Rattle.mmtel_b2bua.specs.Entries.{is_live};
-ghost use Rattle.mmtel_b2bua.specs.Marks.{asked_marks, dialog_mark, dialog_marks, flight_marks, heard_marks, invitation_marks, invite_marks, loose_marks, marks_of, taken_marks};
+ghost use Rattle.mmtel_b2bua.specs.Marks.{abandoned_marks, answered_marks, client_key_marks, dialog_mark, dialog_marks, invite_marks, live_invite_marks, marks_of, relayed_marks, sent_invite_marks};
 ghost use Rattle.mmtel_b2bua.specs.Marks.{waiting_marks};
 
 use crate::entries::{Entry, InviteKey};
-use mmtel_call::{Flight, Phase, Stage, Taken, Tried, TriedLeg};
-use mmtel_desk::{Index, Invitation, Loose, Mark};
+use mmtel_call::{AnsweredInvite, AttemptLeg, AttemptLegState, Phase, RelayedTransaction, Stage};
 use mmtel_leg::Dialogue;
-use mmtel_transaction::{TKey, told};
+use mmtel_output::{AbandonedInvite, Index, Mark, SentInvite};
+use mmtel_transaction::{TKey, hash_of};
 use mmtel_types::CallNo;
 
 /// From now on the call of this number is found, or not found any more, by the client transaction of an INVITE, if that is known.
-fn put_key(index: &mut Index, key: Option<TKey>, call: CallNo, stays: bool)
-    ensures { Written stays call.0 (heard_marks key) index.old index.new }
+fn put_client_key(index: &mut Index, key: Option<TKey>, call: CallNo, stays: bool)
+    ensures { MarkUpdate stays call.0 (client_key_marks key) index.old index.new }
 {
     match key {
         None => {}
-        Some(key) => index.put(Mark::Heard(key.0), call.0, stays),
+        Some(key) => index.put(Mark::ClientTransaction(key.0), call.0, stays),
     }
 }
 
 /// The same for an INVITE that was abandoned, or had a 2xx.
-fn put_invitation(index: &mut Index, invitation: &Invitation, call: CallNo, stays: bool)
-    ensures { Written stays call.0 (invitation_marks invitation.now) index.old index.new }
+fn put_sent_invite(index: &mut Index, sent_invite: &SentInvite, call: CallNo, stays: bool)
+    ensures { MarkUpdate stays call.0 (sent_invite_marks sent_invite.now) index.old index.new }
 {
-    index.put(Mark::Sent(told(invitation.branch.bytes())), call.0, stays);
-    put_key(index, invitation.key, call, stays);
+    index.put(
+        Mark::Branch(hash_of(sent_invite.branch.bytes())),
+        call.0,
+        stays,
+    );
+    put_client_key(index, sent_invite.key, call, stays);
 }
 
 /// The same for those that were abandoned.
-fn put_loose(index: &mut Index, loose: &[Loose], call: CallNo, stays: bool)
-    ensures { Written stays call.0 (flat_map loose_marks loose.now) index.old index.new }
+fn put_abandoned(index: &mut Index, abandoned: &[AbandonedInvite], call: CallNo, stays: bool)
+    ensures { MarkUpdate stays call.0 (flat_map abandoned_marks abandoned.now) index.old index.new }
 {
-    for left in loose {
-        put_invitation(index, &left.invitation, call, stays);
+    for invite in abandoned {
+        put_sent_invite(index, &invite.invite, call, stays);
     }
 }
 
 /// The same for those that had a 2xx.
-fn put_taken(index: &mut Index, all: &[Taken], call: CallNo, stays: bool)
-    ensures { Written stays call.0 (flat_map taken_marks all.now) index.old index.new }
+fn put_answered(index: &mut Index, answered: &[AnsweredInvite], call: CallNo, stays: bool)
+    ensures { MarkUpdate stays call.0 (flat_map answered_marks answered.now) index.old index.new }
 {
-    for taken in all {
-        put_invitation(index, &taken.invitation, call, stays);
+    for invite in answered {
+        put_sent_invite(index, &invite.invite, call, stays);
     }
 }
 
 /// The same for a request that is in flight.
-fn put_flight(index: &mut Index, flight: &Flight, call: CallNo, stays: bool)
-    ensures { Written stays call.0 (flight_marks flight.now) index.old index.new }
+fn put_relayed(index: &mut Index, relayed: &RelayedTransaction, call: CallNo, stays: bool)
+    ensures { MarkUpdate stays call.0 (relayed_marks relayed.now) index.old index.new }
 {
-    let branch = &flight.asked.invitation.branch;
-    index.put(Mark::Sent(told(branch.bytes())), call.0, stays);
+    let branch = &relayed.exchange.invite.branch;
+    index.put(Mark::Branch(hash_of(branch.bytes())), call.0, stays);
 }
 
 /// The same for all that are in flight.
-fn put_flights(index: &mut Index, flights: &[Flight], call: CallNo, stays: bool)
-    ensures { Written stays call.0 (flat_map flight_marks flights.now) index.old index.new }
+fn put_in_flight(index: &mut Index, in_flight: &[RelayedTransaction], call: CallNo, stays: bool)
+    ensures { MarkUpdate stays call.0 (flat_map relayed_marks in_flight.now) index.old index.new }
 {
-    for flight in flights {
-        put_flight(index, flight, call, stays);
+    for relayed in in_flight {
+        put_relayed(index, relayed, call, stays);
     }
 }
 
 /// The same for the INVITEs that its sides sent.
 fn put_invites(index: &mut Index, invites: &[InviteKey], call: CallNo, stays: bool)
-    ensures { Written stays call.0 (flat_map invite_marks invites.now) index.old index.new }
+    ensures { MarkUpdate stays call.0 (flat_map invite_marks invites.now) index.old index.new }
 {
     for invite in invites {
-        index.put(Mark::Asked(invite.key.0), call.0, stays);
+        index.put(Mark::ServerTransaction(invite.key.0), call.0, stays);
     }
 }
 
 /// The same for those of a live call.
-fn put_asked(index: &mut Index, entry: &Entry, call: CallNo, stays: bool)
-    ensures { Written stays call.0 (asked_marks (is_live entry.now) entry.now.invites) index.old index.new }
+fn put_live_invites(index: &mut Index, entry: &Entry, call: CallNo, stays: bool)
+    ensures { MarkUpdate stays call.0 (live_invite_marks (is_live entry.now) entry.now.invites) index.old index.new }
 {
     if !entry.is_live() {
         return;
@@ -89,26 +93,40 @@ fn put_asked(index: &mut Index, entry: &Entry, call: CallNo, stays: bool)
 
 /// The same for the INVITE for which the call waits.
 fn put_waiting(index: &mut Index, phase: &Phase, call: CallNo, stays: bool)
-    ensures { Written stays call.0 (waiting_marks (current phase.now)) index.old index.new }
+    ensures { MarkUpdate stays call.0 (waiting_marks (current_invite phase.now)) index.old index.new }
 {
     match waits_on(phase) {
         None => {}
         Some(invitation) => {
-            index.put(Mark::Sent(told(invitation.branch.bytes())), call.0, stays)
+            index.put(
+                Mark::Branch(hash_of(invitation.branch.bytes())),
+                call.0,
+                stays,
+            )
         }
     }
 }
 
 /// The same for a dialog.
 fn put_dialog(index: &mut Index, dialogue: &Dialogue, call: CallNo, stays: bool)
-    ensures { Written stays call.0 (dialog_mark dialogue.now ∷ []) index.old index.new }
+    ensures { MarkUpdate stays call.0 (dialog_mark dialogue.now ∷ []) index.old index.new }
 {
-    index.put(Mark::Named(told(dialogue.local_tag.bytes())), call.0, stays);
+    index.put(
+        Mark::LocalTag(hash_of(dialogue.local_tag.bytes())),
+        call.0,
+        stays,
+    );
 }
 
 /// The same for two dialogs.
-fn put_both(index: &mut Index, caller: &Dialogue, callee: &Dialogue, call: CallNo, stays: bool)
-    ensures { Written stays call.0 (dialog_mark caller.now ∷ dialog_mark callee.now ∷ []) index.old index.new }
+fn put_both_dialogs(
+    index: &mut Index,
+    caller: &Dialogue,
+    callee: &Dialogue,
+    call: CallNo,
+    stays: bool,
+)
+    ensures { MarkUpdate stays call.0 (dialog_mark caller.now ∷ dialog_mark callee.now ∷ []) index.old index.new }
 {
     put_dialog(index, caller, call, stays);
     put_dialog(index, callee, call, stays);
@@ -116,11 +134,11 @@ fn put_both(index: &mut Index, caller: &Dialogue, callee: &Dialogue, call: CallN
 
 /// The same for the dialogs of a call.
 fn put_dialogs(index: &mut Index, phase: &Phase, call: CallNo, stays: bool)
-    ensures { Written stays call.0 (dialog_marks phase.now) index.old index.new }
+    ensures { MarkUpdate stays call.0 (dialog_marks phase.now) index.old index.new }
 {
     match phase {
         Phase::Offered(x) => {
-            put_both(
+            put_both_dialogs(
                 index,
                 x.caller.dialogue(),
                 dialogue_of(&x.callee),
@@ -128,49 +146,49 @@ fn put_dialogs(index: &mut Index, phase: &Phase, call: CallNo, stays: bool)
                 stays,
             )
         }
-        Phase::Stood(x, _) => {
-            put_both(index, x.caller.dialogue(), x.callee.dialogue(), call, stays)
+        Phase::Established(x, _) => {
+            put_both_dialogs(index, x.caller.dialogue(), x.callee.dialogue(), call, stays)
         }
-        Phase::Lent(loan) => put_dialog(index, loan.left.dialogue(), call, stays),
+        Phase::Detached(loan) => put_dialog(index, loan.remaining.dialogue(), call, stays),
         Phase::Over(_) => {}
     }
 }
 
 /// From now on this call, of this number, is found by its marks, or not found any more.
 pub fn put_call(index: &mut Index, entry: &Entry, call: CallNo, stays: bool)
-    ensures { Written stays call.0 (marks_of entry.now) index.old index.new }
+    ensures { MarkUpdate stays call.0 (marks_of entry.now) index.old index.new }
 {
     put_waiting(index, &entry.call.phase, call, stays);
-    put_loose(index, entry.call.loose.items(), call, stays);
-    put_taken(index, entry.call.taken.items(), call, stays);
-    put_flights(index, entry.call.flights.items(), call, stays);
-    put_asked(index, entry, call, stays);
+    put_abandoned(index, entry.call.abandoned.items(), call, stays);
+    put_answered(index, entry.call.answered_invites.items(), call, stays);
+    put_in_flight(index, entry.call.relayed.items(), call, stays);
+    put_live_invites(index, entry, call, stays);
     put_dialogs(index, &entry.call.phase, call, stays);
 }
 
 /// The INVITE for which a call waits.
-fn waits_on(phase: &Phase) -> Option<&Invitation>
-    ensures { option_copied result ≡ current phase.now }
+fn waits_on(phase: &Phase) -> Option<&SentInvite>
+    ensures { option_copied result ≡ current_invite phase.now }
 {
     match phase {
-        Phase::Offered(x) => Some(&x.attempt.invitation),
-        Phase::Stood(_, stage) => match stage {
+        Phase::Offered(x) => Some(&x.attempt.invite),
+        Phase::Established(_, stage) => match stage {
             Stage::Answered(_, _) => None,
-            Stage::Parting(_, _) => None,
-            Stage::Talking => None,
-            Stage::Asking(_, reinvite) => Some(&reinvite.invitation),
+            Stage::Departing(_, _) => None,
+            Stage::Stable => None,
+            Stage::Reinviting(_, reinvite) => Some(&reinvite.invite),
         },
-        Phase::Lent(_) => None,
+        Phase::Detached(_) => None,
         Phase::Over(_) => None,
     }
 }
 
 /// The dialog of a target.
-fn dialogue_of(tried: &Tried) -> &Dialogue
-    ensures { result.now ≡ tried.now.leg.dialogue }
+fn dialogue_of(leg: &AttemptLeg) -> &Dialogue
+    ensures { result.now ≡ leg.now.leg.dialogue }
 {
-    match &tried.leg {
-        TriedLeg::Asked(leg) => leg.dialogue(),
-        TriedLeg::Early(leg) => leg.dialogue(),
+    match &leg.leg {
+        AttemptLegState::Asked(leg) => leg.dialogue(),
+        AttemptLegState::Early(leg) => leg.dialogue(),
     }
 }

@@ -1,9 +1,9 @@
 //! The signals that the calls receive.
 
-use mmtel_answers::Hearing;
+use mmtel_base::Text;
+use mmtel_compose::ReceivedMessage;
 use mmtel_rules::Identities2;
-use mmtel_scan::Text;
-use mmtel_targets::{RegistrationState, Served};
+use mmtel_served_user::{RegistrationState, Served};
 use mmtel_transaction::{DueWord, TKey};
 use mmtel_types::{CallNo, Side};
 
@@ -13,7 +13,7 @@ pub enum Signal {
     /// An INVITE without To tag, with what was read of its parties (RFC 5502 §6): it opens a call.
     Arrived {
         key: TKey,
-        invite: Hearing,
+        invite: ReceivedMessage,
         served: Served,
         registration: Option<RegistrationState>,
         identities: Identities2,
@@ -23,25 +23,25 @@ pub enum Signal {
         call: CallNo,
         side: Side,
         key: TKey,
-        request: Hearing,
+        request: ReceivedMessage,
     },
     /// An ACK of a side for a 2xx.
     Ack {
         call: CallNo,
         side: Side,
-        ack: Hearing,
+        ack: ReceivedMessage,
     },
     /// A CANCEL, which opened the first server transaction, of the INVITE of the second.
     Cancel {
         call: CallNo,
         key: TKey,
-        cancel: Hearing,
+        cancel: ReceivedMessage,
         invite: TKey,
     },
     /// A response that was received in this client transaction; the request to which it belongs is identified by the branch and the CSeq method.
     Answer {
         key: TKey,
-        response: Hearing,
+        response: ReceivedMessage,
     },
     /// A request timed out without any response: its branch, with the cookie, and its method.
     Silent {

@@ -2,29 +2,29 @@
 ghost use Rattle.std.specs.Prelude.{◌≡◌, ◌≤◌, ◌∷◌, ◌++◌, true, false, length, List, IfErr, IfOk, IsErr, None, OnOk, Some, Err, MatchResult};
 ghost use Rattle.std.specs.Prelude.{count_by, is_some, nat_le, position};
 ghost use Rattle.std.specs.Option.{option_copied};
-ghost use Rattle.mmtel_b2bua.specs.Entries.{heard_by as had_answer_by, is_live, sent_it};
-ghost use Rattle.mmtel_b2bua.specs.Histories.{CallsView, Deed, Drops, Finishes, Hears, Releases, Restores, Stands};
-ghost use Rattle.mmtel_b2bua.specs.Histories.{finished_by, hears_after, site_of, table_after};
-ghost use Rattle.mmtel_b2bua.specs.Lending.{entry_of, is_away, leg_out, takes_back};
-ghost use Rattle.mmtel_b2bua.specs.Names.{first_side, live, party, side_asking, side_named};
-ghost use Rattle.mmtel_b2bua.specs.Tables.{is_full, most_calls, no_calls, opened_after, taken, with_moved};
-ghost use Rattle.mmtel_desk.specs.Desks.{fresh};
+ghost use Rattle.mmtel_b2bua.specs.Entries.{has_received_key as had_answer_by, has_sent_branch, is_live};
+ghost use Rattle.mmtel_b2bua.specs.Operations.{CallsView, Drops, Finishes, Receives, Releases, Represents, Restores, TableOp};
+ghost use Rattle.mmtel_b2bua.specs.Operations.{config_of, step_on_finish, step_on_receive_after, table_after};
+ghost use Rattle.mmtel_b2bua.specs.Detaching.{can_restore, entry_of, has_detached_leg, released_leg_of};
+ghost use Rattle.mmtel_b2bua.specs.Queries.{first_side, live, party, side_by_dialog, side_by_invite_key};
+ghost use Rattle.mmtel_b2bua.specs.Tables.{is_full, most_calls, no_calls, opened_after, step_of_signal, with_step};
+ghost use Rattle.mmtel_output.specs.Outputs.{empty_output};
 ghost use Rattle.mmtel_leg.specs.Releases.{released_leg};
-ghost use Rattle.mmtel_scan.specs.Numbers.{next_number};
+ghost use Rattle.mmtel_base.specs.Numbers.{next_number};
 ghost use Rattle.mmtel_trust.specs.Peers.{Peers};
 ghost use Rattle.mmtel_trust.specs.declared.accounts.AccountIdentity.{AccountIdentity};
 
 use crate::call_table::CallTable;
-use crate::moves::{place_heard, place_sent, take};
+use crate::dispatch::{place_by_branch, place_by_client_key, receive_signal};
 use crate::signals::{CallFault, Signal};
-use crate::steps::Step;
-use crate::{asked, lending};
+use crate::step_context::StepContext;
+use crate::{detaching, queries};
+use mmtel_base::{NoMemory, Text};
 use mmtel_call::NotTalking;
-use mmtel_call_decisions::Setting;
+use mmtel_call_services::CallConfig;
 use mmtel_charging::Row;
-use mmtel_desk::Desk;
 use mmtel_leg::{DialogName, Released};
-use mmtel_scan::{NoMemory, Text};
+use mmtel_output::StepOutput;
 use mmtel_sheet_values::SheetView;
 use mmtel_transaction::{Emits, TKey, Tokens};
 use mmtel_trust::{Accounts, PeerTable};
@@ -54,7 +54,7 @@ pub struct Calls {
 
 impl Model for Calls {
     ghost use Rattle.std.specs.Prelude.{◌≤◌};
-    ghost use Rattle.mmtel_b2bua.specs.Histories.{CallsView};
+    ghost use Rattle.mmtel_b2bua.specs.Operations.{CallsView};
 
     ghost Value = { CallsView };
 
@@ -84,11 +84,11 @@ fn is_full(signal: &Signal, table: &CallTable) -> bool
 }
 
 /// The input of each step: the configuration, the peers and the accounts.
-fn setting_of<'a>(
+fn config_of<'a>(
     configuration: &'a Configuration,
     peers: &'a PeerTable,
     accounts: &'a Accounts,
-) -> Setting<'a>
+) -> CallConfig<'a>
     requires { configuration.now.bound ≤ 16 }
     ensures { result ≡ record {
       sip = configuration.now.sip;
@@ -102,7 +102,7 @@ fn setting_of<'a>(
       accounts = accounts.now;
     } }
 {
-    Setting {
+    CallConfig {
         sip: configuration.sip,
         home: configuration.home.bytes(),
         bound: configuration.bound,
@@ -116,11 +116,11 @@ fn setting_of<'a>(
 }
 
 /// Keeps the CDRs that a step closed, and returns what is sent.
-fn settle(table: &mut CallTable, alloc: Global, desk: Desk) -> Result<Emits, NoMemory>
-    ensures kept { OnOk result (table.new ≡ record table.old { rows = table.old.rows ++ desk.rows }) }
-    ensures emits { IfOk result (λ out. out ≡ desk.out) }
+fn settle(table: &mut CallTable, alloc: Global, output: StepOutput) -> Result<Emits, NoMemory>
+    ensures kept { OnOk result (table.new ≡ record table.old { rows = table.old.rows ++ output.rows }) }
+    ensures emits { IfOk result (λ out. out ≡ output.out) }
 {
-    let Desk { tokens, out, rows } = desk;
+    let StepOutput { tokens, out, rows } = output;
     drop(tokens);
     match table.keep_rows(alloc, rows) {
         Ok(()) => Ok(out),
@@ -132,32 +132,32 @@ fn settle(table: &mut CallTable, alloc: Global, desk: Desk) -> Result<Emits, NoM
 }
 
 /// The calls receive a signal, and keep the CDRs that its step closed; tokens are drawn from these.
-fn hear(
+fn receive(
     table: &mut CallTable,
-    step: &Step<'_>,
+    step: &StepContext<'_>,
     signal: Signal,
     tokens: &mut Tokens,
 ) -> Result<Emits, NoMemory>
     ensures done { OnOk result (table.new
-        ≡ with_moved (taken step.now.setting.now step.now.at step.now.sheets.now
+        ≡ with_step (step_of_signal step.now.config.now step.now.at step.now.sheets.now
         (next_number table.old.opened) signal table.old.entries
-        (fresh tokens.old)) (opened_after signal table.old.opened) table.old) }
+        (empty_output tokens.old)) (opened_after signal table.old.opened) table.old) }
     ensures emits { IfOk result (λ out. out
-        ≡ (taken step.now.setting.now step.now.at step.now.sheets.now
+        ≡ (step_of_signal step.now.config.now step.now.at step.now.sheets.now
         (next_number table.old.opened) signal table.old.entries
-        (fresh tokens.old)).desk.out) }
+        (empty_output tokens.old)).output.out) }
     ensures tokens { OnOk result (tokens.new
-        ≡ (taken step.now.setting.now step.now.at step.now.sheets.now
+        ≡ (step_of_signal step.now.config.now step.now.at step.now.sheets.now
         (next_number table.old.opened) signal table.old.entries
-        (fresh tokens.old)).desk.tokens) }
+        (empty_output tokens.old)).output.tokens) }
 {
-    let mut desk = Desk::new(mem::replace(tokens, Tokens::new(Text::new())));
-    let heard = take(table, step, signal, &mut desk);
-    mem::swap(tokens, &mut desk.tokens);
-    match heard {
-        Ok(()) => settle(table, step.alloc, desk),
+    let mut output = StepOutput::new(mem::replace(tokens, Tokens::new(Text::new())));
+    let dispatched = receive_signal(table, step, signal, &mut output);
+    mem::swap(tokens, &mut output.tokens);
+    match dispatched {
+        Ok(()) => settle(table, step.alloc, output),
         Err(error) => {
-            drop(desk);
+            drop(output);
             Err(error)
         }
     }
@@ -167,24 +167,24 @@ fn hear(
 fn finish(
     table: &mut CallTable,
     alloc: Global,
-    setting: &Setting<'_>,
+    config: &CallConfig<'_>,
     at: Moment,
     call: CallNo,
     tokens: &mut Tokens,
 ) -> Result<Emits, NoMemory>
-    requires { is_away (entry_of call.0 table.old.entries) ≡ true }
+    requires { has_detached_leg (entry_of call.0 table.old.entries) ≡ true }
     ensures done { OnOk result (table.new
-        ≡ with_moved (finished_by setting.now call.0 at tokens.old table.old) table.old.opened table.old) }
-    ensures emits { IfOk result (λ out. out ≡ (finished_by setting.now call.0 at tokens.old table.old).desk.out) }
-    ensures tokens { OnOk result (tokens.new ≡ (finished_by setting.now call.0 at tokens.old table.old).desk.tokens) }
+        ≡ with_step (step_on_finish config.now call.0 at tokens.old table.old) table.old.opened table.old) }
+    ensures emits { IfOk result (λ out. out ≡ (step_on_finish config.now call.0 at tokens.old table.old).output.out) }
+    ensures tokens { OnOk result (tokens.new ≡ (step_on_finish config.now call.0 at tokens.old table.old).output.tokens) }
 {
-    let mut desk = Desk::new(mem::replace(tokens, Tokens::new(Text::new())));
-    let finished = lending::finish(table, alloc, setting, at, call, &mut desk);
-    mem::swap(tokens, &mut desk.tokens);
+    let mut output = StepOutput::new(mem::replace(tokens, Tokens::new(Text::new())));
+    let finished = detaching::finish(table, alloc, config, at, call, &mut output);
+    mem::swap(tokens, &mut output.tokens);
     match finished {
-        Ok(()) => settle(table, alloc, desk),
+        Ok(()) => settle(table, alloc, output),
         Err(error) => {
-            drop(desk);
+            drop(output);
             Err(error)
         }
     }
@@ -260,18 +260,18 @@ impl Calls {
         tokens: &mut Tokens,
         now: Moment,
     ) -> Result<Emits, CallFault>
-        ensures done { OnOk result ((deeds : List Deed) → Stands peers.now accounts.now self.old deeds →
-            Stands peers.now accounts.now self.new (Hears
+        ensures done { OnOk result ((deeds : List TableOp) → Represents peers.now accounts.now self.old deeds →
+            Represents peers.now accounts.now self.new (Receives
             (record { at = now; view = sheets.now; tokens = tokens.old; signal = signal }) ∷ deeds)) }
-        ensures emits { IfOk result (λ out. (deeds : List Deed) → Stands peers.now accounts.now self.old deeds →
-            out ≡ (hears_after (site_of self.old peers.now accounts.now) deeds
-            (record { at = now; view = sheets.now; tokens = tokens.old; signal = signal })).desk.out) }
-        ensures tokens { OnOk result ((deeds : List Deed) → Stands peers.now accounts.now self.old deeds →
+        ensures emits { IfOk result (λ out. (deeds : List TableOp) → Represents peers.now accounts.now self.old deeds →
+            out ≡ (step_on_receive_after (config_of self.old peers.now accounts.now) deeds
+            (record { at = now; view = sheets.now; tokens = tokens.old; signal = signal })).output.out) }
+        ensures tokens { OnOk result ((deeds : List TableOp) → Represents peers.now accounts.now self.old deeds →
             tokens.new ≡
-            (hears_after (site_of self.old peers.now accounts.now) deeds
-            (record { at = now; view = sheets.now; tokens = tokens.old; signal = signal })).desk.tokens) }
-        ensures site { OnOk result ((peers : Peers) (accounts : List AccountIdentity) →
-            site_of self.new peers accounts ≡ site_of self.old peers accounts) }
+            (step_on_receive_after (config_of self.old peers.now accounts.now) deeds
+            (record { at = now; view = sheets.now; tokens = tokens.old; signal = signal })).output.tokens) }
+        ensures config { OnOk result ((peers : Peers) (accounts : List AccountIdentity) →
+            config_of self.new peers accounts ≡ config_of self.old peers accounts) }
         ensures full { self.old.has_failed ≡ false → is_full signal self.old.table.entries ≡ true →
             (result ≡ Err (CallFault.Full signal)) × ((self.new ≡ self.old) × (tokens.new ≡ tokens.old)) }
         ensures fails { self.old.has_failed ≡ false → is_full signal self.old.table.entries ≡ false →
@@ -286,14 +286,14 @@ impl Calls {
         if is_full(&signal, &self.table) {
             return Err(CallFault::Full(signal));
         }
-        let setting = setting_of(&self.configuration, peers, accounts);
-        let step = Step {
+        let config = config_of(&self.configuration, peers, accounts);
+        let step = StepContext {
             alloc,
-            setting: &setting,
+            config: &config,
             sheets,
             at: now,
         };
-        match hear(&mut self.table, &step, signal, tokens) {
+        match receive(&mut self.table, &step, signal, tokens) {
             Ok(out) => Ok(out),
             Err(_) => {
                 self.has_failed = true;
@@ -304,9 +304,9 @@ impl Calls {
 
     /// How many calls the account has: one for each that it makes, and one for each that is offered to it or that it answered.
     pub fn live(&self, account: Account) -> u32
-        ensures { (peers : Peers) (accounts : List AccountIdentity) (deeds : List Deed) →
-            Stands peers accounts self.now deeds →
-            result ≡ live account.0 (table_after (site_of self.now peers accounts) deeds).entries }
+        ensures { (peers : Peers) (accounts : List AccountIdentity) (deeds : List TableOp) →
+            Represents peers accounts self.now deeds →
+            result ≡ live account.0 (table_after (config_of self.now peers accounts) deeds).entries }
     {
         self.table.live(account)
     }
@@ -320,56 +320,56 @@ impl Calls {
 
     /// The call and the side whose dialog has this Call-ID, this tag of the server and this tag of the other side (RFC 3261 §12.2.2).
     pub fn find(&self, call_id: &[u8], local: &[u8], remote: &[u8]) -> Option<(CallNo, Side)>
-        ensures { (peers : Peers) (accounts : List AccountIdentity) (deeds : List Deed) →
-            Stands peers accounts self.now deeds →
-            result ≡ first_side (side_named call_id.now local.now remote.now)
-            (table_after (site_of self.now peers accounts) deeds).entries }
+        ensures { (peers : Peers) (accounts : List AccountIdentity) (deeds : List TableOp) →
+            Represents peers accounts self.now deeds →
+            result ≡ first_side (side_by_dialog call_id.now local.now remote.now)
+            (table_after (config_of self.now peers accounts) deeds).entries }
     {
         let name = DialogName {
             call_id,
             local,
             remote,
         };
-        asked::find(&self.table, name)
+        queries::find(&self.table, name)
     }
 
     /// The live call and the side whose INVITE opened this server transaction (RFC 3261 §9.2).
     pub fn asked_by(&self, invite: TKey) -> Option<(CallNo, Side)>
-        ensures { (peers : Peers) (accounts : List AccountIdentity) (deeds : List Deed) →
-            Stands peers accounts self.now deeds →
-            result ≡ first_side (side_asking invite) (table_after (site_of self.now peers accounts) deeds).entries }
+        ensures { (peers : Peers) (accounts : List AccountIdentity) (deeds : List TableOp) →
+            Represents peers accounts self.now deeds →
+            result ≡ first_side (side_by_invite_key invite) (table_after (config_of self.now peers accounts) deeds).entries }
     {
-        asked::asked_by(&self.table, invite)
+        queries::asked_by(&self.table, invite)
     }
 
     /// Whether a request of some call to which a response may still be received has this branch, so that the response, or the timeout, belongs to that call (RFC 3261 §17.1.3).
     pub fn has_sent(&self, branch: Option<&[u8]>) -> bool
-        ensures { result ≡ is_some (position (sent_it (option_copied branch.entry)) self.now.table.entries) }
+        ensures { result ≡ is_some (position (has_sent_branch (option_copied branch.entry)) self.now.table.entries) }
     {
-        place_sent(&self.table, branch).is_some()
+        place_by_branch(&self.table, branch).is_some()
     }
 
     /// Whether an INVITE of some call received its response in this client transaction.
-    pub fn has_heard(&self, key: TKey) -> bool
+    pub fn has_received(&self, key: TKey) -> bool
         ensures { result ≡ is_some (position (had_answer_by key) self.now.table.entries) }
     {
-        place_heard(&self.table, key).is_some()
+        place_by_client_key(&self.table, key).is_some()
     }
 
     /// The peer of a side's leg, and the account that is served there; None exactly if the call is not live or that side has no leg.
     pub fn party(&self, call: CallNo, side: Side) -> Option<(Peer, Option<Account>)>
-        ensures { (peers : Peers) (accounts : List AccountIdentity) (deeds : List Deed) →
-            Stands peers accounts self.now deeds →
-            result ≡ party call.0 side (table_after (site_of self.now peers accounts) deeds).entries }
+        ensures { (peers : Peers) (accounts : List AccountIdentity) (deeds : List TableOp) →
+            Represents peers accounts self.now deeds →
+            result ≡ party call.0 side (table_after (config_of self.now peers accounts) deeds).entries }
     {
-        asked::party(&self.table, call, side)
+        queries::party(&self.table, call, side)
     }
 
     /// The CDRs of calls that are over that were not handed over, in the order in which they were closed.
     pub fn rows_waiting(&self) -> &[Row]
-        ensures rows { (peers : Peers) (accounts : List AccountIdentity) (deeds : List Deed) →
-            Stands peers accounts self.now deeds →
-            result.now ≡ (table_after (site_of self.now peers accounts) deeds).rows }
+        ensures rows { (peers : Peers) (accounts : List AccountIdentity) (deeds : List TableOp) →
+            Represents peers accounts self.now deeds →
+            result.now ≡ (table_after (config_of self.now peers accounts) deeds).rows }
         ensures kept { result.now ≡ self.now.table.rows }
     {
         self.table.rows()
@@ -378,11 +378,11 @@ impl Calls {
     /// Removes this many of the CDRs that wait: they were handed over.
     pub fn drop_rows(&mut self, count: usize)
         requires { count ≤ length self.old.table.rows }
-        ensures done { (peers : Peers) (accounts : List AccountIdentity) (deeds : List Deed) →
-            Stands peers accounts self.old deeds →
-            Stands peers accounts self.new (Drops count ∷ deeds) }
-        ensures site { (peers : Peers) (accounts : List AccountIdentity) →
-            site_of self.new peers accounts ≡ site_of self.old peers accounts }
+        ensures done { (peers : Peers) (accounts : List AccountIdentity) (deeds : List TableOp) →
+            Represents peers accounts self.old deeds →
+            Represents peers accounts self.new (Drops count ∷ deeds) }
+        ensures config { (peers : Peers) (accounts : List AccountIdentity) →
+            config_of self.new peers accounts ≡ config_of self.old peers accounts }
     {
         self.table.drop_rows(count);
     }
@@ -392,33 +392,33 @@ impl Calls {
     /// # Errors
     ///
     /// `NotTalking` exactly if the call is not stable, or a leg of it is detached.
-    #[tactic(auto, using(crate::proofs::Away::without_meter))]
+    #[tactic(auto, using(crate::proofs::DetachedLegs::without_meter))]
     pub fn release(&mut self, call: CallNo, side: Side) -> Result<Released, NotTalking>
-        ensures done { (peers : Peers) (accounts : List AccountIdentity) (deeds : List Deed) →
-            Stands peers accounts self.old deeds →
-            Stands peers accounts self.new (Releases call.0 side ∷ deeds) }
-        ensures site { (peers : Peers) (accounts : List AccountIdentity) →
-            site_of self.new peers accounts ≡ site_of self.old peers accounts }
-        ensures leg { MatchResult result (λ leg. leg_out call.0 side self.old.table.entries ≡ Some leg)
-            (λ refused. leg_out call.0 side self.old.table.entries ≡ None) }
-        ensures away { IfOk result (λ leg. is_away (entry_of call.0 self.new.table.entries) ≡ true) }
-        ensures fits { IfOk result (λ leg. takes_back leg (entry_of call.0 self.new.table.entries) ≡ true) }
+        ensures done { (peers : Peers) (accounts : List AccountIdentity) (deeds : List TableOp) →
+            Represents peers accounts self.old deeds →
+            Represents peers accounts self.new (Releases call.0 side ∷ deeds) }
+        ensures config { (peers : Peers) (accounts : List AccountIdentity) →
+            config_of self.new peers accounts ≡ config_of self.old peers accounts }
+        ensures leg { MatchResult result (λ leg. released_leg_of call.0 side self.old.table.entries ≡ Some leg)
+            (λ refused. released_leg_of call.0 side self.old.table.entries ≡ None) }
+        ensures away { IfOk result (λ leg. has_detached_leg (entry_of call.0 self.new.table.entries) ≡ true) }
+        ensures fits { IfOk result (λ leg. can_restore leg (entry_of call.0 self.new.table.entries) ≡ true) }
         ensures meter { IfOk result (λ leg. (released_leg leg).meter ≡ None) }
     {
-        lending::release(&mut self.table, call, side)
+        detaching::release(&mut self.table, call, side)
     }
 
     /// Puts back a leg that was detached from this call. It allocates nothing.
-    pub fn restore(&mut self, call: CallNo, away: Released)
-        requires fits { takes_back away (entry_of call.0 self.old.table.entries) ≡ true }
-        requires meter { (released_leg away).meter ≡ None }
-        ensures site { (peers : Peers) (accounts : List AccountIdentity) →
-            site_of self.new peers accounts ≡ site_of self.old peers accounts }
-        ensures done { (peers : Peers) (accounts : List AccountIdentity) (deeds : List Deed) →
-            Stands peers accounts self.old deeds →
-            Stands peers accounts self.new (Restores call.0 away ∷ deeds) }
+    pub fn restore(&mut self, call: CallNo, leg: Released)
+        requires fits { can_restore leg (entry_of call.0 self.old.table.entries) ≡ true }
+        requires meter { (released_leg leg).meter ≡ None }
+        ensures config { (peers : Peers) (accounts : List AccountIdentity) →
+            config_of self.new peers accounts ≡ config_of self.old peers accounts }
+        ensures done { (peers : Peers) (accounts : List AccountIdentity) (deeds : List TableOp) →
+            Represents peers accounts self.old deeds →
+            Represents peers accounts self.new (Restores call.0 leg ∷ deeds) }
     {
-        lending::restore(&mut self.table, call, away);
+        detaching::restore(&mut self.table, call, leg);
     }
 
     /// Ends a call whose leg is detached: BYE to the remaining leg, and its CDRs are closed; the tokens are those after what that drew.
@@ -436,17 +436,17 @@ impl Calls {
         tokens: &mut Tokens,
         now: Moment,
     ) -> Result<Emits, NoMemory>
-        requires { is_away (entry_of call.0 self.old.table.entries) ≡ true }
-        ensures done { OnOk result ((deeds : List Deed) → Stands peers.now accounts.now self.old deeds →
-            Stands peers.now accounts.now self.new (Finishes call.0 now tokens.old ∷ deeds)) }
-        ensures emits { IfOk result (λ out. (deeds : List Deed) → Stands peers.now accounts.now self.old deeds →
-            out ≡ (finished_by (site_of self.old peers.now accounts.now) call.0 now tokens.old
-            (table_after (site_of self.old peers.now accounts.now) deeds)).desk.out) }
-        ensures tokens { OnOk result ((deeds : List Deed) → Stands peers.now accounts.now self.old deeds →
-            tokens.new ≡ (finished_by (site_of self.old peers.now accounts.now) call.0 now tokens.old
-            (table_after (site_of self.old peers.now accounts.now) deeds)).desk.tokens) }
-        ensures site { OnOk result ((peers : Peers) (accounts : List AccountIdentity) →
-            site_of self.new peers accounts ≡ site_of self.old peers accounts) }
+        requires { has_detached_leg (entry_of call.0 self.old.table.entries) ≡ true }
+        ensures done { OnOk result ((deeds : List TableOp) → Represents peers.now accounts.now self.old deeds →
+            Represents peers.now accounts.now self.new (Finishes call.0 now tokens.old ∷ deeds)) }
+        ensures emits { IfOk result (λ out. (deeds : List TableOp) → Represents peers.now accounts.now self.old deeds →
+            out ≡ (step_on_finish (config_of self.old peers.now accounts.now) call.0 now tokens.old
+            (table_after (config_of self.old peers.now accounts.now) deeds)).output.out) }
+        ensures tokens { OnOk result ((deeds : List TableOp) → Represents peers.now accounts.now self.old deeds →
+            tokens.new ≡ (step_on_finish (config_of self.old peers.now accounts.now) call.0 now tokens.old
+            (table_after (config_of self.old peers.now accounts.now) deeds)).output.tokens) }
+        ensures config { OnOk result ((peers : Peers) (accounts : List AccountIdentity) →
+            config_of self.new peers accounts ≡ config_of self.old peers accounts) }
         ensures fails { IfErr result (λ e. (self.old.has_failed ≡ false → self.new.has_failed ≡ true)) }
         ensures stuck { self.old.has_failed ≡ true → IsErr result ×
             ((self.new ≡ self.old) × (tokens.new ≡ tokens.old)) }
@@ -454,8 +454,8 @@ impl Calls {
         if self.has_failed {
             return Err(NoMemory);
         }
-        let setting = setting_of(&self.configuration, peers, accounts);
-        let finished = finish(&mut self.table, alloc, &setting, now, call, tokens);
+        let config = config_of(&self.configuration, peers, accounts);
+        let finished = finish(&mut self.table, alloc, &config, now, call, tokens);
         if finished.is_err() {
             self.has_failed = true;
         }

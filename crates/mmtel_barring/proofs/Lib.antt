@@ -1,2 +1,2 @@
-pub mod BarringLaws
-mod Worked
+pub mod BarringTheorems
+mod WorkedExamples

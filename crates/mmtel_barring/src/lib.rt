@@ -4,6 +4,6 @@
 #![tactic(auto)]
 
 mod bars;
-pub mod laws;
+pub mod theorems;
 
 pub use bars::{Barred, Refusal, incoming, outgoing};

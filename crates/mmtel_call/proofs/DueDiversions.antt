@@ -2,23 +2,23 @@
 use Rattle.std.proofs.Common.{◌≡◌, ◌+◌, ◌-◌, ◌≤◌, ◌<◌, ℕ, zero, suc, Bool, true, false, ap, arith, sym, ◌∙◌}
 use Rattle.std.proofs.lemmas.Bool.Decides.{nat_tests}
 use Rattle.std.specs.Prelude.{if◌then◌else◌, min, nat_lt, Option, Some, None}
-use Rattle.mmtel_desk.specs.declared.desks.Desk.{Desk}
+use Rattle.mmtel_output.specs.declared.outputs.StepOutput.{StepOutput}
 use Rattle.mmtel_leg.specs.Legs.{Leg}
 use Rattle.mmtel_lex.specs.declared.values.Uri.{Uri}
-use Rattle.mmtel_precedence.specs.Calls.{Standing}
-use Rattle.mmtel_precedence.specs.Services.{DueDiversion, bars_outgoing, bound_of}
+use Rattle.mmtel_precedence.specs.Calls.{SnapshotView}
+use Rattle.mmtel_precedence.specs.Services.{DueDiversionView, bars_outgoing, bound_of}
 use Rattle.mmtel_precedence.specs.Verdicts.{refusal_at_bound, refusal_before_diversion, too_many}
 use Rattle.mmtel_sheet_values.specs.declared.values.Sheet.{Sheet}
-use Rattle.mmtel_targets.specs.Targets.{new_target}
-use Rattle.mmtel_targets.specs.declared.targets.Target.{Target}
+use Rattle.mmtel_served_user.specs.Targets.{new_target}
+use Rattle.mmtel_served_user.specs.declared.targets.Target.{Target}
 use Rattle.mmtel_types.specs.declared.causes.Cause.{Cause}
 use Rattle.mmtel_types.specs.declared.causes.Cause.TheVariants.{OutgoingBarred}
-use Rattle.mmtel_call_decisions.specs.Decisions.{its_sheet, of_target, target_of}
-use Rattle.mmtel_call_decisions.specs.Site.{Site}
-use Rattle.mmtel_call_decisions.specs.declared.openings.Opening.{Opening}
+use Rattle.mmtel_call_services.specs.Decisions.{diversion_target, service_sheet, target_facts}
+use Rattle.mmtel_call_services.specs.CallConfig.{CallConfigView}
+use Rattle.mmtel_call_services.specs.declared.openings.Opening.{Opening}
 use Rattle.mmtel_call.specs.Calls.{Call, Service}
-use Rattle.mmtel_call.specs.Closing.{Step}
-use Rattle.mmtel_call.specs.Diverting.{at_target, divert, diverted, made, made_unless, refusal_by, refused, told_of}
+use Rattle.mmtel_call.specs.Closing.{StepResult}
+use Rattle.mmtel_call.specs.Diverting.{at_target, call_after_diversion, call_refusal, diversion_refusal, diversion_step, diversion_unless_refused, divert, with_notification_of}
 
 -- ---- where none is left the bound refuses it
 
@@ -29,53 +29,53 @@ none-within count (Some own) = let least : min (count + 0) own ≤ count + 0 = o
 bound-refuses : (count cause : ℕ) (own : Option ℕ) → refusal_at_bound count 0 (bound_of (count + 0) own) cause ≡ Some (too_many cause)
 bound-refuses count cause own = ap (λ b. if b then None else Some (too_many cause)) (none-within count own)
 
-none-left : (site : Site) (o : Opening) (at : ℕ) (uri : Uri) (sheet : Option Sheet) (count : ℕ) (due : DueDiversion) →
-    refusal_before_diversion (of_target site o at uri) sheet count 0 (count + 0) due ≡ None → ⊥
-none-left site o at uri None count due e = let same : Some (too_many due.cause) ≡ None = sym (bound-refuses count due.cause due.bound) ∙ e in cc
-none-left site o at uri (Some sheet) count due e = go (bars_outgoing (of_target site o at uri) sheet) e
+none-left : (config : CallConfigView) (o : Opening) (at : ℕ) (uri : Uri) (sheet : Option Sheet) (count : ℕ) (due : DueDiversionView) →
+    refusal_before_diversion (target_facts config o at uri) sheet count 0 (count + 0) due ≡ None → ⊥
+none-left config o at uri None count due e = let same : Some (too_many due.cause) ≡ None = sym (bound-refuses count due.cause due.bound) ∙ e in cc
+none-left config o at uri (Some sheet) count due e = go (bars_outgoing (target_facts config o at uri) sheet) e
   where
     go : (b : Bool) → (if b then Some OutgoingBarred else refusal_at_bound count 0 (bound_of (count + 0) due.bound) due.cause) ≡ None → ⊥
     go true same = cc
     go false same = let is : Some (too_many due.cause) ≡ None = sym (bound-refuses count due.cause due.bound) ∙ same in cc
 
 -- where nothing refuses it, at least one more is left
-pub one-left : (left : ℕ) (site : Site) (at : ℕ) (service : Option Service) (due : DueDiversion) (c : Call) → refusal_by left site at service due c ≡ None → left ≡ suc (left - 1)
-one-left zero site at service due c passed = absurd (none-left site c.opening at (new_target site.home due.forward.target) (its_sheet service) c.diversions.count due passed)
-one-left (suc left) site at service due c passed = omega (arith)
+pub one-left : (left : ℕ) (config : CallConfigView) (at : ℕ) (service : Option Service) (due : DueDiversionView) (c : Call) → diversion_refusal left config at service due c ≡ None → left ≡ suc (left - 1)
+one-left zero config at service due c passed = absurd (none-left config c.opening at (new_target config.home due.forward.target) (service_sheet service) c.diversions.count due passed)
+one-left (suc left) config at service due c passed = omega (arith)
 
-pub some-left : (left : ℕ) (site : Site) (at : ℕ) (service : Option Service) (due : DueDiversion) (c : Call) → refusal_by left site at service due c ≡ None → 0 < left
-some-left left site at service due c passed = omega (arith, one-left left site at service due c passed)
+pub some-left : (left : ℕ) (config : CallConfigView) (at : ℕ) (service : Option Service) (due : DueDiversionView) (c : Call) → diversion_refusal left config at service due c ≡ None → 0 < left
+some-left left config at service due c passed = omega (arith, one-left left config at service due c passed)
 
 -- ---- the result
 
 -- it is made and the call reaches its target, where this many are left afterwards
-abbrev onward_by : (later : ℕ) → Site → Standing → Leg → Option Service → DueDiversion → Call → Desk → Step
-onward_by later site now caller service due =
-    made (at_target (divert later site now caller) site now caller (Some due.cause) (target_of site due)) site (target_of site due) now.at later service due
+abbrev step_by : (later : ℕ) → CallConfigView → SnapshotView → Leg → Option Service → DueDiversionView → Call → StepOutput → StepResult
+step_by later config now caller service due =
+    diversion_step (at_target (divert later config now caller) config now caller (Some due.cause) (diversion_target config due)) config (diversion_target config due) now.at later service due
 
 -- this cause refuses it
-pub divert-refused : (left : ℕ) (site : Site) (now : Standing) (caller : Leg) (service : Option Service) (due : DueDiversion) (c : Call) (desk : Desk) (cause : Cause) →
-    refusal_by left site now.at service due c ≡ Some cause → divert left site now caller service due c desk ≡ refused site now.at caller cause c desk
+pub divert-refused : (left : ℕ) (config : CallConfigView) (now : SnapshotView) (caller : Leg) (service : Option Service) (due : DueDiversionView) (c : Call) (output : StepOutput) (cause : Cause) →
+    diversion_refusal left config now.at service due c ≡ Some cause → divert left config now caller service due c output ≡ call_refusal config now.at caller cause c output
 unfolding divert
-divert-refused zero site now caller service due c desk cause is =
-    ap (λ refusal. made_unless refusal (refused site now.at caller (too_many due.cause)) site now.at caller c desk) is
-divert-refused (suc left) site now caller service due c desk cause is =
-    ap (λ refusal. made_unless refusal (onward_by left site now caller service due) site now.at caller c desk) is
+divert-refused zero config now caller service due c output cause is =
+    ap (λ refusal. diversion_unless_refused refusal (call_refusal config now.at caller (too_many due.cause)) config now.at caller c output) is
+divert-refused (suc left) config now caller service due c output cause is =
+    ap (λ refusal. diversion_unless_refused refusal (step_by left config now caller service due) config now.at caller c output) is
 
 -- it is made
-divert-made : (left later : ℕ) (site : Site) (now : Standing) (caller : Leg) (service : Option Service) (due : DueDiversion) (c : Call) (desk : Desk) →
-    left ≡ suc later → refusal_by left site now.at service due c ≡ None → divert left site now caller service due c desk ≡ onward_by later site now caller service due c desk
+divert-made : (left later : ℕ) (config : CallConfigView) (now : SnapshotView) (caller : Leg) (service : Option Service) (due : DueDiversionView) (c : Call) (output : StepOutput) →
+    left ≡ suc later → diversion_refusal left config now.at service due c ≡ None → divert left config now caller service due c output ≡ step_by later config now caller service due c output
 unfolding divert
-divert-made left later site now caller service due c desk some passed =
-    ap (λ n. divert n site now caller service due c desk) some
-    ∙ ap (λ refusal. made_unless refusal (onward_by later site now caller service due) site now.at caller c desk) (ap (λ n. refusal_by n site now.at service due c) (sym some) ∙ passed)
+divert-made left later config now caller service due c output some passed =
+    ap (λ n. divert n config now caller service due c output) some
+    ∙ ap (λ refusal. diversion_unless_refused refusal (step_by later config now caller service due) config now.at caller c output) (ap (λ n. diversion_refusal n config now.at service due c) (sym some) ∙ passed)
 
 -- the call, as it is after the diversion was made, reaches its target
-pub divert-onward : (left : ℕ) (site : Site) (now : Standing) (caller : Leg) (service : Option Service) (due : DueDiversion) (c : Call) (desk : Desk) (target : Target) (c2 : Call) (desk2 : Desk) →
-    refusal_by left site now.at service due c ≡ None → target ≡ target_of site due → c2 ≡ diverted target now.at (left - 1) service due c → desk2 ≡ told_of site due c2 desk →
-    at_target (divert c2.diversions.left site now caller) site now caller (Some due.cause) target c2 desk2 ≡ divert left site now caller service due c desk
-divert-onward left site now caller service due c desk target c2 desk2 passed its_target its_call its_desk =
-    ap (λ (y : Desk). at_target (divert c2.diversions.left site now caller) site now caller (Some due.cause) target c2 y) its_desk
-    ∙ ap (λ (x : Call). at_target (divert x.diversions.left site now caller) site now caller (Some due.cause) target x (told_of site due x desk)) its_call
-    ∙ ap (λ (t : Target). made (at_target (divert (left - 1) site now caller) site now caller (Some due.cause) t) site t now.at (left - 1) service due c desk) its_target
-    ∙ sym (divert-made left (left - 1) site now caller service due c desk (one-left left site now.at service due c passed) passed)
+pub divert-step : (left : ℕ) (config : CallConfigView) (now : SnapshotView) (caller : Leg) (service : Option Service) (due : DueDiversionView) (c : Call) (output : StepOutput) (target : Target) (c2 : Call) (desk2 : StepOutput) →
+    diversion_refusal left config now.at service due c ≡ None → target ≡ diversion_target config due → c2 ≡ call_after_diversion target now.at (left - 1) service due c → desk2 ≡ with_notification_of config due c2 output →
+    at_target (divert c2.diversions.remaining config now caller) config now caller (Some due.cause) target c2 desk2 ≡ divert left config now caller service due c output
+divert-step left config now caller service due c output target c2 desk2 passed its_target its_call its_desk =
+    ap (λ (y : StepOutput). at_target (divert c2.diversions.remaining config now caller) config now caller (Some due.cause) target c2 y) its_desk
+    ∙ ap (λ (x : Call). at_target (divert x.diversions.remaining config now caller) config now caller (Some due.cause) target x (with_notification_of config due x output)) its_call
+    ∙ ap (λ (t : Target). diversion_step (at_target (divert (left - 1) config now caller) config now caller (Some due.cause) t) config t now.at (left - 1) service due c output) its_target
+    ∙ sym (divert-made left (left - 1) config now caller service due c output (one-left left config now.at service due c passed) passed)

@@ -1,63 +1,63 @@
 -- How a call continues: it reaches one target after another until it is offered to one, or refused (TS 24.604 §4.5.2.6, RFC 7044 §7).
 use Rattle.std.specs.Prelude.{ℕ, zero, suc, nat_lt, Bool, List, if◌then◌else◌, Option, Some, None}
-use Rattle.mmtel_answers.specs.Said.{Said, status_of as status_in}
+use Rattle.mmtel_compose.specs.ReceivedMessages.{MessageView, status_of as status_in}
 use Rattle.mmtel_charging.specs.declared.rows.Kind.TheVariants.{Diversion, Terminating}
-use Rattle.mmtel_desk.specs.declared.desks.Desk.{Desk}
+use Rattle.mmtel_output.specs.declared.outputs.StepOutput.{StepOutput}
 use Rattle.mmtel_leg.specs.Dialogues.{request_uri}
 use Rattle.mmtel_leg.specs.Legs.{Leg}
 use Rattle.mmtel_lex.specs.Grammar.{uri_text}
-use Rattle.mmtel_precedence.specs.Calls.{End, Standing}
-use Rattle.mmtel_precedence.specs.Services.{DueDiversion}
-use Rattle.mmtel_precedence.specs.Turns.{AfterEnd, EndAnswered, EndDivert, EndRefuse, Turn, TurnDivert, TurnOffer, TurnRefuse}
+use Rattle.mmtel_precedence.specs.Calls.{AttemptEndView, SnapshotView}
+use Rattle.mmtel_precedence.specs.Services.{DueDiversionView}
+use Rattle.mmtel_precedence.specs.NextSteps.{EndAnswered, EndDivert, EndRefuse, NextStepView, StepAfterAttemptView, StepDivert, StepOffer, StepRefuse}
 use Rattle.mmtel_precedence.specs.Verdicts.{too_many}
-use Rattle.mmtel_targets.specs.declared.targets.Target.{Target}
+use Rattle.mmtel_served_user.specs.declared.targets.Target.{Target}
 use Rattle.mmtel_types.specs.Causes.{status_of}
 use Rattle.mmtel_types.specs.declared.causes.Cause.{Cause}
 use Rattle.mmtel_types.specs.declared.causes.Cause.TheVariants as causes
 use Rattle.mmtel_types.specs.declared.numbers.Peer.{Peer}
-use Rattle.mmtel_call_decisions.specs.Decisions.{aim_at, decided_after, decided_at, handed_on, is_status, peer_for, refusal_of_diversion, service_at, target_of}
-use Rattle.mmtel_call_decisions.specs.Diverted.{diverted_to}
-use Rattle.mmtel_call_decisions.specs.Site.{Site}
-use Rattle.mmtel_call.specs.Calls.{Call, Diverted, Service, Trial}
-use Rattle.mmtel_call.specs.Closing.{Step, meter_for, over, with_past}
-use Rattle.mmtel_call.specs.Offering.{offer}
-use Rattle.mmtel_call.specs.Sending.{relayed_to_caller, told_caller, told_diversion}
+use Rattle.mmtel_call_services.specs.Decisions.{decision_after, decision_at, destination_of, diversion_target, is_status, peer_for, refusal_of_diversion, relayed_status, service_at}
+use Rattle.mmtel_call_services.specs.Diversions.{after_diversion}
+use Rattle.mmtel_call_services.specs.CallConfig.{CallConfigView}
+use Rattle.mmtel_call.specs.Calls.{Call, DiversionsView, OfferedAttempt, Service}
+use Rattle.mmtel_call.specs.Closing.{StepResult, call_end, meter_for, with_past}
+use Rattle.mmtel_call.specs.AttemptStarts.{attempt_start}
+use Rattle.mmtel_call.specs.Sending.{with_diversion_notification, with_relay_to_caller, with_status_to_caller}
 
 -- ---- the final response to the caller
 
 -- a final response of the server's own
-abbrev pub refused : Site → (at : ℕ) → Leg → Cause → Call → Desk → Step
-refused site at caller cause c desk = over at cause caller.meter None c (told_caller site c (status_of cause) desk)
+abbrev pub call_refusal : CallConfigView → (at : ℕ) → Leg → Cause → Call → StepOutput → StepResult
+call_refusal config at caller cause c output = call_end at cause caller.meter None c (with_status_to_caller config c (status_of cause) output)
 
 -- the final response that was received, if the cause relays it, otherwise one of the server's own
-abbrev pub refused_by : Site → (at : ℕ) → Leg → Option Service → Option Said → Cause → Call → Desk → Step
-refused_by site at caller service None cause c desk = refused site at caller cause c desk
-refused_by site at caller service (Some m) cause c desk =
-    if is_status (status_in m.heard.start) (handed_on cause) then over at cause caller.meter None c (relayed_to_caller site c service m desk)
-    else refused site at caller cause c desk
+abbrev pub relayed_refusal : CallConfigView → (at : ℕ) → Leg → Option Service → Option MessageView → Cause → Call → StepOutput → StepResult
+relayed_refusal config at caller service None cause c output = call_refusal config at caller cause c output
+relayed_refusal config at caller service (Some m) cause c output =
+    if is_status (status_in m.parsed.start) (relayed_status cause) then call_end at cause caller.meter None c (with_relay_to_caller config c service m output)
+    else call_refusal config at caller cause c output
 
 -- ---- a diversion
 
 -- the diversions of the call after one more, to this URI, after which this many are left
-abbrev pub diverted_list : (uri : List ℕ) → (left : ℕ) → DueDiversion → Call → Diverted
-diverted_list uri left due c = diverted_to (request_uri c.opening.invite.heard.start) uri left due c.diversions
+abbrev pub diversions_after : (uri : List ℕ) → (left : ℕ) → DueDiversionView → Call → DiversionsView
+diversions_after uri left due c = after_diversion (request_uri c.opening.invite.parsed.start) uri left due c.diversions
 
 -- the call after a diversion by the served account
-abbrev pub diverted : Target → (at left : ℕ) → Option Service → DueDiversion → Call → Call
-diverted target at left service due c = with_past (meter_for Diversion c at service) (record c { diversions = diverted_list (uri_text target.uri) left due c })
+abbrev pub call_after_diversion : Target → (at left : ℕ) → Option Service → DueDiversionView → Call → Call
+call_after_diversion target at left service due c = with_past (meter_for Diversion c at service) (record c { diversions = diversions_after (uri_text target.uri) left due c })
 
 -- the caller is notified of it, if the forward requires that
-abbrev pub told_of : Site → DueDiversion → Call → Desk → Desk
-told_of site due c desk = if due.forward.notify_caller then told_diversion site c desk else desk
+abbrev pub with_notification_of : CallConfigView → DueDiversionView → Call → StepOutput → StepOutput
+with_notification_of config due c output = if due.forward.notify_caller then with_diversion_notification config c output else output
 
 -- the cause that refuses it, if any, where the configured bound leaves this many
-abbrev pub refusal_by : (left : ℕ) → Site → (at : ℕ) → Option Service → DueDiversion → Call → Option Cause
-refusal_by left site at service due c = refusal_of_diversion site c.opening at c.diversions.count left service due
+abbrev pub diversion_refusal : (left : ℕ) → CallConfigView → (at : ℕ) → Option Service → DueDiversionView → Call → Option Cause
+diversion_refusal left config at service due c = refusal_of_diversion config c.opening at c.diversions.count left service due
 
 -- it is made, unless a cause refuses it
-abbrev pub made_unless : Option Cause → (made : Call → Desk → Step) → Site → (at : ℕ) → Leg → Call → Desk → Step
-made_unless None made site at caller c desk = made c desk
-made_unless (Some cause) made site at caller c desk = refused site at caller cause c desk
+abbrev pub diversion_unless_refused : Option Cause → (made : Call → StepOutput → StepResult) → CallConfigView → (at : ℕ) → Leg → Call → StepOutput → StepResult
+diversion_unless_refused None made config at caller c output = made c output
+diversion_unless_refused (Some cause) made config at caller c output = call_refusal config at caller cause c output
 
 -- ---- at a target
 
@@ -66,53 +66,53 @@ abbrev pub is_diverted : Call → Bool
 is_diverted c = nat_lt 0 c.diversions.count
 
 -- the meter of an account that the call reached without being offered to it
-abbrev pub passed_by : (at : ℕ) → Option Service → Call → Call
-passed_by at service c = with_past (meter_for Terminating c at service) c
+abbrev pub with_unoffered_meter : (at : ℕ) → Option Service → Call → Call
+with_unoffered_meter at service c = with_past (meter_for Terminating c at service) c
 
 -- by what was decided; `divert` is what a diversion leads to
-abbrev pub on_turn : (divert : Option Service → DueDiversion → Call → Desk → Step) → Site → (at : ℕ) → Leg → Option Service → (cause : Option ℕ) → Target → Turn →
-    Call → Desk → Step
-on_turn divert site at caller service cause target (TurnOffer peer waiting) c desk = offer site at caller service waiting (aim_at c.opening peer cause target) c desk
-on_turn divert site at caller service cause target (TurnDivert due) c desk = divert service due (passed_by at service c) desk
-on_turn divert site at caller service cause target (TurnRefuse why) c desk = refused site at caller why (passed_by at service c) desk
+abbrev pub on_next_step : (divert : Option Service → DueDiversionView → Call → StepOutput → StepResult) → CallConfigView → (at : ℕ) → Leg → Option Service → (cause : Option ℕ) → Target → NextStepView →
+    Call → StepOutput → StepResult
+on_next_step divert config at caller service cause target (StepOffer peer waiting) c output = attempt_start config at caller service waiting (destination_of c.opening peer cause target) c output
+on_next_step divert config at caller service cause target (StepDivert due) c output = divert service due (with_unoffered_meter at service c) output
+on_next_step divert config at caller service cause target (StepRefuse why) c output = call_refusal config at caller why (with_unoffered_meter at service c) output
 
 -- where this account is served there, and this peer is the next hop
-abbrev pub where_served : (divert : Option Service → DueDiversion → Call → Desk → Step) → Site → Standing → Leg → Option Service → Option Peer → (cause : Option ℕ) →
-    Target → Call → Desk → Step
-where_served divert site now caller service peer cause target c desk =
-    on_turn divert site now.at caller service cause target (decided_at site now c.opening (is_diverted c) cause target service peer) c desk
+abbrev pub at_served_target : (divert : Option Service → DueDiversionView → Call → StepOutput → StepResult) → CallConfigView → SnapshotView → Leg → Option Service → Option Peer → (cause : Option ℕ) →
+    Target → Call → StepOutput → StepResult
+at_served_target divert config now caller service peer cause target c output =
+    on_next_step divert config now.at caller service cause target (decision_at config now c.opening (is_diverted c) cause target service peer) c output
 
-abbrev pub at_target : (divert : Option Service → DueDiversion → Call → Desk → Step) → Site → Standing → Leg → (cause : Option ℕ) → Target → Call → Desk → Step
-at_target divert site now caller cause target c desk =
-    where_served divert site now caller (service_at site now c.opening cause target) (peer_for site c.opening target) cause target c desk
+abbrev pub at_target : (divert : Option Service → DueDiversionView → Call → StepOutput → StepResult) → CallConfigView → SnapshotView → Leg → (cause : Option ℕ) → Target → Call → StepOutput → StepResult
+at_target divert config now caller cause target c output =
+    at_served_target divert config now caller (service_at config now c.opening cause target) (peer_for config c.opening target) cause target c output
 
 -- a diversion is made, after which this many are left, and the caller is notified of it; `onward` is what is done at the new target
-abbrev pub made : (onward : Call → Desk → Step) → Site → Target → (at left : ℕ) → Option Service → DueDiversion → Call → Desk → Step
-made onward site target at left service due c desk = onward (diverted target at left service due c) (told_of site due (diverted target at left service due c) desk)
+abbrev pub diversion_step : (onward : Call → StepOutput → StepResult) → CallConfigView → Target → (at left : ℕ) → Option Service → DueDiversionView → Call → StepOutput → StepResult
+diversion_step onward config target at left service due c output = onward (call_after_diversion target at left service due c) (with_notification_of config due (call_after_diversion target at left service due c) output)
 
 -- a diversion that is due, where the configured bound leaves this many: it is made, unless a cause refuses it, and the call reaches the next target; where none is left, the bound
 -- refuses it
-unfoldable pub divert : (left : ℕ) → Site → Standing → Leg → Option Service → DueDiversion → Call → Desk → Step
-divert zero site now caller service due c desk =
-    made_unless (refusal_by 0 site now.at service due c) (refused site now.at caller (too_many due.cause)) site now.at caller c desk
-divert (suc left) site now caller service due c desk =
-    made_unless (refusal_by (suc left) site now.at service due c)
-    (made (at_target (divert left site now caller) site now caller (Some due.cause) (target_of site due)) site (target_of site due) now.at left service due)
-    site now.at caller c desk
+unfoldable pub divert : (left : ℕ) → CallConfigView → SnapshotView → Leg → Option Service → DueDiversionView → Call → StepOutput → StepResult
+divert zero config now caller service due c output =
+    diversion_unless_refused (diversion_refusal 0 config now.at service due c) (call_refusal config now.at caller (too_many due.cause)) config now.at caller c output
+divert (suc left) config now caller service due c output =
+    diversion_unless_refused (diversion_refusal (suc left) config now.at service due c)
+    (diversion_step (at_target (divert left config now caller) config now caller (Some due.cause) (diversion_target config due)) config (diversion_target config due) now.at left service due)
+    config now.at caller c output
 
 -- the call reaches a target
-abbrev pub reach : Site → Standing → Leg → (cause : Option ℕ) → Target → Call → Desk → Step
-reach site now caller cause target c desk = at_target (divert c.diversions.left site now caller) site now caller cause target c desk
+abbrev pub reach : CallConfigView → SnapshotView → Leg → (cause : Option ℕ) → Target → Call → StepOutput → StepResult
+reach config now caller cause target c output = at_target (divert c.diversions.remaining config now caller) config now caller cause target c output
 
 -- ---- after an attempt
 
 -- by what was decided; a final response that was received may be relayed; after an answer there is no further target
-abbrev pub on_end : Site → Standing → Leg → Option Service → Option Said → AfterEnd → Call → Desk → Step
-on_end site now caller service m EndAnswered c desk = over now.at causes.Ended caller.meter None c desk
-on_end site now caller service m (EndDivert due) c desk = divert c.diversions.left site now caller service due c desk
-on_end site now caller service m (EndRefuse cause) c desk = refused_by site now.at caller service m cause c desk
+abbrev pub on_end : CallConfigView → SnapshotView → Leg → Option Service → Option MessageView → StepAfterAttemptView → Call → StepOutput → StepResult
+on_end config now caller service m EndAnswered c output = call_end now.at causes.Ended caller.meter None c output
+on_end config now caller service m (EndDivert due) c output = divert c.diversions.remaining config now caller service due c output
+on_end config now caller service m (EndRefuse cause) c output = relayed_refusal config now.at caller service m cause c output
 
 -- the attempt ended in this way, and its meter is added to the past ones
-abbrev pub goes_on : Site → Standing → Trial → End → Option Said → Call → Desk → Step
-goes_on site now x how m c desk =
-    on_end site now x.caller x.attempt.service m (decided_after c.opening now.at (is_diverted c) x.attempt.service how) (with_past x.callee.leg.meter c) desk
+abbrev pub after_attempt : CallConfigView → SnapshotView → OfferedAttempt → AttemptEndView → Option MessageView → Call → StepOutput → StepResult
+after_attempt config now x how m c output =
+    on_end config now x.caller x.attempt.service m (decision_after c.opening now.at (is_diverted c) x.attempt.service how) (with_past x.callee.leg.meter c) output

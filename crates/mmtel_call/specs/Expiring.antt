@@ -1,15 +1,15 @@
 -- The session of an answered call that nobody refreshes (RFC 4028 §10): the call ends, with a BYE to both sides.
 use Rattle.std.specs.Prelude.{ℕ, ◌==◌, Bool, false}
-use Rattle.mmtel_desk.specs.declared.desks.Desk.{Desk}
+use Rattle.mmtel_output.specs.declared.outputs.StepOutput.{StepOutput}
 use Rattle.mmtel_transaction.specs.declared.words.DueWord.{DueWord}
 use Rattle.mmtel_transaction.specs.declared.words.DueWord.TheVariants as due
 use Rattle.mmtel_types.specs.declared.sides.Side.{Side}
-use Rattle.mmtel_call_decisions.specs.Site.{Site}
-use Rattle.mmtel_call.specs.Calls.{Call, Pair, Reinvite}
-use Rattle.mmtel_call.specs.Closing.{Step, over_stood}
-use Rattle.mmtel_call.specs.Reinvites.{bye_to_both, loose_across}
-use Rattle.mmtel_call.specs.Ringing.{with_loose}
-use Rattle.mmtel_call.specs.Sending.{replied_to}
+use Rattle.mmtel_call_services.specs.CallConfig.{CallConfigView}
+use Rattle.mmtel_call.specs.Calls.{Call, EstablishedLegs, Reinvite}
+use Rattle.mmtel_call.specs.Closing.{StepResult, established_call_end}
+use Rattle.mmtel_call.specs.Reinvites.{abandoned_across, with_byes}
+use Rattle.mmtel_call.specs.Ringing.{with_abandoned}
+use Rattle.mmtel_call.specs.Sending.{with_status_to}
 
 -- whether the deadline is that of the session which the last 2xx set, by the number of 2xx that were relayed to a side: an earlier deadline is superseded, also where the last 2xx
 -- sets none
@@ -21,10 +21,10 @@ is_expiry successes (due.NoAck number) = false
 is_expiry successes (due.Expired number) = number == successes
 
 -- of a stable call: BYE to both
-abbrev pub expired : Site → (at : ℕ) → Pair → Call → Desk → Step
-expired site at x c desk = over_stood at x c (bye_to_both site x desk)
+abbrev pub after_expiry : CallConfigView → (at : ℕ) → EstablishedLegs → Call → StepOutput → StepResult
+after_expiry config at x c output = established_call_end at x c (with_byes config x output)
 
 -- while an INVITE has no final response: 487 to it, BYE to both. The INVITE is abandoned, and the other side has got its BYE, so a late 2xx needs no other
-abbrev pub expired_asking : Site → (at : ℕ) → Pair → (asking : Side) → Reinvite → Call → Desk → Step
-expired_asking site at x asking q c desk =
-    over_stood at x (with_loose (loose_across x asking asking q) c) (bye_to_both site x (replied_to site c q.key q.request 487 desk))
+abbrev pub after_expiry_reinviting : CallConfigView → (at : ℕ) → EstablishedLegs → (asking : Side) → Reinvite → Call → StepOutput → StepResult
+after_expiry_reinviting config at x asking q c output =
+    established_call_end at x (with_abandoned (abandoned_across x asking asking q) c) (with_byes config x (with_status_to config c q.key q.request 487 output))

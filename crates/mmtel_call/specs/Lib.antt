@@ -1,11 +1,11 @@
 -- What public clauses cite: a call and the input of its steps, how it opens, and its step table.
-pub mod Tried
+pub mod AttemptLeg
 pub mod Calls
 pub mod Sending
 pub mod Closing
 pub mod Awaiting
-pub mod Flights
-pub mod Offering
+pub mod RelayedTransactions
+pub mod AttemptStarts
 pub mod Diverting
 pub mod Opening
 pub mod Requests
@@ -16,10 +16,10 @@ pub mod Updates
 pub mod Reinvites
 pub mod Expiring
 pub mod Stages
-pub mod Leaving
+pub mod OtherRequests
 pub mod Dismissal
 pub mod Table
 pub mod Settled
-pub mod Lending
+pub mod Detaching
 
 -- What private functions alone cite: nothing.

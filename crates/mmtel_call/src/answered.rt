@@ -1,33 +1,33 @@
 //! An answered call: a 2xx waits for its ACK, the call is stable, or a side leaves.
 ghost use Rattle.std.specs.Prelude.{◌≡◌, IfOk, OnOk, Some, codes, map};
-ghost use Rattle.mmtel_desk.specs.Desks.{token};
-ghost use Rattle.mmtel_desk.specs.Sending.{acked, acked_for, asked_for, relayed_ack_text};
-ghost use Rattle.mmtel_types.specs.Sides.{other_of};
+ghost use Rattle.mmtel_output.specs.Outputs.{token};
+ghost use Rattle.mmtel_output.specs.Sending.{relayed_ack_text, with_ack, with_relayed_ack, with_relayed_request};
+ghost use Rattle.mmtel_types.specs.Sides.{other_side};
 ghost use Rattle.mmtel_types.specs.declared.causes.Cause.TheVariants.{Ended as HasEnded};
-ghost use Rattle.mmtel_call_decisions.specs.Requests.{is_same_side};
-ghost use Rattle.mmtel_call.specs.Answered.{acked_across, acked_and_left, acknowledges, bye_across, bye_before_ack, bye_to, is_due, keeps_ack, leg_of, parted};
-ghost use Rattle.mmtel_call.specs.Answered.{shown_across, unacknowledged, with_ack};
+ghost use Rattle.mmtel_call_services.specs.Requests.{is_same_side};
+ghost use Rattle.mmtel_call.specs.Answered.{acknowledges, after_ack_across, after_bye_across, after_bye_before_ack, after_departure, call_with_kept_ack, is_due, leg_of, with_ack_and_bye, with_bye_to};
+ghost use Rattle.mmtel_call.specs.Answered.{after_ack_timeout, copied_across, with_kept_ack};
 ghost use Rattle.mmtel_call.specs.Calls.{Over};
-ghost use Rattle.mmtel_call.specs.Closing.{over_stood};
+ghost use Rattle.mmtel_call.specs.Closing.{established_call_end};
 
-use crate::calls::{Call, Pair, Phase, Stage, Success, Taken};
-use crate::context::Step;
-use mmtel_answers::{Hearing, number_of};
-use mmtel_call_decisions::{is_ack_of, is_same_side};
-use mmtel_desk::{Desk, file};
+use crate::calls::{AnsweredInvite, Call, EstablishedLegs, Phase, Stage, Success};
+use crate::context::StepContext;
+use mmtel_base::{List, NoMemory, Text};
+use mmtel_call_services::{is_ack_of, is_same_side};
+use mmtel_compose::{ReceivedMessage, number_of};
 use mmtel_leg::Ended;
 use mmtel_message::Line;
-use mmtel_scan::{List, NoMemory, Text};
+use mmtel_output::{StepOutput, push_item};
 use mmtel_transaction::DueWord;
 use mmtel_types::{Cause, Peer, Side};
 use std::alloc::Global;
 use std::mem;
 
 /// Whether an ACK of this side belongs to the 2xx.
-pub fn acknowledges(waiting: Side, success: &Success, side: Side, m: &Hearing) -> bool
-    ensures { result ≡ acknowledges waiting success.now side m.now }
+pub fn acknowledges(waiting: Side, success: &Success, side: Side, message: &ReceivedMessage) -> bool
+    ensures { result ≡ acknowledges waiting success.now side message.now }
 {
-    is_ack_of(waiting, success.cseq, side, number_of(m))
+    is_ack_of(waiting, success.cseq, side, number_of(message))
 }
 
 impl Success {
@@ -45,7 +45,7 @@ impl Success {
     }
 }
 
-impl Pair {
+impl EstablishedLegs {
     /// The peer of a side.
     pub fn peer_of(&self, side: Side) -> Peer
         ensures { result ≡ (leg_of side self.now).dialogue.peer }
@@ -57,138 +57,148 @@ impl Pair {
     }
 
     /// Sends a BYE of the server's own to a side.
-    pub fn bye_to(&mut self, step: &Step<'_>, side: Side, desk: &mut Desk) -> Result<(), NoMemory>
-        ensures done { OnOk result (desk.new ≡ bye_to step.now.setting.now self.old side desk.old) }
-        ensures other { leg_of (other_of side) self.new ≡ leg_of (other_of side) self.old }
+    pub fn send_bye_to(
+        &mut self,
+        step: &StepContext<'_>,
+        side: Side,
+        output: &mut StepOutput,
+    ) -> Result<(), NoMemory>
+        ensures done { OnOk result (output.new ≡ with_bye_to step.now.config.now self.old side output.old) }
+        ensures other { leg_of (other_side side) self.new ≡ leg_of (other_side side) self.old }
         ensures caller { self.new.caller.meter ≡ self.old.caller.meter }
         ensures callee { self.new.callee.meter ≡ self.old.callee.meter }
     {
         match side {
-            Side::Caller => desk.bye(step.alloc, step.sip(), &mut self.caller),
-            Side::Callee => desk.bye(step.alloc, step.sip(), &mut self.callee),
+            Side::Caller => output.send_bye(step.alloc, step.sip(), &mut self.caller),
+            Side::Callee => output.send_bye(step.alloc, step.sip(), &mut self.callee),
         }
     }
 
     /// Acknowledges the 2xx of a side by an ACK of the server's own.
-    fn acknowledge(&self, step: &Step<'_>, side: Side, desk: &mut Desk) -> Result<(), NoMemory>
-        ensures { OnOk result (desk.new ≡ acked step.now.setting.now.sip (leg_of side self.now).dialogue desk.old) }
+    fn acknowledge(
+        &self,
+        step: &StepContext<'_>,
+        side: Side,
+        output: &mut StepOutput,
+    ) -> Result<(), NoMemory>
+        ensures { OnOk result (output.new ≡ with_ack step.now.config.now.sip (leg_of side self.now).dialogue output.old) }
     {
         match side {
-            Side::Caller => desk.acknowledge(step.alloc, step.sip(), &self.caller),
-            Side::Callee => desk.acknowledge(step.alloc, step.sip(), &self.callee),
+            Side::Caller => output.acknowledge(step.alloc, step.sip(), &self.caller),
+            Side::Callee => output.acknowledge(step.alloc, step.sip(), &self.callee),
         }
     }
 
     /// Acknowledges the 2xx of a side, and sends a BYE to it.
     fn acknowledge_and_leave(
         &mut self,
-        step: &Step<'_>,
+        step: &StepContext<'_>,
         side: Side,
-        desk: &mut Desk,
+        output: &mut StepOutput,
     ) -> Result<(), NoMemory>
-        ensures done { OnOk result (desk.new ≡ acked_and_left step.now.setting.now self.old side desk.old) }
-        ensures other { leg_of (other_of side) self.new ≡ leg_of (other_of side) self.old }
+        ensures done { OnOk result (output.new ≡ with_ack_and_bye step.now.config.now self.old side output.old) }
+        ensures other { leg_of (other_side side) self.new ≡ leg_of (other_side side) self.old }
         ensures caller { self.new.caller.meter ≡ self.old.caller.meter }
         ensures callee { self.new.callee.meter ≡ self.old.callee.meter }
     {
-        self.acknowledge(step, side, desk)?;
-        self.bye_to(step, side, desk)
+        self.acknowledge(step, side, output)?;
+        self.send_bye_to(step, side, output)
     }
 
     /// Sends to a side the request of the other one, with these header fields. Returns its branch.
-    pub fn ask_for(
+    pub fn relay_request(
         &mut self,
-        step: &Step<'_>,
+        step: &StepContext<'_>,
         method: &[u8],
         side: Side,
         lines: &List<Line>,
-        m: &Hearing,
-        desk: &mut Desk,
+        message: &ReceivedMessage,
+        output: &mut StepOutput,
     ) -> Result<Text, NoMemory>
-        ensures branch { IfOk result (λ t. t ≡ token desk.old) }
-        ensures done { OnOk result (desk.new
-            ≡ asked_for step.now.setting.now.sip method.now (leg_of side self.old).dialogue lines.now m.now.heard
-            desk.old) }
+        ensures branch { IfOk result (λ t. t ≡ token output.old) }
+        ensures done { OnOk result (output.new
+            ≡ with_relayed_request step.now.config.now.sip method.now (leg_of side self.old).dialogue lines.now message.now.parsed
+            output.old) }
         ensures caller { self.new.caller.meter ≡ self.old.caller.meter }
         ensures callee { self.new.callee.meter ≡ self.old.callee.meter }
     {
         match side {
-            Side::Caller => desk.ask_for(
+            Side::Caller => output.relay_request(
                 step.alloc,
                 step.sip(),
                 method,
                 &mut self.caller,
                 lines,
-                m,
+                message,
             ),
-            Side::Callee => desk.ask_for(
+            Side::Callee => output.relay_request(
                 step.alloc,
                 step.sip(),
                 method,
                 &mut self.callee,
                 lines,
-                m,
+                message,
             ),
         }
     }
 
     /// Sends to a side the ACK of the other one, with these header fields. Returns its text.
-    fn acknowledge_for(
+    fn relay_ack(
         &self,
-        step: &Step<'_>,
+        step: &StepContext<'_>,
         side: Side,
         lines: &List<Line>,
-        m: &Hearing,
-        desk: &mut Desk,
+        message: &ReceivedMessage,
+        output: &mut StepOutput,
     ) -> Result<Text, NoMemory>
         ensures text { IfOk result (λ t. t
-            ≡ relayed_ack_text step.now.setting.now.sip (leg_of side self.now).dialogue (token desk.old) lines.now
-            m.now.heard) }
-        ensures done { OnOk result (desk.new
-            ≡ acked_for step.now.setting.now.sip (leg_of side self.now).dialogue lines.now m.now.heard desk.old) }
+            ≡ relayed_ack_text step.now.config.now.sip (leg_of side self.now).dialogue (token output.old) lines.now
+            message.now.parsed) }
+        ensures done { OnOk result (output.new
+            ≡ with_relayed_ack step.now.config.now.sip (leg_of side self.now).dialogue lines.now message.now.parsed output.old) }
     {
         match side {
-            Side::Caller => desk.acknowledge_for(step.alloc, step.sip(), &self.caller, lines, m),
-            Side::Callee => desk.acknowledge_for(step.alloc, step.sip(), &self.callee, lines, m),
+            Side::Caller => output.relay_ack(step.alloc, step.sip(), &self.caller, lines, message),
+            Side::Callee => output.relay_ack(step.alloc, step.sip(), &self.callee, lines, message),
         }
     }
 }
 
-impl Taken {
+impl AnsweredInvite {
     /// Keeps the text of an ACK, if the INVITE has this branch.
     fn keep_ack(&mut self, alloc: Global, branch: &[u8], text: &Text) -> Result<(), NoMemory>
-        ensures { OnOk result (self.new ≡ with_ack branch.now text.now self.old) }
+        ensures { OnOk result (self.new ≡ with_kept_ack branch.now text.now self.old) }
     {
-        if self.invitation.branch.bytes() != branch {
+        if self.invite.branch.bytes() != branch {
             return Ok(());
         }
         let text = text.copied(alloc)?;
-        drop(self.invitation.ack.replace(text));
+        drop(self.invite.ack.replace(text));
         Ok(())
     }
 }
 
 /// Keeps it with each INVITE of this branch.
-fn with_acks(
+fn with_kept_acks(
     alloc: Global,
     branch: &[u8],
     text: &Text,
-    taken: List<Taken>,
-) -> Result<List<Taken>, NoMemory>
-    ensures { IfOk result (λ ts. ts ≡ map (with_ack branch.now text.now) taken) }
+    answered_invites: List<AnsweredInvite>,
+) -> Result<List<AnsweredInvite>, NoMemory>
+    ensures { IfOk result (λ ts. ts ≡ map (with_kept_ack branch.now text.now) answered_invites) }
 {
-    let mut rest = taken;
+    let mut rest = answered_invites;
     let mut kept = List::new();
-    'rest: while let Some(taken) = rest.pop_first() {
-        let mut taken = taken;
-        match taken.keep_ack(alloc, branch, text) {
+    'rest: while let Some(answered_invites) = rest.pop_first() {
+        let mut answered_invites = answered_invites;
+        match answered_invites.keep_ack(alloc, branch, text) {
             Err(error) => {
-                drop(taken);
+                drop(answered_invites);
                 drop(rest);
                 drop(kept);
                 return Err(error);
             }
-            Ok(()) => match file(alloc, &mut kept, taken) {
+            Ok(()) => match push_item(alloc, &mut kept, answered_invites) {
                 Ok(()) => {}
                 Err(error) => {
                     drop(rest);
@@ -204,86 +214,98 @@ fn with_acks(
 
 impl Call {
     /// The header fields of a side's message that are copied to the other side.
-    pub fn shown_across(
+    pub fn copied_across(
         &self,
-        step: &Step<'_>,
-        x: &Pair,
+        step: &StepContext<'_>,
+        legs: &EstablishedLegs,
         side: Side,
-        m: &Hearing,
+        message: &ReceivedMessage,
     ) -> Result<List<Line>, NoMemory>
-        ensures { IfOk result (λ ls. ls ≡ shown_across step.now.setting.now self.now x.now side m.now) }
+        ensures { IfOk result (λ ls. ls ≡ copied_across step.now.config.now self.now legs.now side message.now) }
     {
-        let peer = x.peer_of(side.other());
-        let service = x.service.as_ref();
+        let peer = legs.peer_of(side.other());
+        let service = legs.service.as_ref();
         let opening = &self.opening;
-        opening.shown_to(
+        opening.copied_lines(
             step.alloc,
-            step.setting,
+            step.config,
             &self.diversions,
             service,
             side,
             peer,
-            m,
+            message,
         )
     }
 
     /// Ends the call; both legs leave.
-    pub fn end_pair(&mut self, step: &Step<'_>, x: Pair, desk: &mut Desk) -> Result<(), NoMemory>
+    pub fn end_established(
+        &mut self,
+        step: &StepContext<'_>,
+        legs: EstablishedLegs,
+        output: &mut StepOutput,
+    ) -> Result<(), NoMemory>
         requires { self.old.phase ≡ Over HasEnded }
-        ensures call { OnOk result (self.new ≡ (over_stood step.now.present.at x self.old desk.old).call) }
-        ensures desk { OnOk result (desk.new ≡ (over_stood step.now.present.at x self.old desk.old).desk) }
+        ensures call { OnOk result (self.new ≡ (established_call_end step.now.snapshot.at legs self.old output.old).call) }
+        ensures output { OnOk result (output.new ≡ (established_call_end step.now.snapshot.at legs self.old output.old).output) }
     {
-        let Pair {
+        let EstablishedLegs {
             caller,
             callee,
             service,
-        } = x;
+        } = legs;
         drop(service);
         let Ended { meter: first } = caller.leave();
         let Ended { meter: last } = callee.leave();
-        self.close(step.alloc, step.present.at, Cause::Ended, first, last, desk)
+        self.close(
+            step.alloc,
+            step.snapshot.at,
+            Cause::Ended,
+            first,
+            last,
+            output,
+        )
     }
 
     /// The ACK did not arrive: ACK without body and BYE to the other side; BYE to this one.
     pub fn end_unacknowledged(
         &mut self,
-        step: &Step<'_>,
-        x: Pair,
+        step: &StepContext<'_>,
+        legs: EstablishedLegs,
         side: Side,
-        desk: &mut Desk,
+        output: &mut StepOutput,
     ) -> Result<(), NoMemory>
         requires { self.old.phase ≡ Over HasEnded }
         ensures call { OnOk result (self.new
-            ≡ (unacknowledged step.now.setting.now step.now.present.at x side self.old desk.old).call) }
-        ensures desk { OnOk result (desk.new
-            ≡ (unacknowledged step.now.setting.now step.now.present.at x side self.old desk.old).desk) }
+            ≡ (after_ack_timeout step.now.config.now step.now.snapshot.at legs side self.old output.old).call) }
+        ensures output { OnOk result (output.new
+            ≡ (after_ack_timeout step.now.config.now step.now.snapshot.at legs side self.old output.old).output) }
     {
-        let mut x = x;
-        let left = x.acknowledge_and_leave(step, side.other(), desk);
-        let left_too = x.bye_to(step, side, desk);
-        let closed = self.end_pair(step, x, desk);
+        let mut legs = legs;
+        let left = legs.acknowledge_and_leave(step, side.other(), output);
+        let left_too = legs.send_bye_to(step, side, output);
+        let closed = self.end_established(step, legs, output);
         left?;
         left_too?;
         closed
     }
 
     /// A departing call ends with the side for which it waited: BYE to it.
-    pub fn part(
+    pub fn end_departing(
         &mut self,
-        step: &Step<'_>,
-        x: Pair,
+        step: &StepContext<'_>,
+        legs: EstablishedLegs,
         side: Side,
-        desk: &mut Desk,
+        output: &mut StepOutput,
     ) -> Result<(), NoMemory>
         requires { self.old.phase ≡ Over HasEnded }
         ensures call { OnOk result (self.new
-            ≡ (parted step.now.setting.now step.now.present.at x side self.old desk.old).call) }
-        ensures desk { OnOk result (desk.new
-            ≡ (parted step.now.setting.now step.now.present.at x side self.old desk.old).desk) }
+            ≡ (after_departure step.now.config.now step.now.snapshot.at legs side self.old output.old).call) }
+        ensures output { OnOk result (output.new
+            ≡ (after_departure step.now.config.now step.now.snapshot.at legs side self.old output.old).output) }
     {
-        let mut x = x;
-        let left = x.bye_to(step, side, desk);
-        let closed = self.end_pair(step, x, desk);
+        let mut legs = legs;
+        let left = legs.send_bye_to(step, side, output);
+        let closed = self.end_established(step, legs, output);
         left?;
         closed
     }
@@ -291,66 +313,66 @@ impl Call {
     /// A side whose ACK is due leaves: ACK without body and BYE to the other side.
     fn end_before_ack(
         &mut self,
-        step: &Step<'_>,
-        x: Pair,
+        step: &StepContext<'_>,
+        legs: EstablishedLegs,
         side: Side,
-        desk: &mut Desk,
+        output: &mut StepOutput,
     ) -> Result<(), NoMemory>
         requires { self.old.phase ≡ Over HasEnded }
         ensures call { OnOk result (self.new
-            ≡ (over_stood step.now.present.at x self.old (acked_and_left step.now.setting.now x (other_of side)
-            desk.old)).call) }
-        ensures desk { OnOk result (desk.new
-            ≡ (over_stood step.now.present.at x self.old (acked_and_left step.now.setting.now x (other_of side)
-            desk.old)).desk) }
+            ≡ (established_call_end step.now.snapshot.at legs self.old (with_ack_and_bye step.now.config.now legs (other_side side)
+            output.old)).call) }
+        ensures output { OnOk result (output.new
+            ≡ (established_call_end step.now.snapshot.at legs self.old (with_ack_and_bye step.now.config.now legs (other_side side)
+            output.old)).output) }
     {
-        let mut x = x;
-        let left = x.acknowledge_and_leave(step, side.other(), desk);
-        let closed = self.end_pair(step, x, desk);
+        let mut legs = legs;
+        let left = legs.acknowledge_and_leave(step, side.other(), output);
+        let closed = self.end_established(step, legs, output);
         left?;
         closed
     }
 
     /// A BYE while an ACK is due.
-    pub fn bye_before_ack(
+    pub fn receive_bye_before_ack(
         &mut self,
-        step: &Step<'_>,
-        x: Pair,
+        step: &StepContext<'_>,
+        legs: EstablishedLegs,
         waiting: Side,
         success: Success,
         side: Side,
-        desk: &mut Desk,
+        output: &mut StepOutput,
     ) -> Result<(), NoMemory>
         requires { self.old.phase ≡ Over HasEnded }
         ensures call { OnOk result (self.new
-            ≡ (bye_before_ack step.now.setting.now step.now.present.at x waiting success side self.old desk.old).call) }
-        ensures desk { OnOk result (desk.new
-            ≡ (bye_before_ack step.now.setting.now step.now.present.at x waiting success side self.old desk.old).desk) }
+            ≡ (after_bye_before_ack step.now.config.now step.now.snapshot.at legs waiting success side self.old output.old).call) }
+        ensures output { OnOk result (output.new
+            ≡ (after_bye_before_ack step.now.config.now step.now.snapshot.at legs waiting success side self.old output.old).output) }
     {
         if is_same_side(waiting, side) {
-            return self.end_before_ack(step, x, side, desk);
+            return self.end_before_ack(step, legs, side, output);
         }
-        self.put_phase(Phase::Stood(x, Stage::Parting(waiting, success)));
+        self.put_phase(Phase::Established(legs, Stage::Departing(waiting, success)));
         Ok(())
     }
 
     /// Relays the BYE of a side of a stable call to the other side.
     fn pass_bye(
         &self,
-        step: &Step<'_>,
-        x: &mut Pair,
+        step: &StepContext<'_>,
+        legs: &mut EstablishedLegs,
         side: Side,
-        m: &Hearing,
-        desk: &mut Desk,
+        message: &ReceivedMessage,
+        output: &mut StepOutput,
     ) -> Result<(), NoMemory>
-        ensures done { OnOk result (desk.new
-            ≡ asked_for step.now.setting.now.sip (codes "BYE") (leg_of (other_of side) x.old).dialogue
-            (shown_across step.now.setting.now self.now x.old side m.now) m.now.heard desk.old) }
-        ensures caller { x.new.caller.meter ≡ x.old.caller.meter }
-        ensures callee { x.new.callee.meter ≡ x.old.callee.meter }
+        ensures done { OnOk result (output.new
+            ≡ with_relayed_request step.now.config.now.sip (codes "BYE") (leg_of (other_side side) legs.old).dialogue
+            (copied_across step.now.config.now self.now legs.old side message.now) message.now.parsed output.old) }
+        ensures caller { legs.new.caller.meter ≡ legs.old.caller.meter }
+        ensures callee { legs.new.callee.meter ≡ legs.old.callee.meter }
     {
-        let lines = self.shown_across(step, x, side, m)?;
-        let asked = x.ask_for(step, b"BYE", side.other(), &lines, m, desk);
+        let lines = self.copied_across(step, legs, side, message)?;
+        let asked = legs.relay_request(step, b"BYE", side.other(), &lines, message, output);
         drop(lines);
         match asked {
             Ok(branch) => {
@@ -362,56 +384,56 @@ impl Call {
     }
 
     /// A side of a stable call leaves, and the call is over.
-    pub fn bye_across(
+    pub fn receive_bye_across(
         &mut self,
-        step: &Step<'_>,
-        x: Pair,
+        step: &StepContext<'_>,
+        legs: EstablishedLegs,
         side: Side,
-        m: &Hearing,
-        desk: &mut Desk,
+        message: &ReceivedMessage,
+        output: &mut StepOutput,
     ) -> Result<(), NoMemory>
         requires { self.old.phase ≡ Over HasEnded }
         ensures call { OnOk result (self.new
-            ≡ (bye_across step.now.setting.now step.now.present.at x side m.now self.old desk.old).call) }
-        ensures desk { OnOk result (desk.new
-            ≡ (bye_across step.now.setting.now step.now.present.at x side m.now self.old desk.old).desk) }
+            ≡ (after_bye_across step.now.config.now step.now.snapshot.at legs side message.now self.old output.old).call) }
+        ensures output { OnOk result (output.new
+            ≡ (after_bye_across step.now.config.now step.now.snapshot.at legs side message.now self.old output.old).output) }
     {
-        let mut x = x;
-        let passed = self.pass_bye(step, &mut x, side, m, desk);
-        let closed = self.end_pair(step, x, desk);
+        let mut legs = legs;
+        let passed = self.pass_bye(step, &mut legs, side, message, output);
+        let closed = self.end_established(step, legs, output);
         passed?;
         closed
     }
 
     /// Keeps the text of the ACK for the INVITE of this branch.
     fn keep_ack(&mut self, alloc: Global, branch: &[u8], text: &Text) -> Result<(), NoMemory>
-        ensures done { OnOk result (self.new ≡ keeps_ack branch.now text.now self.old) }
+        ensures done { OnOk result (self.new ≡ call_with_kept_ack branch.now text.now self.old) }
         ensures phase { self.new.phase ≡ self.old.phase }
     {
-        let taken = mem::replace(&mut self.taken, List::new());
-        let taken = with_acks(alloc, branch, text, taken)?;
-        drop(mem::replace(&mut self.taken, taken));
+        let taken = mem::replace(&mut self.answered_invites, List::new());
+        let taken = with_kept_acks(alloc, branch, text, taken)?;
+        drop(mem::replace(&mut self.answered_invites, taken));
         Ok(())
     }
 
     /// Relays the ACK of a side to the other side. Returns its text.
     fn pass_ack(
         &self,
-        step: &Step<'_>,
-        x: &Pair,
+        step: &StepContext<'_>,
+        legs: &EstablishedLegs,
         side: Side,
-        m: &Hearing,
-        desk: &mut Desk,
+        message: &ReceivedMessage,
+        output: &mut StepOutput,
     ) -> Result<Text, NoMemory>
         ensures text { IfOk result (λ t. t
-            ≡ relayed_ack_text step.now.setting.now.sip (leg_of (other_of side) x.now).dialogue (token desk.old)
-            (shown_across step.now.setting.now self.now x.now side m.now) m.now.heard) }
-        ensures done { OnOk result (desk.new
-            ≡ acked_for step.now.setting.now.sip (leg_of (other_of side) x.now).dialogue
-            (shown_across step.now.setting.now self.now x.now side m.now) m.now.heard desk.old) }
+            ≡ relayed_ack_text step.now.config.now.sip (leg_of (other_side side) legs.now).dialogue (token output.old)
+            (copied_across step.now.config.now self.now legs.now side message.now) message.now.parsed) }
+        ensures done { OnOk result (output.new
+            ≡ with_relayed_ack step.now.config.now.sip (leg_of (other_side side) legs.now).dialogue
+            (copied_across step.now.config.now self.now legs.now side message.now) message.now.parsed output.old) }
     {
-        let lines = self.shown_across(step, x, side, m)?;
-        let acked = x.acknowledge_for(step, side.other(), &lines, m, desk);
+        let lines = self.copied_across(step, legs, side, message)?;
+        let acked = legs.relay_ack(step, side.other(), &lines, message, output);
         drop(lines);
         acked
     }
@@ -419,21 +441,21 @@ impl Call {
     /// The ACK of the 2xx arrived, and the call is stable.
     pub fn acknowledge_across(
         &mut self,
-        step: &Step<'_>,
-        x: Pair,
+        step: &StepContext<'_>,
+        legs: EstablishedLegs,
         side: Side,
         success: &Success,
-        m: &Hearing,
-        desk: &mut Desk,
+        message: &ReceivedMessage,
+        output: &mut StepOutput,
     ) -> Result<(), NoMemory>
         requires { self.old.phase ≡ Over HasEnded }
         ensures call { OnOk result (self.new
-            ≡ (acked_across step.now.setting.now x side success.now m.now self.old desk.old).call) }
-        ensures desk { OnOk result (desk.new
-            ≡ (acked_across step.now.setting.now x side success.now m.now self.old desk.old).desk) }
+            ≡ (after_ack_across step.now.config.now legs side success.now message.now self.old output.old).call) }
+        ensures output { OnOk result (output.new
+            ≡ (after_ack_across step.now.config.now legs side success.now message.now self.old output.old).output) }
     {
-        let passed = self.pass_ack(step, &x, side, m, desk);
-        self.put_phase(Phase::Stood(x, Stage::Talking));
+        let passed = self.pass_ack(step, &legs, side, message, output);
+        self.put_phase(Phase::Established(legs, Stage::Stable));
         let text = passed?;
         self.keep_ack(step.alloc, success.branch.bytes(), &text)
     }

@@ -1,13 +1,13 @@
 //! What is kept of a call. Everything private has fields of its own: the header fields, the History-Info and the redirect of a received message, the identities of the caller, the
 //! list of the diversions, and remote and target of a dialog. Everything else is public.
 
-use mmtel_answers::Hearing;
-use mmtel_call_decisions::{Diversions, Opening, Service};
+use mmtel_base::{List, Text};
+use mmtel_call_services::{Diversions, Opening, Service};
 use mmtel_charging::Meter;
-use mmtel_desk::{Invitation, Loose};
+use mmtel_compose::ReceivedMessage;
 use mmtel_leg::{Asked, CalleeLeg, CallerLeg, Early, Released, Standing};
+use mmtel_output::{AbandonedInvite, SentInvite};
 use mmtel_reliable::Acks;
-use mmtel_scan::{List, Text};
 use mmtel_transaction::TKey;
 use mmtel_types::{Cause, Moment, Side};
 use mmtel_waiting::HoldState;
@@ -23,11 +23,11 @@ pub struct Attempt {
     /// Whether a 180 to 183 was relayed.
     pub rang: bool,
     /// Its INVITE.
-    pub invitation: Invitation,
+    pub invite: SentInvite,
 }
 
 /// The leg of an attempt that has no final response. It must be spent.
-pub enum TriedLeg {
+pub enum AttemptLegState {
     /// No response established an early dialog.
     Asked(CalleeLeg<Asked>),
     /// A response established one (RFC 3261 §12.1).
@@ -35,31 +35,31 @@ pub enum TriedLeg {
 }
 
 /// The same, in the form that contracts use. It must be spent.
-pub struct Tried {
+pub struct AttemptLeg {
     /// The leg.
-    pub leg: TriedLeg,
+    pub leg: AttemptLegState,
 }
 
-impl Model for Tried {
-    ghost use Rattle.mmtel_call.specs.Tried.{TriedView, tried_view};
+impl Model for AttemptLeg {
+    ghost use Rattle.mmtel_call.specs.AttemptLeg.{AttemptLegView, attempt_leg_view};
 
-    ghost Value = { TriedView };
+    ghost Value = { AttemptLegView };
 
-    ghost view = { λ t. tried_view t.leg };
+    ghost view = { λ t. attempt_leg_view t.leg };
 }
 
 /// A call that is offered to a target and not answered. It must be spent.
-pub struct Trial {
+pub struct OfferedAttempt {
     /// The caller's leg, which is confirmed from the opening on.
     pub caller: CallerLeg<Standing>,
     /// The target's leg.
-    pub callee: Tried,
+    pub callee: AttemptLeg,
     /// The attempt.
     pub attempt: Attempt,
 }
 
 /// Both sides of a call that was answered. It must be spent.
-pub struct Pair {
+pub struct EstablishedLegs {
     /// The caller's leg.
     pub caller: CallerLeg<Standing>,
     /// The leg of the target that answered.
@@ -85,16 +85,16 @@ pub struct Reinvite {
     /// Its server transaction.
     pub key: TKey,
     /// The INVITE as it was received.
-    pub request: Hearing,
+    pub request: ReceivedMessage,
     /// The INVITE to the other side.
-    pub invitation: Invitation,
+    pub invite: SentInvite,
     /// Whether it was cancelled, and its CANCEL waits for a provisional response (RFC 3261 §9.1).
     pub cancel_due: bool,
 }
 
 /// Requests of a side that a call relays beside INVITEs.
 #[derive(Clone, Copy, Debug, PartialEq, Eq)]
-pub enum FlightKind {
+pub enum RelayedKind {
     /// A PRACK of the caller (RFC 3262).
     Prack,
     /// An UPDATE (RFC 3311).
@@ -103,13 +103,13 @@ pub enum FlightKind {
 
 /// A request of a side that is in flight: it was relayed to the other one, and has no final response.
 #[derive(Drop)]
-pub struct Flight {
+pub struct RelayedTransaction {
     /// Its kind.
-    pub kind: FlightKind,
+    pub kind: RelayedKind,
     /// The side that sent it.
     pub side: Side,
     /// The request, and the form in which it was relayed.
-    pub asked: Reinvite,
+    pub exchange: Reinvite,
 }
 
 /// The state of an answered call.
@@ -118,17 +118,17 @@ pub enum Stage {
     /// A 2xx was relayed to this side, and its ACK is due.
     Answered(Side, Success),
     /// The same, and the other side has left.
-    Parting(Side, Success),
+    Departing(Side, Success),
     /// No request is pending.
-    Talking,
+    Stable,
     /// An INVITE of this side was relayed to the other one.
-    Asking(Side, Reinvite),
+    Reinviting(Side, Reinvite),
 }
 
 /// A stable call of which one leg is detached. It must be spent.
-pub struct Loan {
+pub struct DetachedLeg {
     /// The remaining leg.
-    pub left: Released,
+    pub remaining: Released,
     /// The meter of the detached leg.
     pub meter: Option<Meter>,
     /// The account that is served as the target; None if none is.
@@ -138,24 +138,24 @@ pub struct Loan {
 /// The phase of a call. It must be spent.
 pub enum Phase {
     /// It is offered, and rings or not.
-    Offered(Trial),
+    Offered(OfferedAttempt),
     /// It was answered.
-    Stood(Pair, Stage),
+    Established(EstablishedLegs, Stage),
     /// A leg of it is detached.
-    Lent(Loan),
+    Detached(DetachedLeg),
     /// It is over, with this cause; no leg is left.
     Over(Cause),
 }
 
 /// An INVITE that had a 2xx, as long as that 2xx may be retransmitted.
 #[derive(Drop)]
-pub struct Taken {
+pub struct AnsweredInvite {
     /// The INVITE.
-    pub invitation: Invitation,
+    pub invite: SentInvite,
     /// The tag of the dialog that its 2xx established.
     pub tag: Text,
     /// Whether it was sent within a confirmed dialog.
-    pub within: bool,
+    pub in_dialog: bool,
 }
 
 /// A call. It must be spent.
@@ -175,13 +175,13 @@ pub struct Call {
     /// The reliable responses that were relayed to the caller.
     pub acks: Acks,
     /// The requests that are in flight, in the order in which they were relayed.
-    pub flights: List<Flight>,
+    pub relayed: List<RelayedTransaction>,
     /// The meters of past parts, in the order begun; the others run in the legs.
     pub past: List<Meter>,
     /// The INVITEs that were abandoned before they had a final response.
-    pub loose: List<Loose>,
+    pub abandoned: List<AbandonedInvite>,
     /// The INVITEs that had a 2xx.
-    pub taken: List<Taken>,
+    pub answered_invites: List<AnsweredInvite>,
     /// Its phase.
     pub phase: Phase,
 }

@@ -3,14 +3,14 @@ ghost use Rattle.std.specs.Prelude.{◌≡◌, OnErr, OnOk};
 ghost use Rattle.std.specs.Option.{option_copied};
 ghost use Rattle.mmtel_types.specs.declared.causes.Cause.TheVariants.{Ended as HasEnded};
 ghost use Rattle.mmtel_call.specs.Calls.{Over};
-ghost use Rattle.mmtel_call.specs.Closing.{meter_for, meter_of, over, with_past};
+ghost use Rattle.mmtel_call.specs.Closing.{call_end, meter_for, meter_of, with_past};
 
 use crate::calls::{Call, Phase};
-use crate::context::Step;
-use mmtel_call_decisions::{Ending, Service, cause_by, file_rows};
+use crate::context::StepContext;
+use mmtel_base::{List, NoMemory};
+use mmtel_call_services::{Ending, Service, append_charging_records, cause_by};
 use mmtel_charging::{Kind, Meter};
-use mmtel_desk::Desk;
-use mmtel_scan::{List, NoMemory};
+use mmtel_output::StepOutput;
 use mmtel_types::{Account, Cause, Moment};
 use std::alloc::Global;
 use std::mem;
@@ -65,7 +65,11 @@ impl Call {
     }
 
     /// Adds a meter to those of past parts. It is spent, also where memory runs out.
-    pub fn keep_meter(&mut self, step: &Step<'_>, meter: Option<Meter>) -> Result<(), NoMemory>
+    pub fn keep_meter(
+        &mut self,
+        step: &StepContext<'_>,
+        meter: Option<Meter>,
+    ) -> Result<(), NoMemory>
         ensures kept { OnOk result (self.new ≡ with_past meter self.old) }
         ensures refused { OnErr result (self.new ≡ self.old) }
     {
@@ -74,7 +78,7 @@ impl Call {
             Some(meter) => match self.past.push(step.alloc, meter) {
                 Ok(()) => Ok(()),
                 Err((meter, error)) => {
-                    give_up_meter(Some(meter), step.present.at);
+                    give_up_meter(Some(meter), step.snapshot.at);
                     Err(error)
                 }
             },
@@ -89,11 +93,11 @@ impl Call {
         cause: Cause,
         first: Option<Meter>,
         last: Option<Meter>,
-        desk: &mut Desk,
+        output: &mut StepOutput,
     ) -> Result<(), NoMemory>
         requires { self.old.phase ≡ Over HasEnded }
-        ensures call { self.new ≡ (over at cause first last self.old desk.old).call }
-        ensures desk { OnOk result (desk.new ≡ (over at cause first last self.old desk.old).desk) }
+        ensures call { self.new ≡ (call_end at cause first last self.old output.old).call }
+        ensures output { OnOk result (output.new ≡ (call_end at cause first last self.old output.old).output) }
     {
         let end = Ending {
             answered: self.answered,
@@ -102,8 +106,8 @@ impl Call {
             cause: cause_by(self.answered, cause),
         };
         let past = mem::replace(&mut self.past, List::new());
-        drop(mem::replace(&mut self.flights, List::new()));
+        drop(mem::replace(&mut self.relayed, List::new()));
         self.put_phase(Phase::Over(end.cause));
-        file_rows(alloc, &mut desk.rows, past, first, last, &end)
+        append_charging_records(alloc, &mut output.rows, past, first, last, &end)
     }
 }

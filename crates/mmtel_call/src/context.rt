@@ -1,43 +1,47 @@
 //! The input of a step of a call, which it only reads.
 ghost use Rattle.std.specs.Prelude.{◌≡◌};
 
-use mmtel_call_decisions::{Present, Setting};
+use mmtel_call_services::{CallConfig, Snapshot};
 use mmtel_types::Addr;
 use std::alloc::Global;
 
 /// The input of a step of a call, which is passed on unchanged: the allocator, the server's configuration, and the current state.
 #[derive(Clone, Copy)]
-pub struct Step<'a> {
+pub struct StepContext<'a> {
     /// The allocator.
     pub alloc: Global,
     /// The server's configuration.
-    pub setting: &'a Setting<'a>,
+    pub config: &'a CallConfig<'a>,
     /// The moment, the records in force and the live calls.
-    pub present: Present<'a>,
+    pub snapshot: Snapshot<'a>,
 }
 
-impl<'a> Step<'a> {
+impl<'a> StepContext<'a> {
     /// The input of a step, as one value.
-    pub fn new(alloc: Global, setting: &'a Setting<'a>, present: &Present<'a>) -> Step<'a>
-        ensures setting { result.setting.now ≡ setting.now }
-        ensures present { result.present ≡ present.now }
+    pub fn new(
+        alloc: Global,
+        config: &'a CallConfig<'a>,
+        snapshot: &Snapshot<'a>,
+    ) -> StepContext<'a>
+        ensures setting { result.config.now ≡ config.now }
+        ensures present { result.snapshot ≡ snapshot.now }
     {
-        Step {
+        StepContext {
             alloc,
-            setting,
-            present: Present {
-                at: present.at,
-                sheets: present.sheets,
-                busy: present.busy,
+            config,
+            snapshot: Snapshot {
+                at: snapshot.at,
+                sheets: snapshot.sheets,
+                busy: snapshot.busy,
             },
         }
     }
 
     /// The server's address.
     pub fn sip(&self) -> Addr
-        ensures { result ≡ self.now.setting.now.sip }
+        ensures { result ≡ self.now.config.now.sip }
     {
-        let setting = self.setting;
+        let setting = self.config;
         setting.sip
     }
 }

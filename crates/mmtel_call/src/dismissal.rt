@@ -3,30 +3,30 @@
 ghost use Rattle.std.specs.Prelude.{◌≡◌, IfOk};
 ghost use Rattle.std.specs.Option.{option_copied};
 ghost use Rattle.mmtel_call.specs.Dismissal.{ends_by_bye, is_bye_in, is_in_order, leaves_by_bye, leaves_by_bye_at, leaves_on_ack, leaves_on_ack_at, leaves_on_cancel, leaves_on_due, leaves_on_request};
-ghost use Rattle.mmtel_call.specs.Dismissal.{leaves_on_silence, leaves_on_silence_at, leaves_on_status, leaves_on_status_at, leaves_on_time};
-ghost use Rattle.mmtel_call.specs.Table.{leaves, leaves_on_no_response, leaves_on_response};
+ghost use Rattle.mmtel_call.specs.Dismissal.{leaves_on_status, leaves_on_status_at, leaves_on_timeout, leaves_on_timeout_at, leaves_on_timer};
+ghost use Rattle.mmtel_call.specs.Table.{leaves, leaves_on_response, leaves_on_timeout_of};
 
 use crate::answered::acknowledges;
-use crate::calls::{Call, Pair, Phase, Stage, Trial};
+use crate::calls::{Call, EstablishedLegs, OfferedAttempt, Phase, Stage};
 use crate::reinvite_ends::ends_dialog;
 use crate::signals::Signal;
-use mmtel_answers::{Hearing, number_of, status_of};
-use mmtel_call_decisions::is_same_side;
-use mmtel_desk::{invite_answered, invite_silent};
+use mmtel_base::NoMemory;
+use mmtel_call_services::is_same_side;
+use mmtel_compose::{ReceivedMessage, number_of, status_of};
 use mmtel_leg::Dialogue;
 use mmtel_message::is_method;
-use mmtel_scan::NoMemory;
+use mmtel_output::{awaited_request_branch, timed_out_branch};
 use mmtel_transaction::{DueWord, TKey};
 use mmtel_types::Side;
 use std::alloc::Global;
 
 /// Whether a request is not older than the last one that was received in its dialog (RFC 3261 §12.2.2).
-fn is_in_order(dialogue: &Dialogue, m: &Hearing) -> bool
-    ensures { result ≡ is_in_order dialogue.now m.now }
+fn is_in_order(dialogue: &Dialogue, message: &ReceivedMessage) -> bool
+    ensures { result ≡ is_in_order dialogue.now message.now }
 {
-    match number_of(m) {
+    match number_of(message) {
         None => true,
-        Some(number) => match dialogue.last {
+        Some(number) => match dialogue.remote_cseq {
             None => true,
             Some(last) => number >= last,
         },
@@ -34,10 +34,10 @@ fn is_in_order(dialogue: &Dialogue, m: &Hearing) -> bool
 }
 
 /// Whether a request is a BYE that is accepted in this dialog.
-fn is_bye_in(dialogue: &Dialogue, m: &Hearing) -> bool
-    ensures { result ≡ is_bye_in dialogue.now m.now }
+fn is_bye_in(dialogue: &Dialogue, message: &ReceivedMessage) -> bool
+    ensures { result ≡ is_bye_in dialogue.now message.now }
 {
-    is_method(b"BYE", m.message.start()) && is_in_order(dialogue, m)
+    is_method(b"BYE", message.message.start()) && is_in_order(dialogue, message)
 }
 
 impl Stage {
@@ -45,17 +45,17 @@ impl Stage {
         ensures { result ≡ leaves_on_status_at self.now code }
     {
         match self {
-            Stage::Asking(_, _) => ends_dialog(code),
-            Stage::Answered(_, _) | Stage::Parting(_, _) | Stage::Talking => false,
+            Stage::Reinviting(_, _) => ends_dialog(code),
+            Stage::Answered(_, _) | Stage::Departing(_, _) | Stage::Stable => false,
         }
     }
 
-    fn leaves_on_silence(&self) -> bool
-        ensures { result ≡ leaves_on_silence_at self.now }
+    fn leaves_on_timeout(&self) -> bool
+        ensures { result ≡ leaves_on_timeout_at self.now }
     {
         match self {
-            Stage::Asking(_, _) => true,
-            Stage::Answered(_, _) | Stage::Parting(_, _) | Stage::Talking => false,
+            Stage::Reinviting(_, _) => true,
+            Stage::Answered(_, _) | Stage::Departing(_, _) | Stage::Stable => false,
         }
     }
 
@@ -65,39 +65,39 @@ impl Stage {
     {
         match self {
             Stage::Answered(waiting, _) => is_same_side(*waiting, side),
-            Stage::Parting(waiting, _) => is_same_side(*waiting, side),
-            Stage::Talking | Stage::Asking(_, _) => true,
+            Stage::Departing(waiting, _) => is_same_side(*waiting, side),
+            Stage::Stable | Stage::Reinviting(_, _) => true,
         }
     }
 
-    fn leaves_on_ack(&self, side: Side, m: &Hearing) -> bool
-        ensures { result ≡ leaves_on_ack_at self.now side m.now }
+    fn leaves_on_ack(&self, side: Side, message: &ReceivedMessage) -> bool
+        ensures { result ≡ leaves_on_ack_at self.now side message.now }
     {
         match self {
-            Stage::Parting(waiting, success) => acknowledges(*waiting, success, side, m),
-            Stage::Answered(_, _) | Stage::Talking | Stage::Asking(_, _) => false,
+            Stage::Departing(waiting, success) => acknowledges(*waiting, success, side, message),
+            Stage::Answered(_, _) | Stage::Stable | Stage::Reinviting(_, _) => false,
         }
     }
 }
 
-impl Trial {
+impl OfferedAttempt {
     /// Whether a request of a side is the BYE by which the caller abandons the call.
-    fn leaves_by_bye(&self, side: Side, m: &Hearing) -> bool
-        ensures { result ≡ leaves_by_bye self.now side m.now }
+    fn leaves_by_bye(&self, side: Side, message: &ReceivedMessage) -> bool
+        ensures { result ≡ leaves_by_bye self.now side message.now }
     {
         match side {
-            Side::Caller => is_bye_in(self.caller.dialogue(), m),
+            Side::Caller => is_bye_in(self.caller.dialogue(), message),
             Side::Callee => false,
         }
     }
 }
 
-impl Pair {
+impl EstablishedLegs {
     /// Whether a request of a side is the BYE that ends the call.
-    fn leaves_by_bye(&self, stage: &Stage, side: Side, m: &Hearing) -> bool
-        ensures { result ≡ leaves_by_bye_at stage.now self.now side m.now }
+    fn leaves_by_bye(&self, stage: &Stage, side: Side, message: &ReceivedMessage) -> bool
+        ensures { result ≡ leaves_by_bye_at stage.now self.now side message.now }
     {
-        is_bye_in(self.dialogue_of(side), m) && stage.ends_by_bye(side)
+        is_bye_in(self.dialogue_of(side), message) && stage.ends_by_bye(side)
     }
 }
 
@@ -108,40 +108,40 @@ impl Phase {
     {
         match self {
             Phase::Offered(_) => code >= 300,
-            Phase::Stood(_, stage) => stage.leaves_on_status(code),
-            Phase::Lent(_) | Phase::Over(_) => false,
+            Phase::Established(_, stage) => stage.leaves_on_status(code),
+            Phase::Detached(_) | Phase::Over(_) => false,
         }
     }
 
     /// Whether the timeout of that INVITE does.
-    fn leaves_on_silence(&self) -> bool
-        ensures { result ≡ leaves_on_silence self.now }
+    fn leaves_on_timeout(&self) -> bool
+        ensures { result ≡ leaves_on_timeout self.now }
     {
         match self {
             Phase::Offered(x) => !x.attempt.rang,
-            Phase::Stood(_, stage) => stage.leaves_on_silence(),
-            Phase::Lent(_) | Phase::Over(_) => false,
+            Phase::Established(_, stage) => stage.leaves_on_timeout(),
+            Phase::Detached(_) | Phase::Over(_) => false,
         }
     }
 
     /// Whether this request of a side does.
-    fn leaves_on_request(&self, side: Side, m: &Hearing) -> bool
-        ensures { result ≡ leaves_on_request self.now side m.now }
+    fn leaves_on_request(&self, side: Side, message: &ReceivedMessage) -> bool
+        ensures { result ≡ leaves_on_request self.now side message.now }
     {
         match self {
-            Phase::Offered(x) => x.leaves_by_bye(side, m),
-            Phase::Stood(x, stage) => x.leaves_by_bye(stage, side, m),
-            Phase::Lent(_) | Phase::Over(_) => false,
+            Phase::Offered(x) => x.leaves_by_bye(side, message),
+            Phase::Established(x, stage) => x.leaves_by_bye(stage, side, message),
+            Phase::Detached(_) | Phase::Over(_) => false,
         }
     }
 
     /// Whether this ACK of a side does.
-    fn leaves_on_ack(&self, side: Side, m: &Hearing) -> bool
-        ensures { result ≡ leaves_on_ack self.now side m.now }
+    fn leaves_on_ack(&self, side: Side, message: &ReceivedMessage) -> bool
+        ensures { result ≡ leaves_on_ack self.now side message.now }
     {
         match self {
-            Phase::Stood(_, stage) => stage.leaves_on_ack(side, m),
-            Phase::Offered(_) | Phase::Lent(_) | Phase::Over(_) => false,
+            Phase::Established(_, stage) => stage.leaves_on_ack(side, message),
+            Phase::Offered(_) | Phase::Detached(_) | Phase::Over(_) => false,
         }
     }
 }
@@ -153,16 +153,16 @@ impl Call {
     {
         match &self.phase {
             Phase::Offered(_) => invite.0 == self.opening.key.0,
-            Phase::Stood(_, _) | Phase::Lent(_) | Phase::Over(_) => false,
+            Phase::Established(_, _) | Phase::Detached(_) | Phase::Over(_) => false,
         }
     }
 
     /// Whether a deadline ends this attempt.
-    fn leaves_on_time(&self, x: &Trial, what: DueWord) -> bool
-        ensures { result ≡ leaves_on_time x.now what self.now }
+    fn leaves_on_timer(&self, offered: &OfferedAttempt, what: DueWord) -> bool
+        ensures { result ≡ leaves_on_timer offered.now what self.now }
     {
         match what {
-            DueWord::NoReply(number) | DueWord::Cap(number) => number == x.attempt.number,
+            DueWord::NoReply(number) | DueWord::Cap(number) => number == offered.attempt.number,
             DueWord::NoPrack(own) => self.acks.is_waiting(own),
             DueWord::NoAck(_) | DueWord::Expired(_) => false,
         }
@@ -173,32 +173,34 @@ impl Call {
         ensures { result ≡ leaves_on_due self.now.phase what self.now }
     {
         match &self.phase {
-            Phase::Offered(x) => self.leaves_on_time(x, what),
-            Phase::Stood(_, stage) => stage.is_due(self.successes, what),
-            Phase::Lent(_) | Phase::Over(_) => false,
+            Phase::Offered(x) => self.leaves_on_timer(x, what),
+            Phase::Established(_, stage) => stage.is_due(self.successes, what),
+            Phase::Detached(_) | Phase::Over(_) => false,
         }
     }
 
     /// Whether a response to the request of this branch does.
-    fn leaves_on_response(&self, branch: Option<&[u8]>, m: &Hearing) -> bool
-        ensures { result ≡ leaves_on_response (option_copied branch.entry) m.now self.now }
+    fn leaves_on_response(&self, branch: Option<&[u8]>, message: &ReceivedMessage) -> bool
+        ensures { result ≡ leaves_on_response (option_copied branch.entry) message.now self.now }
     {
         match branch {
             None => false,
             Some(branch) => {
                 self.phase.waits_on(branch)
-                    && self.phase.leaves_on_status(status_of(m.message.start()))
+                    && self
+                        .phase
+                        .leaves_on_status(status_of(message.message.start()))
             }
         }
     }
 
     /// Whether the timeout of the request of this branch does.
-    fn leaves_on_no_response(&self, branch: Option<&[u8]>) -> bool
-        ensures { result ≡ leaves_on_no_response (option_copied branch.entry) self.now }
+    fn leaves_on_timeout_of(&self, branch: Option<&[u8]>) -> bool
+        ensures { result ≡ leaves_on_timeout_of (option_copied branch.entry) self.now }
     {
         match branch {
             None => false,
-            Some(branch) => self.phase.waits_on(branch) && self.phase.leaves_on_silence(),
+            Some(branch) => self.phase.waits_on(branch) && self.phase.leaves_on_timeout(),
         }
     }
 
@@ -223,7 +225,7 @@ impl Call {
                 invite,
             } => Ok(self.leaves_on_cancel(*invite)),
             Signal::Answer { key: _, response } => {
-                let answered = invite_answered(alloc, response)?;
+                let answered = awaited_request_branch(alloc, response)?;
                 let branch = match &answered {
                     None => None,
                     Some(branch) => Some(branch.bytes()),
@@ -233,8 +235,8 @@ impl Call {
                 Ok(leaves)
             }
             Signal::Silent { branch, method } => {
-                let silent = invite_silent(branch.bytes(), method.bytes());
-                Ok(self.leaves_on_no_response(silent))
+                let silent = timed_out_branch(branch.bytes(), method.bytes());
+                Ok(self.leaves_on_timeout_of(silent))
             }
             Signal::Due { what } => Ok(self.leaves_on_due(*what)),
             Signal::Ended { key: _ } => Ok(false),

@@ -2,26 +2,26 @@
 ghost use Rattle.std.specs.Prelude.{◌≡◌, ◌-◌, ◌<◌, IfOk, None, Some, OnOk};
 ghost use Rattle.std.specs.Option.{option_copied};
 ghost use Rattle.mmtel_lex.specs.Grammar.{uri_text};
-ghost use Rattle.mmtel_precedence.specs.Told.{told_due, told_end, told_turn};
+ghost use Rattle.mmtel_precedence.specs.Views.{attempt_end_view, due_diversion_view, next_step_view};
 ghost use Rattle.mmtel_types.specs.declared.causes.Cause.TheVariants.{Ended as HasEnded};
-ghost use Rattle.mmtel_call_decisions.specs.Decisions.{decided_after, decided_at, peer_for, service_at, target_of};
-ghost use Rattle.mmtel_call_decisions.specs.Site.{standing};
+ghost use Rattle.mmtel_call_services.specs.Decisions.{decision_after, decision_at, diversion_target, peer_for, service_at};
+ghost use Rattle.mmtel_call_services.specs.CallConfig.{snapshot_of};
 ghost use Rattle.mmtel_call.specs.Calls.{Over};
-ghost use Rattle.mmtel_call.specs.Diverting.{at_target, divert, diverted, diverted_list, is_diverted, on_end, passed_by, refusal_by, refused, refused_by, told_of, where_served};
+ghost use Rattle.mmtel_call.specs.Diverting.{at_served_target, at_target, call_after_diversion, call_refusal, diversion_refusal, diversions_after, divert, is_diverted, on_end, relayed_refusal, with_notification_of, with_unoffered_meter};
 
 use crate::calls::Call;
 use crate::closing::meter_for;
-use crate::context::Step;
+use crate::context::StepContext;
 use crate::legs::give_up_caller;
-use mmtel_answers::{Hearing, status_of};
-use mmtel_call_decisions::{Service, is_handed_on};
+use mmtel_base::{NoMemory, Text};
+use mmtel_call_services::{Service, is_relayed_final};
 use mmtel_charging::Kind;
-use mmtel_desk::Desk;
+use mmtel_compose::{ReceivedMessage, status_of};
 use mmtel_leg::{CallerLeg, Ended, Standing, request_uri};
 use mmtel_lex::print_uri;
-use mmtel_precedence::{AfterEnding, AttemptEnd, Onward, Turn};
-use mmtel_scan::{NoMemory, Text};
-use mmtel_targets::Target;
+use mmtel_output::StepOutput;
+use mmtel_precedence::{AttemptEnd, DueDiversion, NextStep, StepAfterAttempt};
+use mmtel_served_user::Target;
 use mmtel_types::{Cause, Peer};
 use std::alloc::Global;
 
@@ -36,73 +36,73 @@ impl Call {
     /// Refuses the call by a final response of the server's own, which ends it.
     pub fn refuse(
         &mut self,
-        step: &Step<'_>,
+        step: &StepContext<'_>,
         caller: CallerLeg<Standing>,
         cause: Cause,
-        desk: &mut Desk,
+        output: &mut StepOutput,
     ) -> Result<(), NoMemory>
         requires { self.old.phase ≡ Over HasEnded }
         ensures call { OnOk result (self.new
-            ≡ (refused step.now.setting.now step.now.present.at caller cause self.old desk.old).call) }
-        ensures desk { OnOk result (desk.new
-            ≡ (refused step.now.setting.now step.now.present.at caller cause self.old desk.old).desk) }
+            ≡ (call_refusal step.now.config.now step.now.snapshot.at caller cause self.old output.old).call) }
+        ensures output { OnOk result (output.new
+            ≡ (call_refusal step.now.config.now step.now.snapshot.at caller cause self.old output.old).output) }
     {
-        let told = self.tell_caller(step, cause.status(), desk);
+        let told = self.respond_to_caller(step, cause.status(), output);
         let Ended { meter } = caller.leave();
-        let closed = self.close(step.alloc, step.present.at, cause, meter, None, desk);
+        let closed = self.close(step.alloc, step.snapshot.at, cause, meter, None, output);
         told?;
         closed
     }
 
     /// Relays a final response of the target to the caller, which ends the call; where the cause does not relay it, the response is the server's own.
-    fn hand_on(
+    fn relay_final(
         &mut self,
-        step: &Step<'_>,
+        step: &StepContext<'_>,
         caller: CallerLeg<Standing>,
         service: Option<&Service>,
-        response: &Hearing,
+        response: &ReceivedMessage,
         cause: Cause,
-        desk: &mut Desk,
+        output: &mut StepOutput,
     ) -> Result<(), NoMemory>
         requires { self.old.phase ≡ Over HasEnded }
         ensures call { OnOk result (self.new
-            ≡ (refused_by step.now.setting.now step.now.present.at caller (option_copied service.entry)
-            (Some response.now) cause self.old desk.old).call) }
-        ensures desk { OnOk result (desk.new
-            ≡ (refused_by step.now.setting.now step.now.present.at caller (option_copied service.entry)
-            (Some response.now) cause self.old desk.old).desk) }
+            ≡ (relayed_refusal step.now.config.now step.now.snapshot.at caller (option_copied service.entry)
+            (Some response.now) cause self.old output.old).call) }
+        ensures output { OnOk result (output.new
+            ≡ (relayed_refusal step.now.config.now step.now.snapshot.at caller (option_copied service.entry)
+            (Some response.now) cause self.old output.old).output) }
     {
-        if !is_handed_on(cause, status_of(response.message.start())) {
-            return self.refuse(step, caller, cause, desk);
+        if !is_relayed_final(cause, status_of(response.message.start())) {
+            return self.refuse(step, caller, cause, output);
         }
-        let relayed = self.relay_to_caller(step, service, response, desk);
+        let relayed = self.relay_to_caller(step, service, response, output);
         let Ended { meter } = caller.leave();
-        let closed = self.close(step.alloc, step.present.at, cause, meter, None, desk);
+        let closed = self.close(step.alloc, step.snapshot.at, cause, meter, None, output);
         relayed?;
         closed
     }
 
     /// Refuses the call by the final response that was received, if the cause relays it, otherwise by one of the server's own.
-    fn refuse_by(
+    fn refuse_with(
         &mut self,
-        step: &Step<'_>,
+        step: &StepContext<'_>,
         caller: CallerLeg<Standing>,
         service: Option<&Service>,
-        response: Option<&Hearing>,
+        response: Option<&ReceivedMessage>,
         cause: Cause,
-        desk: &mut Desk,
+        output: &mut StepOutput,
     ) -> Result<(), NoMemory>
         requires { self.old.phase ≡ Over HasEnded }
         ensures call { OnOk result (self.new
-            ≡ (refused_by step.now.setting.now step.now.present.at caller (option_copied service.entry)
-            (option_copied response.entry) cause self.old desk.old).call) }
-        ensures desk { OnOk result (desk.new
-            ≡ (refused_by step.now.setting.now step.now.present.at caller (option_copied service.entry)
-            (option_copied response.entry) cause self.old desk.old).desk) }
+            ≡ (relayed_refusal step.now.config.now step.now.snapshot.at caller (option_copied service.entry)
+            (option_copied response.entry) cause self.old output.old).call) }
+        ensures output { OnOk result (output.new
+            ≡ (relayed_refusal step.now.config.now step.now.snapshot.at caller (option_copied service.entry)
+            (option_copied response.entry) cause self.old output.old).output) }
     {
         match response {
-            None => self.refuse(step, caller, cause, desk),
-            Some(response) => { self.hand_on(step, caller, service, response, cause, desk) }
+            None => self.refuse(step, caller, cause, output),
+            Some(response) => { self.relay_final(step, caller, service, response, cause, output) }
         }
     }
 
@@ -110,14 +110,14 @@ impl Call {
     fn note_diversion(
         &mut self,
         alloc: Global,
-        due: &Onward<'_>,
+        due: &DueDiversion<'_>,
         target: &Target,
     ) -> Result<(), NoMemory>
-        requires { 0 < self.old.diversions.left }
+        requires { 0 < self.old.diversions.remaining }
         ensures { OnOk result (self.new
             ≡ record self.old {
-              diversions = diverted_list (uri_text target.now.uri) (self.old.diversions.left - 1)
-                  (told_due due.entry.now) self.old;
+              diversions = diversions_after (uri_text target.now.uri) (self.old.diversions.remaining - 1)
+                  (due_diversion_view due.entry.now) self.old;
             }) }
     {
         let from = Text::of(alloc, request_uri(self.opening.invite.message.start()))?;
@@ -138,55 +138,55 @@ impl Call {
     /// Makes a diversion to this target by the served account: records it, adds its meter, and notifies the caller if the forward requires that.
     fn make_diversion(
         &mut self,
-        step: &Step<'_>,
+        step: &StepContext<'_>,
         service: Option<&Service>,
-        due: &Onward<'_>,
+        due: &DueDiversion<'_>,
         target: &Target,
-        desk: &mut Desk,
+        output: &mut StepOutput,
     ) -> Result<(), NoMemory>
-        requires { 0 < self.old.diversions.left }
+        requires { 0 < self.old.diversions.remaining }
         ensures call { OnOk result (self.new
-            ≡ diverted target.now step.now.present.at (self.old.diversions.left - 1) (option_copied service.entry)
-            (told_due due.entry.now) self.old) }
-        ensures desk { OnOk result (desk.new
-            ≡ told_of step.now.setting.now (told_due due.entry.now) self.new desk.old) }
+            ≡ call_after_diversion target.now step.now.snapshot.at (self.old.diversions.remaining - 1) (option_copied service.entry)
+            (due_diversion_view due.entry.now) self.old) }
+        ensures output { OnOk result (output.new
+            ≡ with_notification_of step.now.config.now (due_diversion_view due.entry.now) self.new output.old) }
     {
-        let meter = meter_for(Kind::Diversion, self, step.present.at, service);
+        let meter = meter_for(Kind::Diversion, self, step.snapshot.at, service);
         let noted = self.note_diversion(step.alloc, due, target);
         let kept = self.keep_meter(step, meter);
         noted?;
         kept?;
-        self.tell_of(step, due, desk)
+        self.notify_of(step, due, output)
     }
 
     /// Carries out a diversion that is due: it is made and the call reaches its target, unless outgoing barring or a bound refuses it.
     #[cycle(diverting)]
     fn divert(
         &mut self,
-        step: &Step<'_>,
+        step: &StepContext<'_>,
         caller: CallerLeg<Standing>,
         service: Option<&Service>,
-        due: &Onward<'_>,
-        desk: &mut Desk,
+        due: &DueDiversion<'_>,
+        output: &mut StepOutput,
     ) -> Result<(), NoMemory>
         requires { self.old.phase ≡ Over HasEnded }
         ensures call { OnOk result (self.new
-            ≡ (divert self.old.diversions.left step.now.setting.now (standing step.now.present) caller
-            (option_copied service.entry) (told_due due.entry.now) self.old desk.old).call) }
-        ensures desk { OnOk result (desk.new
-            ≡ (divert self.old.diversions.left step.now.setting.now (standing step.now.present) caller
-            (option_copied service.entry) (told_due due.entry.now) self.old desk.old).desk) }
+            ≡ (divert self.old.diversions.remaining step.now.config.now (snapshot_of step.now.snapshot) caller
+            (option_copied service.entry) (due_diversion_view due.entry.now) self.old output.old).call) }
+        ensures output { OnOk result (output.new
+            ≡ (divert self.old.diversions.remaining step.now.config.now (snapshot_of step.now.snapshot) caller
+            (option_copied service.entry) (due_diversion_view due.entry.now) self.old output.old).output) }
     {
-        match self.weigh_diversion(step, service, due) {
+        match self.resolve_diversion(step, service, due) {
             Err(error) => {
-                give_up_caller(caller, step.present.at);
+                give_up_caller(caller, step.snapshot.at);
                 Err(error)
             }
             Ok((target, refusal)) => match refusal {
-                None => self.divert_to(step, caller, service, due, target, desk),
+                None => self.divert_to(step, caller, service, due, target, output),
                 Some(cause) => {
                     drop(target);
-                    self.refuse(step, caller, cause, desk)
+                    self.refuse(step, caller, cause, output)
                 }
             },
         }
@@ -196,53 +196,53 @@ impl Call {
     #[cycle(diverting)]
     fn divert_to(
         &mut self,
-        step: &Step<'_>,
+        step: &StepContext<'_>,
         caller: CallerLeg<Standing>,
         service: Option<&Service>,
-        due: &Onward<'_>,
+        due: &DueDiversion<'_>,
         target: Target,
-        desk: &mut Desk,
+        output: &mut StepOutput,
     ) -> Result<(), NoMemory>
         requires phase { self.old.phase ≡ Over HasEnded }
-        requires target { target ≡ target_of step.now.setting.now (told_due due.now) }
-        requires passed { refusal_by self.old.diversions.left step.now.setting.now step.now.present.at
-            (option_copied service) (told_due due.now) self.old ≡ None }
+        requires target { target ≡ diversion_target step.now.config.now (due_diversion_view due.now) }
+        requires passed { diversion_refusal self.old.diversions.remaining step.now.config.now step.now.snapshot.at
+            (option_copied service) (due_diversion_view due.now) self.old ≡ None }
         ensures call { OnOk result (self.new
-            ≡ (divert self.old.diversions.left step.now.setting.now (standing step.now.present) caller
-            (option_copied service.entry) (told_due due.entry.now) self.old desk.old).call) }
-        ensures desk { OnOk result (desk.new
-            ≡ (divert self.old.diversions.left step.now.setting.now (standing step.now.present) caller
-            (option_copied service.entry) (told_due due.entry.now) self.old desk.old).desk) }
+            ≡ (divert self.old.diversions.remaining step.now.config.now (snapshot_of step.now.snapshot) caller
+            (option_copied service.entry) (due_diversion_view due.entry.now) self.old output.old).call) }
+        ensures output { OnOk result (output.new
+            ≡ (divert self.old.diversions.remaining step.now.config.now (snapshot_of step.now.snapshot) caller
+            (option_copied service.entry) (due_diversion_view due.entry.now) self.old output.old).output) }
     {
-        match self.make_diversion(step, service, due, &target, desk) {
+        match self.make_diversion(step, service, due, &target, output) {
             Err(error) => {
                 drop(target);
-                give_up_caller(caller, step.present.at);
+                give_up_caller(caller, step.snapshot.at);
                 Err(error)
             }
             Ok(()) => {
                 let cause = Some(due.cause);
-                self.come_to(step, caller, cause, target, desk)
+                self.reach_target(step, caller, cause, target, output)
             }
         }
     }
 
     /// The target of a diversion that is due, and the cause that refuses the diversion, if any.
-    fn weigh_diversion(
+    fn resolve_diversion(
         &self,
-        step: &Step<'_>,
+        step: &StepContext<'_>,
         service: Option<&Service>,
-        due: &Onward<'_>,
+        due: &DueDiversion<'_>,
     ) -> Result<(Target, Option<Cause>), NoMemory>
-        ensures target { IfOk result (λ r. r.0 ≡ target_of step.now.setting.now (told_due due.entry.now)) }
+        ensures target { IfOk result (λ r. r.0 ≡ diversion_target step.now.config.now (due_diversion_view due.entry.now)) }
         ensures refusal { IfOk result (λ r. r.1
-            ≡ refusal_by self.now.diversions.left step.now.setting.now step.now.present.at
-            (option_copied service.entry) (told_due due.entry.now) self.now) }
+            ≡ diversion_refusal self.now.diversions.remaining step.now.config.now step.now.snapshot.at
+            (option_copied service.entry) (due_diversion_view due.entry.now) self.now) }
     {
-        self.opening.weigh_diversion(
+        self.opening.resolve_diversion(
             step.alloc,
-            step.setting,
-            step.present.at,
+            step.config,
+            step.snapshot.at,
             &self.diversions,
             service,
             due,
@@ -250,69 +250,71 @@ impl Call {
     }
 
     /// The account that is served at a target, with its record, and the peer that is the next hop.
-    fn weigh_target(
+    fn resolve_target(
         &self,
-        step: &Step<'_>,
+        step: &StepContext<'_>,
         cause: Option<u16>,
         target: &Target,
     ) -> Result<(Option<Service>, Option<Peer>), NoMemory>
         ensures service { IfOk result (λ r. r.0
-            ≡ service_at step.now.setting.now (standing step.now.present) self.now.opening cause target.now) }
-        ensures peer { IfOk result (λ r. r.1 ≡ peer_for step.now.setting.now self.now.opening target.now) }
+            ≡ service_at step.now.config.now (snapshot_of step.now.snapshot) self.now.opening cause target.now) }
+        ensures peer { IfOk result (λ r. r.1 ≡ peer_for step.now.config.now self.now.opening target.now) }
     {
         self.opening
-            .weigh_target(step.alloc, step.setting, &step.present, cause, target)
+            .resolve_target(step.alloc, step.config, &step.snapshot, cause, target)
     }
 
     /// The call reaches a target.
     #[cycle(diverting)]
-    pub fn come_to(
+    pub fn reach_target(
         &mut self,
-        step: &Step<'_>,
+        step: &StepContext<'_>,
         caller: CallerLeg<Standing>,
         cause: Option<u16>,
         target: Target,
-        desk: &mut Desk,
+        output: &mut StepOutput,
     ) -> Result<(), NoMemory>
         requires { self.old.phase ≡ Over HasEnded }
         ensures call { OnOk result (self.new
-            ≡ (at_target (divert self.old.diversions.left step.now.setting.now
-            (standing step.now.present) caller) step.now.setting.now
-            (standing step.now.present) caller cause target self.old desk.old).call) }
-        ensures desk { OnOk result (desk.new
-            ≡ (at_target (divert self.old.diversions.left step.now.setting.now
-            (standing step.now.present) caller) step.now.setting.now
-            (standing step.now.present) caller cause target self.old desk.old).desk) }
+            ≡ (at_target (divert self.old.diversions.remaining step.now.config.now
+            (snapshot_of step.now.snapshot) caller) step.now.config.now
+            (snapshot_of step.now.snapshot) caller cause target self.old output.old).call) }
+        ensures output { OnOk result (output.new
+            ≡ (at_target (divert self.old.diversions.remaining step.now.config.now
+            (snapshot_of step.now.snapshot) caller) step.now.config.now
+            (snapshot_of step.now.snapshot) caller cause target self.old output.old).output) }
     {
-        match self.weigh_target(step, cause, &target) {
+        match self.resolve_target(step, cause, &target) {
             Err(error) => {
                 drop(target);
-                give_up_caller(caller, step.present.at);
+                give_up_caller(caller, step.snapshot.at);
                 Err(error)
             }
-            Ok((service, peer)) => self.take_turn(step, caller, service, peer, cause, target, desk),
+            Ok((service, peer)) => self.take_next_step(
+                step, caller, service, peer, cause, target, output,
+            ),
         }
     }
 
     /// What is decided at a target, where this account is served there and this peer is the next hop.
-    fn turn_at<'a>(
+    fn next_step_at<'a>(
         &self,
-        step: &Step<'_>,
+        step: &StepContext<'_>,
         cause: Option<u16>,
         target: &Target,
         service: Option<&'a Service>,
         peer: Option<Peer>,
-    ) -> Turn<'a>
-        ensures { told_turn result
-            ≡ decided_at step.now.setting.now (standing step.now.present) self.now.opening
+    ) -> NextStep<'a>
+        ensures { next_step_view result
+            ≡ decision_at step.now.config.now (snapshot_of step.now.snapshot) self.now.opening
             (is_diverted self.now) cause target.now
             (option_copied service.entry) peer }
     {
         let diverted = self.is_diverted();
         let opening = &self.opening;
         opening.decide_at(
-            step.setting,
-            &step.present,
+            step.config,
+            &step.snapshot,
             diverted,
             cause,
             target,
@@ -323,30 +325,32 @@ impl Call {
 
     /// Carries out what is decided at a target, where this account is served there and this peer is the next hop.
     #[cycle(diverting)]
-    fn take_turn(
+    fn take_next_step(
         &mut self,
-        step: &Step<'_>,
+        step: &StepContext<'_>,
         caller: CallerLeg<Standing>,
         service: Option<Service>,
         peer: Option<Peer>,
         cause: Option<u16>,
         target: Target,
-        desk: &mut Desk,
+        output: &mut StepOutput,
     ) -> Result<(), NoMemory>
         requires { self.old.phase ≡ Over HasEnded }
         ensures call { OnOk result (self.new
-            ≡ (where_served (divert self.old.diversions.left step.now.setting.now
-            (standing step.now.present) caller) step.now.setting.now
-            (standing step.now.present) caller service peer cause target self.old desk.old).call) }
-        ensures desk { OnOk result (desk.new
-            ≡ (where_served (divert self.old.diversions.left step.now.setting.now
-            (standing step.now.present) caller) step.now.setting.now
-            (standing step.now.present) caller service peer cause target self.old desk.old).desk) }
+            ≡ (at_served_target (divert self.old.diversions.remaining step.now.config.now
+            (snapshot_of step.now.snapshot) caller) step.now.config.now
+            (snapshot_of step.now.snapshot) caller service peer cause target self.old output.old).call) }
+        ensures output { OnOk result (output.new
+            ≡ (at_served_target (divert self.old.diversions.remaining step.now.config.now
+            (snapshot_of step.now.snapshot) caller) step.now.config.now
+            (snapshot_of step.now.snapshot) caller service peer cause target self.old output.old).output) }
     {
-        let at = step.present.at;
-        match self.turn_at(step, cause, &target, service.as_ref(), peer) {
-            Turn::Offer { peer, waiting } => {
-                let aim = self.opening.aim_at(step.alloc, peer, cause, &target);
+        let at = step.snapshot.at;
+        match self.next_step_at(step, cause, &target, service.as_ref(), peer) {
+            NextStep::Offer { peer, waiting } => {
+                let aim = self
+                    .opening
+                    .destination_of(step.alloc, peer, cause, &target);
                 drop(target);
                 match aim {
                     Err(error) => {
@@ -354,10 +358,10 @@ impl Call {
                         give_up_caller(caller, at);
                         Err(error)
                     }
-                    Ok(aim) => self.offer(step, caller, service, waiting, aim, desk),
+                    Ok(aim) => self.start_attempt(step, caller, service, waiting, aim, output),
                 }
             }
-            Turn::Divert(due) => match self.pass_by(step, service.as_ref()) {
+            NextStep::Divert(due) => match self.keep_unoffered_meter(step, service.as_ref()) {
                 Err(error) => {
                     drop(target);
                     drop(service);
@@ -366,15 +370,15 @@ impl Call {
                 }
                 Ok(()) => {
                     let reached = service.as_ref();
-                    let diverted = self.divert(step, caller, reached, &due, desk);
+                    let diverted = self.divert(step, caller, reached, &due, output);
                     drop(target);
                     drop(service);
                     diverted
                 }
             },
-            Turn::Refuse(why) => {
+            NextStep::Refuse(why) => {
                 let reached = service.as_ref();
-                let refused = self.pass_by_and_refuse(step, caller, reached, why, desk);
+                let refused = self.refuse_unoffered(step, caller, reached, why, output);
                 drop(target);
                 drop(service);
                 refused
@@ -383,67 +387,71 @@ impl Call {
     }
 
     /// Adds the meter of an account that the call reached, without being offered to it, to those of past parts.
-    fn pass_by(&mut self, step: &Step<'_>, service: Option<&Service>) -> Result<(), NoMemory>
-        ensures { OnOk result (self.new ≡ passed_by step.now.present.at (option_copied service.entry) self.old) }
+    fn keep_unoffered_meter(
+        &mut self,
+        step: &StepContext<'_>,
+        service: Option<&Service>,
+    ) -> Result<(), NoMemory>
+        ensures { OnOk result (self.new ≡ with_unoffered_meter step.now.snapshot.at (option_copied service.entry) self.old) }
     {
-        let meter = meter_for(Kind::Terminating, self, step.present.at, service);
+        let meter = meter_for(Kind::Terminating, self, step.snapshot.at, service);
         self.keep_meter(step, meter)
     }
 
     /// The same, and refuses the call.
-    fn pass_by_and_refuse(
+    fn refuse_unoffered(
         &mut self,
-        step: &Step<'_>,
+        step: &StepContext<'_>,
         caller: CallerLeg<Standing>,
         service: Option<&Service>,
         cause: Cause,
-        desk: &mut Desk,
+        output: &mut StepOutput,
     ) -> Result<(), NoMemory>
         requires { self.old.phase ≡ Over HasEnded }
         ensures call { OnOk result (self.new
-            ≡ (refused step.now.setting.now step.now.present.at caller cause (passed_by step.now.present.at
-            (option_copied service.entry) self.old) desk.old).call) }
-        ensures desk { OnOk result (desk.new
-            ≡ (refused step.now.setting.now step.now.present.at caller cause (passed_by step.now.present.at
-            (option_copied service.entry) self.old) desk.old).desk) }
+            ≡ (call_refusal step.now.config.now step.now.snapshot.at caller cause (with_unoffered_meter step.now.snapshot.at
+            (option_copied service.entry) self.old) output.old).call) }
+        ensures output { OnOk result (output.new
+            ≡ (call_refusal step.now.config.now step.now.snapshot.at caller cause (with_unoffered_meter step.now.snapshot.at
+            (option_copied service.entry) self.old) output.old).output) }
     {
-        match self.pass_by(step, service) {
+        match self.keep_unoffered_meter(step, service) {
             Err(error) => {
-                give_up_caller(caller, step.present.at);
+                give_up_caller(caller, step.snapshot.at);
                 Err(error)
             }
-            Ok(()) => self.refuse(step, caller, cause, desk),
+            Ok(()) => self.refuse(step, caller, cause, output),
         }
     }
 
     /// Carries out what follows an attempt of this account that ended in this way; a final response that was received may be relayed.
     pub fn go_on(
         &mut self,
-        step: &Step<'_>,
+        step: &StepContext<'_>,
         caller: CallerLeg<Standing>,
         service: Option<&Service>,
-        how: &AttemptEnd<'_>,
-        response: Option<&Hearing>,
-        desk: &mut Desk,
+        end: &AttemptEnd<'_>,
+        response: Option<&ReceivedMessage>,
+        output: &mut StepOutput,
     ) -> Result<(), NoMemory>
         requires { self.old.phase ≡ Over HasEnded }
         ensures call { OnOk result (self.new
-            ≡ (on_end step.now.setting.now (standing step.now.present) caller (option_copied service.entry)
+            ≡ (on_end step.now.config.now (snapshot_of step.now.snapshot) caller (option_copied service.entry)
             (option_copied response.entry)
-            (decided_after self.old.opening step.now.present.at (is_diverted self.old) (option_copied service.entry)
-            (told_end how.entry.now)) self.old desk.old).call) }
-        ensures desk { OnOk result (desk.new
-            ≡ (on_end step.now.setting.now (standing step.now.present) caller (option_copied service.entry)
+            (decision_after self.old.opening step.now.snapshot.at (is_diverted self.old) (option_copied service.entry)
+            (attempt_end_view end.entry.now)) self.old output.old).call) }
+        ensures output { OnOk result (output.new
+            ≡ (on_end step.now.config.now (snapshot_of step.now.snapshot) caller (option_copied service.entry)
             (option_copied response.entry)
-            (decided_after self.old.opening step.now.present.at (is_diverted self.old) (option_copied service.entry)
-            (told_end how.entry.now)) self.old desk.old).desk) }
+            (decision_after self.old.opening step.now.snapshot.at (is_diverted self.old) (option_copied service.entry)
+            (attempt_end_view end.entry.now)) self.old output.old).output) }
     {
-        let at = step.present.at;
+        let at = step.snapshot.at;
         let diverted = self.is_diverted();
-        match self.opening.decide_after(at, diverted, service, how) {
-            AfterEnding::Divert(due) => { self.divert(step, caller, service, &due, desk) }
-            AfterEnding::Refuse(cause) => {
-                self.refuse_by(step, caller, service, response, cause, desk)
+        match self.opening.decide_after(at, diverted, service, end) {
+            StepAfterAttempt::Divert(due) => { self.divert(step, caller, service, &due, output) }
+            StepAfterAttempt::Refuse(cause) => {
+                self.refuse_with(step, caller, service, response, cause, output)
             }
         }
     }

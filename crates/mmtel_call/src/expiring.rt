@@ -2,19 +2,19 @@
 ghost use Rattle.std.specs.Prelude.{◌≡◌, OnOk, true};
 ghost use Rattle.mmtel_types.specs.declared.causes.Cause.TheVariants.{Ended as HasEnded};
 ghost use Rattle.mmtel_call.specs.Calls.{Over};
-ghost use Rattle.mmtel_call.specs.Closing.{over_stood};
-ghost use Rattle.mmtel_call.specs.Expiring.{expired, expired_asking, is_expiry};
-ghost use Rattle.mmtel_call.specs.Reinvites.{bye_to_both};
-ghost use Rattle.mmtel_call.specs.Ringing.{with_loose};
-ghost use Rattle.mmtel_call.specs.Sending.{replied_to};
+ghost use Rattle.mmtel_call.specs.Closing.{established_call_end};
+ghost use Rattle.mmtel_call.specs.Expiring.{after_expiry, after_expiry_reinviting, is_expiry};
+ghost use Rattle.mmtel_call.specs.Reinvites.{with_byes};
+ghost use Rattle.mmtel_call.specs.Ringing.{with_abandoned};
+ghost use Rattle.mmtel_call.specs.Sending.{with_status_to};
 
-use crate::calls::{Call, Pair, Reinvite};
-use crate::context::Step;
+use crate::calls::{Call, EstablishedLegs, Reinvite};
+use crate::context::StepContext;
 use crate::reinvite_ends::ended_dialogs;
-use crate::reinvites::{RelayedInvite, give_up_asking};
-use mmtel_desk::Desk;
+use crate::reinvites::{RelayedInvite, give_up_reinviting};
+use mmtel_base::{List, NoMemory};
 use mmtel_leg::Dialogue;
-use mmtel_scan::{List, NoMemory};
+use mmtel_output::StepOutput;
 use mmtel_transaction::DueWord;
 
 /// Whether a deadline is the expiry of the session that the last 2xx set, where this many 2xx were relayed to a side.
@@ -29,16 +29,21 @@ pub fn is_expiry(successes: u64, what: DueWord) -> bool
 
 impl Call {
     /// The session of a stable call expired: BYE to both sides.
-    pub fn expire(&mut self, step: &Step<'_>, x: Pair, desk: &mut Desk) -> Result<(), NoMemory>
+    pub fn expire(
+        &mut self,
+        step: &StepContext<'_>,
+        legs: EstablishedLegs,
+        output: &mut StepOutput,
+    ) -> Result<(), NoMemory>
         requires { self.old.phase ≡ Over HasEnded }
         ensures call { OnOk result (self.new
-            ≡ (expired step.now.setting.now step.now.present.at x self.old desk.old).call) }
-        ensures desk { OnOk result (desk.new
-            ≡ (expired step.now.setting.now step.now.present.at x self.old desk.old).desk) }
+            ≡ (after_expiry step.now.config.now step.now.snapshot.at legs self.old output.old).call) }
+        ensures output { OnOk result (output.new
+            ≡ (after_expiry step.now.config.now step.now.snapshot.at legs self.old output.old).output) }
     {
-        let mut x = x;
-        let left = x.bye_to_both(step, desk);
-        let closed = self.end_pair(step, x, desk);
+        let mut legs = legs;
+        let left = legs.send_byes(step, output);
+        let closed = self.end_established(step, legs, output);
         left?;
         closed
     }
@@ -46,57 +51,57 @@ impl Call {
     /// The call is over while an INVITE has no final response; that INVITE is abandoned, with these dialogs that need no BYE any more.
     fn end_expired(
         &mut self,
-        step: &Step<'_>,
-        x: Pair,
-        q: Reinvite,
+        step: &StepContext<'_>,
+        legs: EstablishedLegs,
+        reinvite: Reinvite,
         forks: List<Dialogue>,
-        desk: &mut Desk,
+        output: &mut StepOutput,
     ) -> Result<(), NoMemory>
         requires { self.old.phase ≡ Over HasEnded }
         ensures call { OnOk result (self.new
-            ≡ (over_stood step.now.present.at x (with_loose (record
-            { invitation = record q.invitation { forks = forks }; within = true }) self.old)
-            (bye_to_both step.now.setting.now x
-            (replied_to step.now.setting.now self.old q.key q.request 487 desk.old))).call) }
-        ensures desk { OnOk result (desk.new
-            ≡ (over_stood step.now.present.at x (with_loose (record
-            { invitation = record q.invitation { forks = forks }; within = true }) self.old)
-            (bye_to_both step.now.setting.now x
-            (replied_to step.now.setting.now self.old q.key q.request 487 desk.old))).desk) }
+            ≡ (established_call_end step.now.snapshot.at legs (with_abandoned (record
+            { invite = record reinvite.invite { forks = forks }; in_dialog = true }) self.old)
+            (with_byes step.now.config.now legs
+            (with_status_to step.now.config.now self.old reinvite.key reinvite.request 487 output.old))).call) }
+        ensures output { OnOk result (output.new
+            ≡ (established_call_end step.now.snapshot.at legs (with_abandoned (record
+            { invite = record reinvite.invite { forks = forks }; in_dialog = true }) self.old)
+            (with_byes step.now.config.now legs
+            (with_status_to step.now.config.now self.old reinvite.key reinvite.request 487 output.old))).output) }
     {
-        let mut x = x;
-        let passed = self.pass_end(step, &mut x, &q, 487, desk);
-        let loosened = self.loosen_across(step.alloc, q, forks);
-        let closed = self.end_pair(step, x, desk);
+        let mut legs = legs;
+        let passed = self.send_end(step, &mut legs, &reinvite, 487, output);
+        let loosened = self.abandon_across(step.alloc, reinvite, forks);
+        let closed = self.end_established(step, legs, output);
         passed?;
         loosened?;
         closed
     }
 
     /// The session expired while an INVITE has no final response: 487 to it, and BYE to both sides.
-    pub fn expire_asking(
+    pub fn expire_reinviting(
         &mut self,
-        step: &Step<'_>,
-        x: Pair,
-        asked: RelayedInvite,
-        desk: &mut Desk,
+        step: &StepContext<'_>,
+        legs: EstablishedLegs,
+        relayed: RelayedInvite,
+        output: &mut StepOutput,
     ) -> Result<(), NoMemory>
         requires { self.old.phase ≡ Over HasEnded }
         ensures call { OnOk result (self.new
-            ≡ (expired_asking step.now.setting.now step.now.present.at x asked.side asked.invite self.old
-            desk.old).call) }
-        ensures desk { OnOk result (desk.new
-            ≡ (expired_asking step.now.setting.now step.now.present.at x asked.side asked.invite self.old
-            desk.old).desk) }
+            ≡ (after_expiry_reinviting step.now.config.now step.now.snapshot.at legs relayed.side relayed.invite self.old
+            output.old).call) }
+        ensures output { OnOk result (output.new
+            ≡ (after_expiry_reinviting step.now.config.now step.now.snapshot.at legs relayed.side relayed.invite self.old
+            output.old).output) }
     {
-        match ended_dialogs(step.alloc, &x, asked.side, asked.side) {
+        match ended_dialogs(step.alloc, &legs, relayed.side, relayed.side) {
             Err(error) => {
-                give_up_asking(x, asked, step.present.at);
+                give_up_reinviting(legs, relayed, step.snapshot.at);
                 Err(error)
             }
             Ok(forks) => {
-                let RelayedInvite { side: _, invite } = asked;
-                self.end_expired(step, x, invite, forks, desk)
+                let RelayedInvite { side: _, invite } = relayed;
+                self.end_expired(step, legs, invite, forks, output)
             }
         }
     }

@@ -1,65 +1,68 @@
 //! The legs of a call: that of an attempt, and those of both sides once it was answered.
 ghost use Rattle.std.specs.Prelude.{◌≡◌, ◌||◌, ◌==◌, true, None, Some, length, if◌then◌else◌, IfOk, OnErr, OnOk};
 ghost use Rattle.std.specs.Option.{option_copied};
-ghost use Rattle.mmtel_desk.specs.Desks.{token};
-ghost use Rattle.mmtel_desk.specs.Sending.{asked_for};
-ghost use Rattle.mmtel_leg.specs.Dialogues.{met};
+ghost use Rattle.mmtel_output.specs.Outputs.{token};
+ghost use Rattle.mmtel_output.specs.Sending.{with_relayed_request};
+ghost use Rattle.mmtel_leg.specs.Dialogues.{with_remote};
 ghost use Rattle.mmtel_leg.specs.Legs.{with_dialogue};
 ghost use Rattle.mmtel_leg.specs.Remotes.{remote_of, tag_in};
 ghost use Rattle.mmtel_types.specs.declared.sides.Side.TheVariants.{Callee};
-ghost use Rattle.mmtel_call.specs.Flights.{having_asked, sent_in};
-ghost use Rattle.mmtel_call.specs.Requests.{having_heard, says};
-ghost use Rattle.mmtel_call.specs.Ringing.{early_said, met_by, tag_given};
+ghost use Rattle.mmtel_call.specs.RelayedTransactions.{invite_sent_in, leg_after_request};
+ghost use Rattle.mmtel_call.specs.Requests.{leg_after_receiving, request_check};
+ghost use Rattle.mmtel_call.specs.Ringing.{early_remote_of, leg_with_remote, to_tag_of};
 
-use crate::calls::{Pair, Trial, Tried, TriedLeg};
+use crate::calls::{AttemptLeg, AttemptLegState, EstablishedLegs, OfferedAttempt};
 use crate::closing::give_up_meter;
-use crate::context::Step;
-use crate::flights::ask_leg;
-use mmtel_answers::{Hearing, said_by_callee};
+use crate::context::StepContext;
+use crate::relayed_transactions::relay_to_leg;
+use mmtel_base::{List, NoMemory, Text};
 use mmtel_charging::Meter;
-use mmtel_desk::{Desk, Invitation};
+use mmtel_compose::{ReceivedMessage, callee_remote};
 use mmtel_leg::{
     CalleeLeg, CallerLeg, Dialogue, DialogueFault, Ended, InFlight, LegOf, Remote, Standing,
 };
 use mmtel_message::Line;
-use mmtel_scan::{List, NoMemory, Text};
+use mmtel_output::{SentInvite, StepOutput};
 use mmtel_types::{Moment, Peer, Side};
 use std::alloc::Global;
 
 /// Records the CSeq number of a request of a side, or refuses it.
 #[tactic(auto, unfolding(mmtel_leg::specs::Dialogues::number_in))]
-pub fn hear<P, S>(
+pub fn receive<P, S>(
     leg: &mut LegOf<P, S>,
-    request: &Hearing,
+    request: &ReceivedMessage,
     busy: InFlight,
 ) -> Result<(), DialogueFault>
-    ensures answer { result ≡ says leg.old request.now busy }
-    ensures heard { OnOk result (leg.new ≡ having_heard leg.old request.now) }
+    ensures answer { result ≡ request_check leg.old request.now busy }
+    ensures received { OnOk result (leg.new ≡ leg_after_receiving leg.old request.now) }
     ensures refused { OnErr result (leg.new ≡ leg.old) }
 {
     leg.heard(&request.message, busy)
 }
 
 /// The callee's tag in a response.
-pub fn tag_said(alloc: Global, response: &Hearing) -> Result<Text, NoMemory>
-    ensures { IfOk result (λ tag. tag ≡ tag_given response.now) }
+pub fn tag_of_response(alloc: Global, response: &ReceivedMessage) -> Result<Text, NoMemory>
+    ensures { IfOk result (λ tag. tag ≡ to_tag_of response.now) }
 {
     let Remote {
         tag,
         target,
         routes,
-    } = said_by_callee(alloc, response)?;
+    } = callee_remote(alloc, response)?;
     drop(target);
     drop(routes);
     Ok(tag)
 }
 
 /// The remote side in a response of the callee, and a copy of its tag.
-pub fn said_with_tag(alloc: Global, response: &Hearing) -> Result<(Remote, Text), NoMemory>
-    ensures remote { IfOk result (λ r. r.0 ≡ remote_of Callee response.now.heard.lines) }
-    ensures tag { IfOk result (λ r. r.1 ≡ tag_given response.now) }
+pub fn remote_with_tag(
+    alloc: Global,
+    response: &ReceivedMessage,
+) -> Result<(Remote, Text), NoMemory>
+    ensures remote { IfOk result (λ r. r.0 ≡ remote_of Callee response.now.parsed.lines) }
+    ensures tag { IfOk result (λ r. r.1 ≡ to_tag_of response.now) }
 {
-    let remote = said_by_callee(alloc, response)?;
+    let remote = callee_remote(alloc, response)?;
     match remote.tag.copied(alloc) {
         Err(error) => {
             drop(remote);
@@ -69,14 +72,14 @@ pub fn said_with_tag(alloc: Global, response: &Hearing) -> Result<(Remote, Text)
     }
 }
 
-impl Tried {
+impl AttemptLeg {
     /// Whether a response established an early dialog.
     pub fn is_early(&self) -> bool
         ensures { result ≡ self.now.is_early }
     {
         match &self.leg {
-            TriedLeg::Asked(_) => false,
-            TriedLeg::Early(_) => true,
+            AttemptLegState::Asked(_) => false,
+            AttemptLegState::Early(_) => true,
         }
     }
 
@@ -85,8 +88,8 @@ impl Tried {
         ensures { result.now ≡ self.now.leg.dialogue }
     {
         match &self.leg {
-            TriedLeg::Asked(leg) => leg.dialogue(),
-            TriedLeg::Early(leg) => leg.dialogue(),
+            AttemptLegState::Asked(leg) => leg.dialogue(),
+            AttemptLegState::Early(leg) => leg.dialogue(),
         }
     }
 
@@ -108,33 +111,37 @@ impl Tried {
     }
 
     /// Sends to the callee a request of the caller within the early dialog, with these header fields. Returns it as it was sent.
-    pub fn ask_early(
+    pub fn relay_early_request(
         &mut self,
-        step: &Step<'_>,
+        step: &StepContext<'_>,
         method: &[u8],
         lines: &List<Line>,
-        m: &Hearing,
-        desk: &mut Desk,
-    ) -> Result<Invitation, NoMemory>
+        message: &ReceivedMessage,
+        output: &mut StepOutput,
+    ) -> Result<SentInvite, NoMemory>
         requires { self.old.is_early ≡ true }
-        ensures done { OnOk result (desk.new
-            ≡ asked_for step.now.setting.now.sip method.now self.old.leg.dialogue lines.now m.now.heard desk.old) }
+        ensures done { OnOk result (output.new
+            ≡ with_relayed_request step.now.config.now.sip method.now self.old.leg.dialogue lines.now message.now.parsed output.old) }
         ensures sent { IfOk result (λ i. i
-            ≡ sent_in (having_asked method.now self.old.leg).dialogue (token desk.old)) }
-        ensures asked { OnOk result (self.new ≡ record self.old { leg = having_asked method.now self.old.leg }) }
+            ≡ invite_sent_in (leg_after_request method.now self.old.leg).dialogue (token output.old)) }
+        ensures asked { OnOk result (self.new ≡ record self.old { leg = leg_after_request method.now self.old.leg }) }
         ensures meter { self.new.leg.meter ≡ self.old.leg.meter }
     {
         match &mut self.leg {
-            TriedLeg::Early(leg) => ask_leg(step, method, leg, lines, m, desk),
-            TriedLeg::Asked(_) => unreachable!(),
+            AttemptLegState::Early(leg) => relay_to_leg(step, method, leg, lines, message, output),
+            AttemptLegState::Asked(_) => unreachable!(),
         }
     }
 
     /// The remote side in a response that establishes the early dialog.
-    pub fn early_said(&self, alloc: Global, response: &Hearing) -> Result<Option<Remote>, NoMemory>
-        ensures { IfOk result (λ r. r ≡ early_said self.now response.now) }
+    pub fn early_remote(
+        &self,
+        alloc: Global,
+        response: &ReceivedMessage,
+    ) -> Result<Option<Remote>, NoMemory>
+        ensures { IfOk result (λ r. r ≡ early_remote_of self.now response.now) }
     {
-        let remote = said_by_callee(alloc, response)?;
+        let remote = callee_remote(alloc, response)?;
         if self.is_early() || remote.tag.bytes().is_empty() {
             drop(remote);
             return Ok(None);
@@ -143,23 +150,23 @@ impl Tried {
     }
 
     /// The leg with the early dialog, if there now is one.
-    pub fn meet(self, remote: Option<Remote>) -> Tried
+    pub fn with_remote(self, remote: Option<Remote>) -> AttemptLeg
         requires { self.is_early ≡ true → remote ≡ None }
-        ensures { result ≡ met_by remote self }
+        ensures { result ≡ leg_with_remote remote self }
     {
-        let Tried { leg } = self;
+        let AttemptLeg { leg } = self;
         match leg {
-            TriedLeg::Asked(leg) => match remote {
-                None => Tried {
-                    leg: TriedLeg::Asked(leg),
+            AttemptLegState::Asked(leg) => match remote {
+                None => AttemptLeg {
+                    leg: AttemptLegState::Asked(leg),
                 },
-                Some(remote) => Tried {
-                    leg: TriedLeg::Early(leg.early(remote)),
+                Some(remote) => AttemptLeg {
+                    leg: AttemptLegState::Early(leg.early(remote)),
                 },
             },
-            TriedLeg::Early(leg) => match remote {
-                None => Tried {
-                    leg: TriedLeg::Early(leg),
+            AttemptLegState::Early(leg) => match remote {
+                None => AttemptLeg {
+                    leg: AttemptLegState::Early(leg),
                 },
                 Some(_) => unreachable!(),
             },
@@ -167,25 +174,29 @@ impl Tried {
     }
 
     /// The leg after its dialog was confirmed.
-    pub fn stand(self, remote: Remote) -> CalleeLeg<Standing>
-        ensures { result ≡ with_dialogue self.leg (met self.leg.dialogue remote) }
+    pub fn confirm(self, remote: Remote) -> CalleeLeg<Standing>
+        ensures { result ≡ with_dialogue self.leg (with_remote self.leg.dialogue remote) }
     {
-        let Tried { leg } = self;
+        let AttemptLeg { leg } = self;
         match leg {
-            TriedLeg::Asked(leg) => leg.stand(remote),
-            TriedLeg::Early(leg) => leg.stand(remote),
+            AttemptLegState::Asked(leg) => leg.stand(remote),
+            AttemptLegState::Early(leg) => leg.stand(remote),
         }
     }
 
     /// Records the CSeq number of a request of the callee, or refuses it.
-    pub fn hear(&mut self, request: &Hearing, busy: InFlight) -> Result<(), DialogueFault>
-        ensures answer { result ≡ says self.old.leg request.now busy }
-        ensures heard { OnOk result (self.new ≡ record self.old { leg = having_heard self.old.leg request.now }) }
+    pub fn receive(
+        &mut self,
+        request: &ReceivedMessage,
+        busy: InFlight,
+    ) -> Result<(), DialogueFault>
+        ensures answer { result ≡ request_check self.old.leg request.now busy }
+        ensures received { OnOk result (self.new ≡ record self.old { leg = leg_after_receiving self.old.leg request.now }) }
         ensures refused { OnErr result (self.new ≡ self.old) }
     {
         match &mut self.leg {
-            TriedLeg::Asked(leg) => hear(leg, request, busy),
-            TriedLeg::Early(leg) => hear(leg, request, busy),
+            AttemptLegState::Asked(leg) => receive(leg, request, busy),
+            AttemptLegState::Early(leg) => receive(leg, request, busy),
         }
     }
 
@@ -193,13 +204,13 @@ impl Tried {
     pub fn leave(self) -> Option<Meter>
         ensures { result ≡ self.leg.meter }
     {
-        let Tried { leg } = self;
+        let AttemptLeg { leg } = self;
         match leg {
-            TriedLeg::Asked(leg) => {
+            AttemptLegState::Asked(leg) => {
                 let Ended { meter } = leg.leave();
                 meter
             }
-            TriedLeg::Early(leg) => {
+            AttemptLegState::Early(leg) => {
                 let Ended { meter } = leg.leave();
                 meter
             }
@@ -213,10 +224,10 @@ pub fn give_up_caller(caller: CallerLeg<Standing>, at: Moment) {
     give_up_meter(meter, at);
 }
 
-impl Trial {
+impl OfferedAttempt {
     /// Spends both legs of a call that is given up.
     pub fn give_up(self, at: Moment) {
-        let Trial {
+        let OfferedAttempt {
             caller,
             callee,
             attempt,
@@ -227,10 +238,10 @@ impl Trial {
     }
 }
 
-impl Pair {
+impl EstablishedLegs {
     /// Spends both legs of a call that is given up.
     pub fn give_up(self, at: Moment) {
-        let Pair {
+        let EstablishedLegs {
             caller,
             callee,
             service,

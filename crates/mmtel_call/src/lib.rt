@@ -1,24 +1,24 @@
 //! One call: two dialogs that the server connects, by the step table of a call (RFC 3261 §6, TS 24.173).
 #![tactic(auto)]
 
-mod agreements;
+mod acceptances;
 mod answered;
+mod attempt_starts;
 mod attempts;
 mod calls;
 mod closing;
 mod context;
+mod detaching;
 mod dismissal;
 mod diverting;
 mod expiring;
-mod flights;
-mod giving_up;
-mod leaving;
 mod legs;
-mod lending;
-mod offering;
+mod offered_requests;
 mod openings;
+mod other_requests;
 mod reinvite_ends;
 mod reinvites;
+mod relayed_transactions;
 mod reliable;
 mod ringing;
 mod sending;
@@ -29,8 +29,8 @@ mod steps;
 mod updates;
 
 pub use calls::{
-    Attempt, Call, Flight, FlightKind, Loan, Pair, Phase, Reinvite, Stage, Success, Taken, Trial,
-    Tried, TriedLeg,
+    AnsweredInvite, Attempt, AttemptLeg, AttemptLegState, Call, DetachedLeg, EstablishedLegs,
+    OfferedAttempt, Phase, Reinvite, RelayedKind, RelayedTransaction, Stage, Success,
 };
-pub use lending::NotTalking;
+pub use detaching::NotTalking;
 pub use signals::Signal;

@@ -1,23 +1,23 @@
 //! How an INVITE within an answered call ends without a 2xx: by another final response, by a timeout, or because a side leaves.
 ghost use Rattle.std.specs.Prelude.{◌≡◌, true, if◌then◌else◌, IfOk, OnOk};
-ghost use Rattle.mmtel_answers.specs.Said.{status_of};
-ghost use Rattle.mmtel_types.specs.Sides.{other_of};
+ghost use Rattle.mmtel_compose.specs.ReceivedMessages.{status_of};
+ghost use Rattle.mmtel_types.specs.Sides.{other_side};
 ghost use Rattle.mmtel_types.specs.declared.causes.Cause.TheVariants.{Ended as HasEnded};
-ghost use Rattle.mmtel_call.specs.Answered.{at_stage, bye_to};
-ghost use Rattle.mmtel_call.specs.Calls.{Over, Talking};
-ghost use Rattle.mmtel_call.specs.Closing.{onward, over_stood};
-ghost use Rattle.mmtel_call.specs.Reinvites.{bye_to_both, bye_while_asking, ended_dialogs, ends_dialog, refused_back, silenced_across};
-ghost use Rattle.mmtel_call.specs.Ringing.{with_loose};
-ghost use Rattle.mmtel_call.specs.Sending.{replied_to};
+ghost use Rattle.mmtel_call.specs.Answered.{at_stage, with_bye_to};
+ghost use Rattle.mmtel_call.specs.Calls.{Over, Stable};
+ghost use Rattle.mmtel_call.specs.Closing.{established_call_end, step_result};
+ghost use Rattle.mmtel_call.specs.Reinvites.{ended_dialogs, ends_dialog, on_bye_reinviting, on_timeout_across, with_byes, with_refusal_back};
+ghost use Rattle.mmtel_call.specs.Ringing.{with_abandoned};
+ghost use Rattle.mmtel_call.specs.Sending.{with_status_to};
 
-use crate::calls::{Call, Pair, Phase, Reinvite, Stage};
-use crate::context::Step;
-use crate::reinvites::{RelayedInvite, give_up_asking};
-use mmtel_answers::{Hearing, status_of};
-use mmtel_call_decisions::is_same_side;
-use mmtel_desk::{Desk, file};
+use crate::calls::{Call, EstablishedLegs, Phase, Reinvite, Stage};
+use crate::context::StepContext;
+use crate::reinvites::{RelayedInvite, give_up_reinviting};
+use mmtel_base::{List, NoMemory};
+use mmtel_call_services::is_same_side;
+use mmtel_compose::{ReceivedMessage, status_of};
 use mmtel_leg::Dialogue;
-use mmtel_scan::{List, NoMemory};
+use mmtel_output::{StepOutput, push_item};
 use mmtel_transaction::TKey;
 use mmtel_types::Side;
 use std::alloc::Global;
@@ -30,34 +30,38 @@ pub fn ends_dialog(code: u16) -> bool
     code == 408 || code == 481
 }
 
-impl Pair {
+impl EstablishedLegs {
     /// Sends a BYE of the server's own to both sides.
-    pub fn bye_to_both(&mut self, step: &Step<'_>, desk: &mut Desk) -> Result<(), NoMemory>
-        ensures done { OnOk result (desk.new ≡ bye_to_both step.now.setting.now self.old desk.old) }
+    pub fn send_byes(
+        &mut self,
+        step: &StepContext<'_>,
+        output: &mut StepOutput,
+    ) -> Result<(), NoMemory>
+        ensures done { OnOk result (output.new ≡ with_byes step.now.config.now self.old output.old) }
         ensures caller { self.new.caller.meter ≡ self.old.caller.meter }
         ensures callee { self.new.callee.meter ≡ self.old.callee.meter }
     {
-        self.bye_to(step, Side::Caller, desk)?;
-        self.bye_to(step, Side::Callee, desk)
+        self.send_bye_to(step, Side::Caller, output)?;
+        self.send_bye_to(step, Side::Callee, output)
     }
 }
 
 /// The dialogs of an abandoned INVITE that need no BYE any more.
 pub fn ended_dialogs(
     alloc: Global,
-    x: &Pair,
-    asking: Side,
-    leaving: Side,
+    legs: &EstablishedLegs,
+    inviter: Side,
+    departing: Side,
 ) -> Result<List<Dialogue>, NoMemory>
-    ensures { IfOk result (λ ds. ds ≡ ended_dialogs x.now asking leaving) }
+    ensures { IfOk result (λ ds. ds ≡ ended_dialogs legs.now inviter departing) }
 {
-    if !is_same_side(asking, leaving) {
+    if !is_same_side(inviter, departing) {
         return Ok(List::new());
     }
-    let mut dialogue = x.dialogue_of(asking.other()).copied(alloc)?;
-    dialogue.own = dialogue.own.saturating_add(1);
+    let mut dialogue = legs.dialogue_of(inviter.other()).copied(alloc)?;
+    dialogue.local_cseq = dialogue.local_cseq.saturating_add(1);
     let mut ended = List::new();
-    match file(alloc, &mut ended, dialogue) {
+    match push_item(alloc, &mut ended, dialogue) {
         Ok(()) => Ok(ended),
         Err(error) => {
             drop(ended);
@@ -68,259 +72,259 @@ pub fn ended_dialogs(
 
 impl Call {
     /// A final response from 300 gets its ACK, and is relayed to the side that sent the INVITE.
-    fn refuse_back(
+    fn relay_refusal_back(
         &self,
-        step: &Step<'_>,
-        x: &Pair,
-        asked: &RelayedInvite,
+        step: &StepContext<'_>,
+        legs: &EstablishedLegs,
+        relayed: &RelayedInvite,
         key: TKey,
-        m: &Hearing,
-        desk: &mut Desk,
+        message: &ReceivedMessage,
+        output: &mut StepOutput,
     ) -> Result<(), NoMemory>
-        ensures { OnOk result (desk.new
-            ≡ refused_back step.now.setting.now x.now asked.now.side asked.now.invite key m.now self.now desk.old) }
+        ensures { OnOk result (output.new
+            ≡ with_refusal_back step.now.config.now legs.now relayed.now.side relayed.now.invite key message.now self.now output.old) }
     {
-        desk.acknowledge_final(step.alloc, step.sip(), key, &asked.invite.invitation, m)?;
-        self.relay_back(step, x, asked, m, desk)
+        output.acknowledge_final(step.alloc, step.sip(), key, &relayed.invite.invite, message)?;
+        self.relay_back(step, legs, relayed, message, output)
     }
 
     /// A final response of the other side that ends the call: it is relayed back, and BYE to both sides.
-    fn end_by_answer(
+    fn end_by_response(
         &mut self,
-        step: &Step<'_>,
-        x: Pair,
-        asked: &RelayedInvite,
+        step: &StepContext<'_>,
+        legs: EstablishedLegs,
+        relayed: &RelayedInvite,
         key: TKey,
-        m: &Hearing,
-        desk: &mut Desk,
+        message: &ReceivedMessage,
+        output: &mut StepOutput,
     ) -> Result<(), NoMemory>
         requires { self.old.phase ≡ Over HasEnded }
         ensures call { OnOk result (self.new
-            ≡ (over_stood step.now.present.at x self.old (bye_to_both step.now.setting.now x
-            (refused_back step.now.setting.now x asked.now.side asked.now.invite key m.now self.old desk.old))).call) }
-        ensures desk { OnOk result (desk.new
-            ≡ (over_stood step.now.present.at x self.old (bye_to_both step.now.setting.now x
-            (refused_back step.now.setting.now x asked.now.side asked.now.invite key m.now self.old desk.old))).desk) }
+            ≡ (established_call_end step.now.snapshot.at legs self.old (with_byes step.now.config.now legs
+            (with_refusal_back step.now.config.now legs relayed.now.side relayed.now.invite key message.now self.old output.old))).call) }
+        ensures output { OnOk result (output.new
+            ≡ (established_call_end step.now.snapshot.at legs self.old (with_byes step.now.config.now legs
+            (with_refusal_back step.now.config.now legs relayed.now.side relayed.now.invite key message.now self.old output.old))).output) }
     {
-        let mut x = x;
-        let refused = self.refuse_back(step, &x, asked, key, m, desk);
-        let left = x.bye_to_both(step, desk);
-        let closed = self.end_pair(step, x, desk);
+        let mut legs = legs;
+        let refused = self.relay_refusal_back(step, &legs, relayed, key, message, output);
+        let left = legs.send_byes(step, output);
+        let closed = self.end_established(step, legs, output);
         refused?;
         left?;
         closed
     }
 
     /// A final response of the other side from 300 that does not end the call: it is relayed back, and the call is stable.
-    fn hear_refusal_across(
+    fn receive_refusal_across(
         &mut self,
-        step: &Step<'_>,
-        x: Pair,
-        asked: &RelayedInvite,
+        step: &StepContext<'_>,
+        legs: EstablishedLegs,
+        relayed: &RelayedInvite,
         key: TKey,
-        m: &Hearing,
-        desk: &mut Desk,
+        message: &ReceivedMessage,
+        output: &mut StepOutput,
     ) -> Result<(), NoMemory>
         requires { self.old.phase ≡ Over HasEnded }
-        ensures call { OnOk result (self.new ≡ at_stage x Talking self.old) }
-        ensures desk { OnOk result (desk.new
-            ≡ refused_back step.now.setting.now x asked.now.side asked.now.invite key m.now self.old desk.old) }
+        ensures call { OnOk result (self.new ≡ at_stage legs Stable self.old) }
+        ensures output { OnOk result (output.new
+            ≡ with_refusal_back step.now.config.now legs relayed.now.side relayed.now.invite key message.now self.old output.old) }
     {
-        let refused = self.refuse_back(step, &x, asked, key, m, desk);
-        self.put_phase(Phase::Stood(x, Stage::Talking));
+        let refused = self.relay_refusal_back(step, &legs, relayed, key, message, output);
+        self.put_phase(Phase::Established(legs, Stage::Stable));
         refused
     }
 
     /// Processes a final response of the other side from 300.
-    fn hear_final_across(
+    fn receive_final_across(
         &mut self,
-        step: &Step<'_>,
-        x: Pair,
-        asked: &RelayedInvite,
+        step: &StepContext<'_>,
+        legs: EstablishedLegs,
+        relayed: &RelayedInvite,
         key: TKey,
-        m: &Hearing,
-        desk: &mut Desk,
+        message: &ReceivedMessage,
+        output: &mut StepOutput,
     ) -> Result<(), NoMemory>
         requires { self.old.phase ≡ Over HasEnded }
         ensures call { OnOk result (self.new
-            ≡ (if ends_dialog (status_of m.now.heard.start) then over_stood step.now.present.at x self.old
-            (bye_to_both step.now.setting.now x (refused_back step.now.setting.now x asked.now.side asked.now.invite
-            key m.now self.old desk.old))
-            else onward (at_stage x Talking self.old) (refused_back step.now.setting.now x asked.now.side
-            asked.now.invite key m.now self.old desk.old)).call) }
-        ensures desk { OnOk result (desk.new
-            ≡ (if ends_dialog (status_of m.now.heard.start) then over_stood step.now.present.at x self.old
-            (bye_to_both step.now.setting.now x (refused_back step.now.setting.now x asked.now.side asked.now.invite
-            key m.now self.old desk.old))
-            else onward (at_stage x Talking self.old) (refused_back step.now.setting.now x asked.now.side
-            asked.now.invite key m.now self.old desk.old)).desk) }
+            ≡ (if ends_dialog (status_of message.now.parsed.start) then established_call_end step.now.snapshot.at legs self.old
+            (with_byes step.now.config.now legs (with_refusal_back step.now.config.now legs relayed.now.side relayed.now.invite
+            key message.now self.old output.old))
+            else step_result (at_stage legs Stable self.old) (with_refusal_back step.now.config.now legs relayed.now.side
+            relayed.now.invite key message.now self.old output.old)).call) }
+        ensures output { OnOk result (output.new
+            ≡ (if ends_dialog (status_of message.now.parsed.start) then established_call_end step.now.snapshot.at legs self.old
+            (with_byes step.now.config.now legs (with_refusal_back step.now.config.now legs relayed.now.side relayed.now.invite
+            key message.now self.old output.old))
+            else step_result (at_stage legs Stable self.old) (with_refusal_back step.now.config.now legs relayed.now.side
+            relayed.now.invite key message.now self.old output.old)).output) }
     {
-        if ends_dialog(status_of(m.message.start())) {
-            return self.end_by_answer(step, x, asked, key, m, desk);
+        if ends_dialog(status_of(message.message.start())) {
+            return self.end_by_response(step, legs, relayed, key, message, output);
         }
-        self.hear_refusal_across(step, x, asked, key, m, desk)
+        self.receive_refusal_across(step, legs, relayed, key, message, output)
     }
 
     /// The same; the INVITE is dropped afterwards.
-    pub fn take_final_across(
+    pub fn handle_final_across(
         &mut self,
-        step: &Step<'_>,
-        x: Pair,
-        asked: RelayedInvite,
+        step: &StepContext<'_>,
+        legs: EstablishedLegs,
+        relayed: RelayedInvite,
         key: TKey,
-        m: &Hearing,
-        desk: &mut Desk,
+        message: &ReceivedMessage,
+        output: &mut StepOutput,
     ) -> Result<(), NoMemory>
         requires { self.old.phase ≡ Over HasEnded }
         ensures call { OnOk result (self.new
-            ≡ (if ends_dialog (status_of m.now.heard.start) then over_stood step.now.present.at x self.old
-            (bye_to_both step.now.setting.now x (refused_back step.now.setting.now x asked.side asked.invite key m.now
-            self.old desk.old))
-            else onward (at_stage x Talking self.old) (refused_back step.now.setting.now x asked.side asked.invite key
-            m.now self.old desk.old)).call) }
-        ensures desk { OnOk result (desk.new
-            ≡ (if ends_dialog (status_of m.now.heard.start) then over_stood step.now.present.at x self.old
-            (bye_to_both step.now.setting.now x (refused_back step.now.setting.now x asked.side asked.invite key m.now
-            self.old desk.old))
-            else onward (at_stage x Talking self.old) (refused_back step.now.setting.now x asked.side asked.invite key
-            m.now self.old desk.old)).desk) }
+            ≡ (if ends_dialog (status_of message.now.parsed.start) then established_call_end step.now.snapshot.at legs self.old
+            (with_byes step.now.config.now legs (with_refusal_back step.now.config.now legs relayed.side relayed.invite key message.now
+            self.old output.old))
+            else step_result (at_stage legs Stable self.old) (with_refusal_back step.now.config.now legs relayed.side relayed.invite key
+            message.now self.old output.old)).call) }
+        ensures output { OnOk result (output.new
+            ≡ (if ends_dialog (status_of message.now.parsed.start) then established_call_end step.now.snapshot.at legs self.old
+            (with_byes step.now.config.now legs (with_refusal_back step.now.config.now legs relayed.side relayed.invite key message.now
+            self.old output.old))
+            else step_result (at_stage legs Stable self.old) (with_refusal_back step.now.config.now legs relayed.side relayed.invite key
+            message.now self.old output.old)).output) }
     {
-        let heard = self.hear_final_across(step, x, &asked, key, m, desk);
-        drop(asked);
+        let heard = self.receive_final_across(step, legs, &relayed, key, message, output);
+        drop(relayed);
         heard
     }
 
     /// Sends what is due where the call ends while an INVITE has no final response: this status to the side that sent it, and BYE to both.
-    pub fn pass_end(
+    pub fn send_end(
         &self,
-        step: &Step<'_>,
-        x: &mut Pair,
-        q: &Reinvite,
+        step: &StepContext<'_>,
+        legs: &mut EstablishedLegs,
+        reinvite: &Reinvite,
         code: u16,
-        desk: &mut Desk,
+        output: &mut StepOutput,
     ) -> Result<(), NoMemory>
-        ensures done { OnOk result (desk.new
-            ≡ bye_to_both step.now.setting.now x.old (replied_to step.now.setting.now self.now q.now.key q.now.request
-            code desk.old)) }
-        ensures caller { x.new.caller.meter ≡ x.old.caller.meter }
-        ensures callee { x.new.callee.meter ≡ x.old.callee.meter }
+        ensures done { OnOk result (output.new
+            ≡ with_byes step.now.config.now legs.old (with_status_to step.now.config.now self.now reinvite.now.key reinvite.now.request
+            code output.old)) }
+        ensures caller { legs.new.caller.meter ≡ legs.old.caller.meter }
+        ensures callee { legs.new.callee.meter ≡ legs.old.callee.meter }
     {
-        self.reply_to(step, q.key, &q.request, code, desk)?;
-        x.bye_to_both(step, desk)
+        self.respond_with_status(step, reinvite.key, &reinvite.request, code, output)?;
+        legs.send_byes(step, output)
     }
 
     /// The INVITE to the other side timed out, and the call is over.
-    pub fn hear_silence_across(
+    pub fn receive_timeout_across(
         &mut self,
-        step: &Step<'_>,
-        x: Pair,
-        q: &Reinvite,
-        desk: &mut Desk,
+        step: &StepContext<'_>,
+        legs: EstablishedLegs,
+        reinvite: &Reinvite,
+        output: &mut StepOutput,
     ) -> Result<(), NoMemory>
         requires { self.old.phase ≡ Over HasEnded }
         ensures call { OnOk result (self.new
-            ≡ (silenced_across step.now.setting.now step.now.present.at x q.now self.old desk.old).call) }
-        ensures desk { OnOk result (desk.new
-            ≡ (silenced_across step.now.setting.now step.now.present.at x q.now self.old desk.old).desk) }
+            ≡ (on_timeout_across step.now.config.now step.now.snapshot.at legs reinvite.now self.old output.old).call) }
+        ensures output { OnOk result (output.new
+            ≡ (on_timeout_across step.now.config.now step.now.snapshot.at legs reinvite.now self.old output.old).output) }
     {
-        let mut x = x;
-        let passed = self.pass_end(step, &mut x, q, 408, desk);
-        let closed = self.end_pair(step, x, desk);
+        let mut legs = legs;
+        let passed = self.send_end(step, &mut legs, reinvite, 408, output);
+        let closed = self.end_established(step, legs, output);
         passed?;
         closed
     }
 
     /// Sends what is due where a side leaves while an INVITE has no final response: 487 to the INVITE, and BYE to the other side.
-    fn pass_leaving(
+    fn send_departure(
         &self,
-        step: &Step<'_>,
-        x: &mut Pair,
-        q: &Reinvite,
-        leaving: Side,
-        desk: &mut Desk,
+        step: &StepContext<'_>,
+        legs: &mut EstablishedLegs,
+        reinvite: &Reinvite,
+        departing: Side,
+        output: &mut StepOutput,
     ) -> Result<(), NoMemory>
-        ensures done { OnOk result (desk.new
-            ≡ bye_to step.now.setting.now x.old (other_of leaving)
-            (replied_to step.now.setting.now self.now q.now.key q.now.request 487 desk.old)) }
-        ensures caller { x.new.caller.meter ≡ x.old.caller.meter }
-        ensures callee { x.new.callee.meter ≡ x.old.callee.meter }
+        ensures done { OnOk result (output.new
+            ≡ with_bye_to step.now.config.now legs.old (other_side departing)
+            (with_status_to step.now.config.now self.now reinvite.now.key reinvite.now.request 487 output.old)) }
+        ensures caller { legs.new.caller.meter ≡ legs.old.caller.meter }
+        ensures callee { legs.new.callee.meter ≡ legs.old.callee.meter }
     {
-        self.reply_to(step, q.key, &q.request, 487, desk)?;
-        x.bye_to(step, leaving.other(), desk)
+        self.respond_with_status(step, reinvite.key, &reinvite.request, 487, output)?;
+        legs.send_bye_to(step, departing.other(), output)
     }
 
     /// Keeps the INVITE that was relayed as an abandoned one, with these dialogs that need no BYE any more.
-    pub fn loosen_across(
+    pub fn abandon_across(
         &mut self,
         alloc: Global,
-        q: Reinvite,
+        reinvite: Reinvite,
         forks: List<Dialogue>,
     ) -> Result<(), NoMemory>
         ensures done { OnOk result (self.new
-            ≡ with_loose (record { invitation = record q.invitation { forks = forks }; within = true }) self.old) }
+            ≡ with_abandoned (record { invite = record reinvite.invite { forks = forks }; in_dialog = true }) self.old) }
         ensures phase { self.new.phase ≡ self.old.phase }
     {
-        let mut invitation = q.sent();
+        let mut invitation = reinvite.into_invite();
         drop(mem::replace(&mut invitation.forks, forks));
-        self.loosen(alloc, invitation, true)
+        self.abandon(alloc, invitation, true)
     }
 
     /// A side leaves, and the call is over; the INVITE is abandoned, with these dialogs that need no BYE any more.
-    fn end_asking(
+    fn end_reinviting(
         &mut self,
-        step: &Step<'_>,
-        x: Pair,
-        q: Reinvite,
+        step: &StepContext<'_>,
+        legs: EstablishedLegs,
+        reinvite: Reinvite,
         forks: List<Dialogue>,
-        leaving: Side,
-        desk: &mut Desk,
+        departing: Side,
+        output: &mut StepOutput,
     ) -> Result<(), NoMemory>
         requires { self.old.phase ≡ Over HasEnded }
         ensures call { OnOk result (self.new
-            ≡ (over_stood step.now.present.at x (with_loose (record
-            { invitation = record q.invitation { forks = forks }; within = true }) self.old)
-            (bye_to step.now.setting.now x (other_of leaving)
-            (replied_to step.now.setting.now self.old q.key q.request 487 desk.old))).call) }
-        ensures desk { OnOk result (desk.new
-            ≡ (over_stood step.now.present.at x (with_loose (record
-            { invitation = record q.invitation { forks = forks }; within = true }) self.old)
-            (bye_to step.now.setting.now x (other_of leaving)
-            (replied_to step.now.setting.now self.old q.key q.request 487 desk.old))).desk) }
+            ≡ (established_call_end step.now.snapshot.at legs (with_abandoned (record
+            { invite = record reinvite.invite { forks = forks }; in_dialog = true }) self.old)
+            (with_bye_to step.now.config.now legs (other_side departing)
+            (with_status_to step.now.config.now self.old reinvite.key reinvite.request 487 output.old))).call) }
+        ensures output { OnOk result (output.new
+            ≡ (established_call_end step.now.snapshot.at legs (with_abandoned (record
+            { invite = record reinvite.invite { forks = forks }; in_dialog = true }) self.old)
+            (with_bye_to step.now.config.now legs (other_side departing)
+            (with_status_to step.now.config.now self.old reinvite.key reinvite.request 487 output.old))).output) }
     {
-        let mut x = x;
-        let passed = self.pass_leaving(step, &mut x, &q, leaving, desk);
-        let loosened = self.loosen_across(step.alloc, q, forks);
-        let closed = self.end_pair(step, x, desk);
+        let mut legs = legs;
+        let passed = self.send_departure(step, &mut legs, &reinvite, departing, output);
+        let loosened = self.abandon_across(step.alloc, reinvite, forks);
+        let closed = self.end_established(step, legs, output);
         passed?;
         loosened?;
         closed
     }
 
     /// A side leaves while an INVITE has no final response, and the call is over.
-    pub fn bye_while_asking(
+    pub fn receive_bye_reinviting(
         &mut self,
-        step: &Step<'_>,
-        x: Pair,
-        asked: RelayedInvite,
-        leaving: Side,
-        desk: &mut Desk,
+        step: &StepContext<'_>,
+        legs: EstablishedLegs,
+        relayed: RelayedInvite,
+        departing: Side,
+        output: &mut StepOutput,
     ) -> Result<(), NoMemory>
         requires { self.old.phase ≡ Over HasEnded }
         ensures call { OnOk result (self.new
-            ≡ (bye_while_asking step.now.setting.now step.now.present.at x asked.side asked.invite leaving
-            self.old desk.old).call) }
-        ensures desk { OnOk result (desk.new
-            ≡ (bye_while_asking step.now.setting.now step.now.present.at x asked.side asked.invite leaving
-            self.old desk.old).desk) }
+            ≡ (on_bye_reinviting step.now.config.now step.now.snapshot.at legs relayed.side relayed.invite departing
+            self.old output.old).call) }
+        ensures output { OnOk result (output.new
+            ≡ (on_bye_reinviting step.now.config.now step.now.snapshot.at legs relayed.side relayed.invite departing
+            self.old output.old).output) }
     {
-        match ended_dialogs(step.alloc, &x, asked.side, leaving) {
+        match ended_dialogs(step.alloc, &legs, relayed.side, departing) {
             Err(error) => {
-                give_up_asking(x, asked, step.present.at);
+                give_up_reinviting(legs, relayed, step.snapshot.at);
                 Err(error)
             }
             Ok(forks) => {
-                let RelayedInvite { side: _, invite } = asked;
-                self.end_asking(step, x, invite, forks, leaving, desk)
+                let RelayedInvite { side: _, invite } = relayed;
+                self.end_reinviting(step, legs, invite, forks, departing, output)
             }
         }
     }

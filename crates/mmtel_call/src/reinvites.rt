@@ -1,28 +1,28 @@
 //! An INVITE of a side of an answered call, which is relayed to the other side, and may be cancelled.
 ghost use Rattle.std.specs.Prelude.{◌≡◌, if◌then◌else◌, IfOk, OnOk};
-ghost use Rattle.mmtel_desk.specs.Desks.{token};
-ghost use Rattle.mmtel_desk.specs.Invitations.{has_said, once_cancelled};
-ghost use Rattle.mmtel_desk.specs.Sending.{asked_for};
-ghost use Rattle.mmtel_answers.specs.Said.{status_of};
-ghost use Rattle.mmtel_types.specs.Sides.{other_of};
+ghost use Rattle.mmtel_output.specs.Outputs.{token};
+ghost use Rattle.mmtel_output.specs.SentInvites.{invite_after_cancel, with_provisional};
+ghost use Rattle.mmtel_output.specs.Sending.{with_relayed_request};
+ghost use Rattle.mmtel_compose.specs.ReceivedMessages.{status_of};
+ghost use Rattle.mmtel_types.specs.Sides.{other_side};
 ghost use Rattle.mmtel_types.specs.declared.causes.Cause.TheVariants.{Ended as HasEnded};
 ghost use Rattle.mmtel_call.specs.Answered.{leg_of, with_leg};
 ghost use Rattle.mmtel_call.specs.Calls.{Over};
-ghost use Rattle.mmtel_call.specs.Flights.{having_asked};
-ghost use Rattle.mmtel_call.specs.Reinvites.{asked_across, cancelled_across, cancelled_if_due, cancelling};
-ghost use Rattle.mmtel_call.specs.Reinvites.{having_invited, invited, on_response_across, proceeding, proceeding_across, sent_in};
-ghost use Rattle.mmtel_call.specs.Sending.{replied_to};
+ghost use Rattle.mmtel_call.specs.RelayedTransactions.{leg_after_request};
+ghost use Rattle.mmtel_call.specs.Reinvites.{after_invite_across, on_cancel_across, reinvite_after_cancel, with_cancel_if_due};
+ghost use Rattle.mmtel_call.specs.Reinvites.{invite_sent_in, leg_after_invite, on_provisional_across, on_reinvite, on_response_across, reinvite_after_provisional};
+ghost use Rattle.mmtel_call.specs.Sending.{with_status_to};
 
-use crate::attempts::has_said;
-use crate::calls::{Call, Pair, Phase, Reinvite, Stage};
-use crate::context::Step;
-use crate::flights::ask_leg;
+use crate::attempts::with_provisional;
+use crate::calls::{Call, EstablishedLegs, Phase, Reinvite, Stage};
+use crate::context::StepContext;
+use crate::relayed_transactions::relay_to_leg;
 use crate::signals::SideRequest;
-use mmtel_answers::{Hearing, status_of};
-use mmtel_desk::{Desk, Invitation, once_cancelled};
+use mmtel_base::{List, NoMemory, Text};
+use mmtel_compose::{ReceivedMessage, status_of};
 use mmtel_leg::Dialogue;
 use mmtel_message::Line;
-use mmtel_scan::{List, NoMemory, Text};
+use mmtel_output::{SentInvite, StepOutput, invite_after_cancel};
 use mmtel_transaction::TKey;
 use mmtel_types::{Moment, Side};
 use std::alloc::Global;
@@ -37,8 +37,12 @@ pub struct RelayedInvite {
 }
 
 /// A request as it was sent in this dialog.
-pub fn sent_in(alloc: Global, dialogue: &Dialogue, branch: Text) -> Result<Invitation, NoMemory>
-    ensures { IfOk result (λ i. i ≡ sent_in dialogue.now branch) }
+pub fn invite_sent_in(
+    alloc: Global,
+    dialogue: &Dialogue,
+    branch: Text,
+) -> Result<SentInvite, NoMemory>
+    ensures { IfOk result (λ i. i ≡ invite_sent_in dialogue.now branch) }
 {
     match dialogue.copied(alloc) {
         Err(error) => {
@@ -46,69 +50,69 @@ pub fn sent_in(alloc: Global, dialogue: &Dialogue, branch: Text) -> Result<Invit
             Err(error)
         }
         Ok(dialogue) => {
-            let number = dialogue.own;
-            Ok(Invitation::sent(dialogue, number, branch))
+            let number = dialogue.local_cseq;
+            Ok(SentInvite::new(dialogue, number, branch))
         }
     }
 }
 
 /// The INVITE after a provisional response in this client transaction; it is cancelled if a CANCEL waited for that response.
-fn proceeded(key: TKey, cancel_due: bool, invitation: Invitation) -> Invitation
-    ensures { result ≡ (if cancel_due then once_cancelled (has_said key invitation) else has_said key invitation) }
+fn invite_after_provisional(key: TKey, cancel_due: bool, invite: SentInvite) -> SentInvite
+    ensures { result ≡ (if cancel_due then invite_after_cancel (with_provisional key invite) else with_provisional key invite) }
 {
-    let invitation = has_said(key, invitation);
+    let invite = with_provisional(key, invite);
     if cancel_due {
-        return once_cancelled(invitation);
+        return invite_after_cancel(invite);
     }
-    invitation
+    invite
 }
 
 impl Reinvite {
     /// The INVITE after a provisional response in this client transaction.
     fn proceed(self, key: TKey) -> Reinvite
-        ensures { result ≡ proceeding key self }
+        ensures { result ≡ reinvite_after_provisional key self }
     {
         let Reinvite {
             key: own,
             request,
-            invitation,
+            invite: invitation,
             cancel_due,
         } = self;
         Reinvite {
             key: own,
             request,
-            invitation: proceeded(key, cancel_due, invitation),
+            invite: invite_after_provisional(key, cancel_due, invitation),
             cancel_due: false,
         }
     }
 
     /// The INVITE after the side that sent it cancelled it.
     fn cancel(self) -> Reinvite
-        ensures { result ≡ cancelling self }
+        ensures { result ≡ reinvite_after_cancel self }
     {
         let Reinvite {
             key,
             request,
-            invitation,
+            invite: invitation,
             cancel_due: _,
         } = self;
         let provisional = invitation.provisional;
         Reinvite {
             key,
             request,
-            invitation: once_cancelled(invitation),
+            invite: invite_after_cancel(invitation),
             cancel_due: !provisional,
         }
     }
 
     /// The INVITE to the other side alone.
-    pub fn sent(self) -> Invitation
-        ensures { result ≡ self.invitation }
+    pub fn into_invite(self) -> SentInvite
+        ensures { result ≡ self.invite }
     {
         let Reinvite {
             key: _,
             request,
-            invitation,
+            invite: invitation,
             cancel_due: _,
         } = self;
         drop(request);
@@ -117,12 +121,12 @@ impl Reinvite {
 }
 
 /// Spends both legs of a call that is given up, and the INVITE that was relayed.
-pub fn give_up_asking(x: Pair, asked: RelayedInvite, at: Moment) {
-    drop(asked);
-    x.give_up(at);
+pub fn give_up_reinviting(legs: EstablishedLegs, relayed: RelayedInvite, at: Moment) {
+    drop(relayed);
+    legs.give_up(at);
 }
 
-impl Pair {
+impl EstablishedLegs {
     /// The dialog of a side.
     pub fn dialogue_of(&self, side: Side) -> &Dialogue
         ensures { result.now ≡ (leg_of side self.now).dialogue }
@@ -134,28 +138,28 @@ impl Pair {
     }
 
     /// Sends to a side the request of the other one, with these header fields. Returns it as it was sent.
-    pub fn ask(
+    pub fn relay_request_kept(
         &mut self,
-        step: &Step<'_>,
+        step: &StepContext<'_>,
         method: &[u8],
         side: Side,
         lines: &List<Line>,
-        m: &Hearing,
-        desk: &mut Desk,
-    ) -> Result<Invitation, NoMemory>
-        ensures done { OnOk result (desk.new
-            ≡ asked_for step.now.setting.now.sip method.now (leg_of side self.old).dialogue lines.now m.now.heard
-            desk.old) }
+        message: &ReceivedMessage,
+        output: &mut StepOutput,
+    ) -> Result<SentInvite, NoMemory>
+        ensures done { OnOk result (output.new
+            ≡ with_relayed_request step.now.config.now.sip method.now (leg_of side self.old).dialogue lines.now message.now.parsed
+            output.old) }
         ensures sent { IfOk result (λ i. i
-            ≡ sent_in (having_asked method.now (leg_of side self.old)).dialogue (token desk.old)) }
+            ≡ invite_sent_in (leg_after_request method.now (leg_of side self.old)).dialogue (token output.old)) }
         ensures leg { OnOk result (self.new
-            ≡ with_leg side (having_asked method.now (leg_of side self.old)) self.old) }
+            ≡ with_leg side (leg_after_request method.now (leg_of side self.old)) self.old) }
         ensures caller { self.new.caller.meter ≡ self.old.caller.meter }
         ensures callee { self.new.callee.meter ≡ self.old.callee.meter }
     {
         match side {
-            Side::Caller => ask_leg(step, method, &mut self.caller, lines, m, desk),
-            Side::Callee => ask_leg(step, method, &mut self.callee, lines, m, desk),
+            Side::Caller => relay_to_leg(step, method, &mut self.caller, lines, message, output),
+            Side::Callee => relay_to_leg(step, method, &mut self.callee, lines, message, output),
         }
     }
 }
@@ -164,140 +168,156 @@ impl Call {
     /// Sends what is due on an INVITE of a side: 100 to that side, and the INVITE to the other one. Returns the INVITE that was sent.
     fn pass_invite(
         &self,
-        step: &Step<'_>,
-        x: &mut Pair,
+        step: &StepContext<'_>,
+        legs: &mut EstablishedLegs,
         request: &SideRequest,
-        desk: &mut Desk,
-    ) -> Result<Invitation, NoMemory>
-        ensures done { OnOk result (desk.new
-            ≡ (asked_across step.now.setting.now x.old request.now.side request.now.key request.now.hearing self.now
-            (replied_to step.now.setting.now self.now request.now.key request.now.hearing 100 desk.old)).desk) }
-        ensures invitation { IfOk result (λ i. i
-            ≡ sent_in (having_invited (leg_of (other_of request.now.side) x.old)).dialogue (token desk.old)) }
-        ensures leg { OnOk result (x.new
-            ≡ with_leg (other_of request.now.side) (having_invited (leg_of (other_of request.now.side) x.old)) x.old) }
+        output: &mut StepOutput,
+    ) -> Result<SentInvite, NoMemory>
+        ensures done { OnOk result (output.new
+            ≡ (after_invite_across step.now.config.now legs.old request.now.side request.now.key request.now.message self.now
+            (with_status_to step.now.config.now self.now request.now.key request.now.message 100 output.old)).output) }
+        ensures invite { IfOk result (λ i. i
+            ≡ invite_sent_in (leg_after_invite (leg_of (other_side request.now.side) legs.old)).dialogue (token output.old)) }
+        ensures leg { OnOk result (legs.new
+            ≡ with_leg (other_side request.now.side) (leg_after_invite (leg_of (other_side request.now.side) legs.old)) legs.old) }
     {
         let side = request.side;
-        let hearing = &request.hearing;
-        self.reply_to(step, request.key, hearing, 100, desk)?;
-        let lines = self.shown_across(step, x, side, hearing)?;
-        let invited = x.ask(step, b"INVITE", side.other(), &lines, hearing, desk);
+        let hearing = &request.message;
+        self.respond_with_status(step, request.key, hearing, 100, output)?;
+        let lines = self.copied_across(step, legs, side, hearing)?;
+        let invited = legs.relay_request_kept(
+            step,
+            b"INVITE",
+            side.other(),
+            &lines,
+            hearing,
+            output,
+        );
         drop(lines);
         invited
     }
 
     /// A side of a stable call sends an INVITE.
-    pub fn invite_across(
+    pub fn relay_invite_across(
         &mut self,
-        step: &Step<'_>,
-        x: Pair,
+        step: &StepContext<'_>,
+        legs: EstablishedLegs,
         request: SideRequest,
-        desk: &mut Desk,
+        output: &mut StepOutput,
     ) -> Result<(), NoMemory>
         requires { self.old.phase ≡ Over HasEnded }
         ensures call { OnOk result (self.new
-            ≡ (invited step.now.setting.now x request.side request.key request.hearing self.old desk.old).call) }
-        ensures desk { OnOk result (desk.new
-            ≡ (invited step.now.setting.now x request.side request.key request.hearing self.old desk.old).desk) }
+            ≡ (on_reinvite step.now.config.now legs request.side request.key request.message self.old output.old).call) }
+        ensures output { OnOk result (output.new
+            ≡ (on_reinvite step.now.config.now legs request.side request.key request.message self.old output.old).output) }
     {
-        let mut x = x;
-        match self.pass_invite(step, &mut x, &request, desk) {
+        let mut legs = legs;
+        match self.pass_invite(step, &mut legs, &request, output) {
             Err(error) => {
                 drop(request);
-                x.give_up(step.present.at);
+                legs.give_up(step.snapshot.at);
                 Err(error)
             }
             Ok(invitation) => {
-                let SideRequest { side, key, hearing } = request;
+                let SideRequest {
+                    side,
+                    key,
+                    message: hearing,
+                } = request;
                 let asked = Reinvite {
                     key,
                     request: hearing,
-                    invitation,
+                    invite: invitation,
                     cancel_due: false,
                 };
-                self.put_phase(Phase::Stood(x, Stage::Asking(side, asked)));
+                self.put_phase(Phase::Established(legs, Stage::Reinviting(side, asked)));
                 Ok(())
             }
         }
     }
 
     /// Processes a provisional response of the other side.
-    fn hear_proceeding_across(
+    fn receive_provisional_across(
         &mut self,
-        step: &Step<'_>,
-        x: Pair,
-        asked: RelayedInvite,
+        step: &StepContext<'_>,
+        legs: EstablishedLegs,
+        relayed: RelayedInvite,
         key: TKey,
-        desk: &mut Desk,
+        output: &mut StepOutput,
     ) -> Result<(), NoMemory>
         requires { self.old.phase ≡ Over HasEnded }
         ensures call { OnOk result (self.new
-            ≡ (proceeding_across step.now.setting.now x asked.side asked.invite key self.old desk.old).call) }
-        ensures desk { OnOk result (desk.new
-            ≡ (proceeding_across step.now.setting.now x asked.side asked.invite key self.old desk.old).desk) }
+            ≡ (on_provisional_across step.now.config.now legs relayed.side relayed.invite key self.old output.old).call) }
+        ensures output { OnOk result (output.new
+            ≡ (on_provisional_across step.now.config.now legs relayed.side relayed.invite key self.old output.old).output) }
     {
-        let cancelled = cancel_if_due(step, key, &asked.invite, desk);
-        let RelayedInvite { side, invite } = asked;
-        self.put_phase(Phase::Stood(x, Stage::Asking(side, invite.proceed(key))));
+        let cancelled = cancel_if_due(step, key, &relayed.invite, output);
+        let RelayedInvite { side, invite } = relayed;
+        self.put_phase(Phase::Established(legs, Stage::Reinviting(side, invite.proceed(key))));
         cancelled
     }
 
     /// Processes a response of the other side.
-    pub fn hear_response_across(
+    pub fn receive_response_across(
         &mut self,
-        step: &Step<'_>,
-        x: Pair,
-        asked: RelayedInvite,
+        step: &StepContext<'_>,
+        legs: EstablishedLegs,
+        relayed: RelayedInvite,
         key: TKey,
-        m: &Hearing,
-        desk: &mut Desk,
+        message: &ReceivedMessage,
+        output: &mut StepOutput,
     ) -> Result<(), NoMemory>
         requires { self.old.phase ≡ Over HasEnded }
         ensures call { OnOk result (self.new
-            ≡ (on_response_across step.now.setting.now step.now.present.at x asked.side asked.invite key m.now
-            (status_of m.now.heard.start) self.old desk.old).call) }
-        ensures desk { OnOk result (desk.new
-            ≡ (on_response_across step.now.setting.now step.now.present.at x asked.side asked.invite key m.now
-            (status_of m.now.heard.start) self.old desk.old).desk) }
+            ≡ (on_response_across step.now.config.now step.now.snapshot.at legs relayed.side relayed.invite key message.now
+            (status_of message.now.parsed.start) self.old output.old).call) }
+        ensures output { OnOk result (output.new
+            ≡ (on_response_across step.now.config.now step.now.snapshot.at legs relayed.side relayed.invite key message.now
+            (status_of message.now.parsed.start) self.old output.old).output) }
     {
-        let code = status_of(m.message.start());
+        let code = status_of(message.message.start());
         if code < 200 {
-            return self.hear_proceeding_across(step, x, asked, key, desk);
+            return self.receive_provisional_across(step, legs, relayed, key, output);
         }
         if code < 300 {
-            return self.hear_agreement(step, x, asked, key, m, desk);
+            return self.receive_acceptance(step, legs, relayed, key, message, output);
         }
-        self.take_final_across(step, x, asked, key, m, desk)
+        self.handle_final_across(step, legs, relayed, key, message, output)
     }
 
     /// The side that sent the INVITE cancels it.
     pub fn cancel_across(
         &mut self,
-        step: &Step<'_>,
-        x: Pair,
-        asked: RelayedInvite,
-        desk: &mut Desk,
+        step: &StepContext<'_>,
+        legs: EstablishedLegs,
+        relayed: RelayedInvite,
+        output: &mut StepOutput,
     ) -> Result<(), NoMemory>
         requires { self.old.phase ≡ Over HasEnded }
         ensures call { OnOk result (self.new
-            ≡ (cancelled_across step.now.setting.now x asked.side asked.invite self.old desk.old).call) }
-        ensures desk { OnOk result (desk.new
-            ≡ (cancelled_across step.now.setting.now x asked.side asked.invite self.old desk.old).desk) }
+            ≡ (on_cancel_across step.now.config.now legs relayed.side relayed.invite self.old output.old).call) }
+        ensures output { OnOk result (output.new
+            ≡ (on_cancel_across step.now.config.now legs relayed.side relayed.invite self.old output.old).output) }
     {
-        let cancelled = desk.cancel(step.alloc, step.sip(), &asked.invite.invitation);
-        let RelayedInvite { side, invite } = asked;
-        self.put_phase(Phase::Stood(x, Stage::Asking(side, invite.cancel())));
+        let cancelled = output.cancel(step.alloc, step.sip(), &relayed.invite.invite);
+        let RelayedInvite { side, invite } = relayed;
+        self.put_phase(Phase::Established(legs, Stage::Reinviting(side, invite.cancel())));
         cancelled
     }
 }
 
 /// Sends the CANCEL that waited for a provisional response.
-fn cancel_if_due(step: &Step<'_>, key: TKey, q: &Reinvite, desk: &mut Desk) -> Result<(), NoMemory>
-    ensures { OnOk result (desk.new ≡ cancelled_if_due step.now.setting.now key q.now desk.old) }
+fn cancel_if_due(
+    step: &StepContext<'_>,
+    key: TKey,
+    reinvite: &Reinvite,
+    output: &mut StepOutput,
+) -> Result<(), NoMemory>
+    ensures { OnOk result (output.new ≡ with_cancel_if_due step.now.config.now key reinvite.now output.old) }
 {
     let _key = key;
-    if q.cancel_due && !q.invitation.cancelled {
-        return desk.emit_cancel(step.alloc, step.sip(), &q.invitation);
+    if reinvite.cancel_due && !reinvite.invite.cancelled {
+        return output.send_cancel(step.alloc, step.sip(), &reinvite.invite);
     }
     Ok(())
 }

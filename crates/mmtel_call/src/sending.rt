@@ -1,39 +1,39 @@
 //! What a call sends: what it relays to the caller, and its own responses to requests.
 ghost use Rattle.std.specs.Prelude.{◌≡◌, [], OnOk};
 ghost use Rattle.std.specs.Option.{option_copied};
-ghost use Rattle.mmtel_desk.specs.Sending.{answered};
-ghost use Rattle.mmtel_precedence.specs.Told.{told_due};
-ghost use Rattle.mmtel_call.specs.Diverting.{told_of};
-ghost use Rattle.mmtel_call.specs.Requests.{answered_to, unheard, unlisted};
-ghost use Rattle.mmtel_answers.specs.Answers.{allowed};
-ghost use Rattle.mmtel_call_decisions.specs.Site.{further_methods};
-ghost use Rattle.mmtel_call.specs.Sending.{relayed_to_caller, replied_to, told_caller};
+ghost use Rattle.mmtel_output.specs.Sending.{with_response};
+ghost use Rattle.mmtel_precedence.specs.Views.{due_diversion_view};
+ghost use Rattle.mmtel_call.specs.Diverting.{with_notification_of};
+ghost use Rattle.mmtel_call.specs.Requests.{with_refused_request, with_response_to, with_unlisted_response};
+ghost use Rattle.mmtel_compose.specs.Responses.{allow_lines};
+ghost use Rattle.mmtel_call_services.specs.CallConfig.{further_methods};
+ghost use Rattle.mmtel_call.specs.Sending.{with_relay_to_caller, with_status_to, with_status_to_caller};
 
 use crate::calls::Call;
-use crate::context::Step;
-use mmtel_answers::{Hearing, OwnResponse, allowed, retry_after};
-use mmtel_call_decisions::{Service, unlisted_status};
-use mmtel_desk::Desk;
+use crate::context::StepContext;
+use mmtel_base::{List, NoMemory};
+use mmtel_call_services::{Service, unlisted_status};
+use mmtel_compose::{OwnResponse, ReceivedMessage, allow_lines, retry_after_lines};
 use mmtel_leg::DialogueFault;
 use mmtel_message::Line;
-use mmtel_precedence::Onward;
-use mmtel_scan::{List, NoMemory};
+use mmtel_output::StepOutput;
+use mmtel_precedence::DueDiversion;
 use mmtel_transaction::TKey;
 use mmtel_types::Side;
 
 impl Call {
     /// Sends a response of this status, without further header fields, to a request of a side.
-    pub fn reply_to(
+    pub fn respond_with_status(
         &self,
-        step: &Step<'_>,
+        step: &StepContext<'_>,
         key: TKey,
-        request: &Hearing,
+        request: &ReceivedMessage,
         code: u16,
-        desk: &mut Desk,
+        output: &mut StepOutput,
     ) -> Result<(), NoMemory>
-        ensures { OnOk result (desk.new ≡ replied_to step.now.setting.now self.now key request.now code desk.old) }
+        ensures { OnOk result (output.new ≡ with_status_to step.now.config.now self.now key request.now code output.old) }
     {
-        desk.reply(
+        output.respond_with_status(
             step.alloc,
             step.sip(),
             key,
@@ -44,17 +44,17 @@ impl Call {
     }
 
     /// Sends a response with these further header fields to it.
-    fn answer_to(
+    fn respond_to(
         &self,
-        step: &Step<'_>,
+        step: &StepContext<'_>,
         key: TKey,
-        request: &Hearing,
+        request: &ReceivedMessage,
         code: u16,
         named: &List<Line>,
-        desk: &mut Desk,
+        output: &mut StepOutput,
     ) -> Result<(), NoMemory>
-        ensures { OnOk result (desk.new
-            ≡ answered_to step.now.setting.now self.now key request.now code named.now desk.old) }
+        ensures { OnOk result (output.new
+            ≡ with_response_to step.now.config.now self.now key request.now code named.now output.old) }
     {
         let tag = self.opening.tag.bytes();
         let own = OwnResponse {
@@ -63,31 +63,36 @@ impl Call {
             named: named.items(),
             body: b"",
         };
-        desk.answer(step.alloc, step.sip(), key, request, tag, own)
+        output.respond(step.alloc, step.sip(), key, request, tag, own)
     }
 
     /// Sends a response of this status, without further header fields, to the INVITE that opened the call.
-    pub fn tell_caller(&self, step: &Step<'_>, code: u16, desk: &mut Desk) -> Result<(), NoMemory>
-        ensures { OnOk result (desk.new ≡ told_caller step.now.setting.now self.now code desk.old) }
+    pub fn respond_to_caller(
+        &self,
+        step: &StepContext<'_>,
+        code: u16,
+        output: &mut StepOutput,
+    ) -> Result<(), NoMemory>
+        ensures { OnOk result (output.new ≡ with_status_to_caller step.now.config.now self.now code output.old) }
     {
         let opening = &self.opening;
-        self.reply_to(step, opening.key, &opening.invite, code, desk)
+        self.respond_with_status(step, opening.key, &opening.invite, code, output)
     }
 
     /// Notifies the caller of a diversion that was made, if the forward requires that (TS 24.604 §4.5.2.6).
-    pub fn tell_of(
+    pub fn notify_of(
         &self,
-        step: &Step<'_>,
-        due: &Onward<'_>,
-        desk: &mut Desk,
+        step: &StepContext<'_>,
+        due: &DueDiversion<'_>,
+        output: &mut StepOutput,
     ) -> Result<(), NoMemory>
-        ensures { OnOk result (desk.new ≡ told_of step.now.setting.now (told_due due.entry.now) self.now desk.old) }
+        ensures { OnOk result (output.new ≡ with_notification_of step.now.config.now (due_diversion_view due.entry.now) self.now output.old) }
     {
         let opening = &self.opening;
-        match opening.notice_of(step.alloc, step.setting, &self.diversions, due)? {
+        match opening.notification_lines(step.alloc, step.config, &self.diversions, due)? {
             None => Ok(()),
             Some(lines) => {
-                let answered = self.answer_with(step, 181, &lines, desk);
+                let answered = self.respond_with_lines(step, 181, &lines, output);
                 drop(lines);
                 answered
             }
@@ -95,16 +100,16 @@ impl Call {
     }
 
     /// Sends a response of this status with these header fields of History-Info to the INVITE that opened the call.
-    fn answer_with(
+    fn respond_with_lines(
         &self,
-        step: &Step<'_>,
+        step: &StepContext<'_>,
         code: u16,
         lines: &List<Line>,
-        desk: &mut Desk,
+        output: &mut StepOutput,
     ) -> Result<(), NoMemory>
-        ensures { OnOk result (desk.new
-            ≡ answered step.now.setting.now.sip self.now.opening.key self.now.opening.invite self.now.opening.tag code
-            lines.now [] [] desk.old) }
+        ensures { OnOk result (output.new
+            ≡ with_response step.now.config.now.sip self.now.opening.key self.now.opening.invite self.now.opening.tag code
+            lines.now [] [] output.old) }
     {
         let opening = &self.opening;
         let tag = opening.tag.bytes();
@@ -114,7 +119,7 @@ impl Call {
             named: &[],
             body: b"",
         };
-        desk.answer(
+        output.respond(
             step.alloc,
             step.sip(),
             opening.key,
@@ -127,27 +132,27 @@ impl Call {
     /// Relays a response of the target to the caller.
     pub fn relay_to_caller(
         &self,
-        step: &Step<'_>,
+        step: &StepContext<'_>,
         service: Option<&Service>,
-        response: &Hearing,
-        desk: &mut Desk,
+        response: &ReceivedMessage,
+        output: &mut StepOutput,
     ) -> Result<(), NoMemory>
-        ensures { OnOk result (desk.new
-            ≡ relayed_to_caller step.now.setting.now self.now (option_copied service.entry) response.now desk.old) }
+        ensures { OnOk result (output.new
+            ≡ with_relay_to_caller step.now.config.now self.now (option_copied service.entry) response.now output.old) }
     {
         let opening = &self.opening;
         let peer = opening.invite.peer;
         let callee = Side::Callee;
-        let lines = opening.shown_to(
+        let lines = opening.copied_lines(
             step.alloc,
-            step.setting,
+            step.config,
             &self.diversions,
             service,
             callee,
             peer,
             response,
         )?;
-        let relayed = desk.relay(
+        let relayed = output.relay_response(
             step.alloc,
             step.sip(),
             opening.key,
@@ -161,22 +166,24 @@ impl Call {
     }
 
     /// Sends a response to a request that its leg refused.
-    pub fn refuse_unheard(
+    pub fn refuse_invalid(
         &self,
-        step: &Step<'_>,
+        step: &StepContext<'_>,
         key: TKey,
-        request: &Hearing,
+        request: &ReceivedMessage,
         fault: DialogueFault,
-        desk: &mut Desk,
+        output: &mut StepOutput,
     ) -> Result<(), NoMemory>
-        ensures { OnOk result (desk.new ≡ unheard step.now.setting.now self.now key request.now fault desk.old) }
+        ensures { OnOk result (output.new ≡ with_refused_request step.now.config.now self.now key request.now fault output.old) }
     {
         match fault {
-            DialogueFault::OldCSeq { last: _ } => { self.reply_to(step, key, request, 500, desk) }
-            DialogueFault::Pending => self.reply_to(step, key, request, 491, desk),
+            DialogueFault::OldCSeq { last: _ } => {
+                self.respond_with_status(step, key, request, 500, output)
+            }
+            DialogueFault::Pending => self.respond_with_status(step, key, request, 491, output),
             DialogueFault::Unfinished => {
-                let named = retry_after(step.alloc)?;
-                let answered = self.answer_to(step, key, request, 500, &named, desk);
+                let named = retry_after_lines(step.alloc)?;
+                let answered = self.respond_to(step, key, request, 500, &named, output);
                 drop(named);
                 answered
             }
@@ -184,37 +191,37 @@ impl Call {
     }
 
     /// Sends the response to OPTIONS (RFC 3261 §11.2).
-    fn answer_options(
+    fn respond_to_options(
         &self,
-        step: &Step<'_>,
+        step: &StepContext<'_>,
         key: TKey,
-        request: &Hearing,
-        desk: &mut Desk,
+        request: &ReceivedMessage,
+        output: &mut StepOutput,
     ) -> Result<(), NoMemory>
-        ensures { OnOk result (desk.new
-            ≡ answered_to step.now.setting.now self.now key request.now 200
-            (allowed (further_methods step.now.setting.now)) desk.old) }
+        ensures { OnOk result (output.new
+            ≡ with_response_to step.now.config.now self.now key request.now 200
+            (allow_lines (further_methods step.now.config.now)) output.old) }
     {
-        let named = allowed(step.alloc, step.setting.further_methods())?;
-        let answered = self.answer_to(step, key, request, 200, &named, desk);
+        let named = allow_lines(step.alloc, step.config.further_methods())?;
+        let answered = self.respond_to(step, key, request, 200, &named, output);
         drop(named);
         answered
     }
 
     /// Sends the response to a request for which the step table has no transition.
-    pub fn answer_unlisted(
+    pub fn respond_to_unlisted(
         &self,
-        step: &Step<'_>,
+        step: &StepContext<'_>,
         key: TKey,
-        request: &Hearing,
-        desk: &mut Desk,
+        request: &ReceivedMessage,
+        output: &mut StepOutput,
     ) -> Result<(), NoMemory>
-        ensures { OnOk result (desk.new ≡ unlisted step.now.setting.now self.now key request.now desk.old) }
+        ensures { OnOk result (output.new ≡ with_unlisted_response step.now.config.now self.now key request.now output.old) }
     {
         let status = unlisted_status(request.message.start());
         if status == 200 {
-            return self.answer_options(step, key, request, desk);
+            return self.respond_to_options(step, key, request, output);
         }
-        self.reply_to(step, key, request, status, desk)
+        self.respond_with_status(step, key, request, status, output)
     }
 }

@@ -1,7 +1,7 @@
 //! The signals that a call receives.
 
-use mmtel_answers::Hearing;
-use mmtel_scan::Text;
+use mmtel_base::Text;
+use mmtel_compose::ReceivedMessage;
 use mmtel_transaction::{DueWord, TKey};
 use mmtel_types::Side;
 
@@ -13,7 +13,7 @@ pub struct SideRequest {
     /// Its server transaction.
     pub key: TKey,
     /// The request as it was received.
-    pub hearing: Hearing,
+    pub message: ReceivedMessage,
 }
 
 /// A signal that a call receives after it was opened.
@@ -23,23 +23,23 @@ pub enum Signal {
     Request {
         side: Side,
         key: TKey,
-        request: Hearing,
+        request: ReceivedMessage,
     },
     /// An ACK of a side for a 2xx.
     Ack {
         side: Side,
-        ack: Hearing,
+        ack: ReceivedMessage,
     },
     /// A CANCEL, which opened the first server transaction, of the INVITE of the second.
     Cancel {
         key: TKey,
-        cancel: Hearing,
+        cancel: ReceivedMessage,
         invite: TKey,
     },
     /// A response that was received in this client transaction.
     Answer {
         key: TKey,
-        response: Hearing,
+        response: ReceivedMessage,
     },
     /// A request timed out without any response: its branch, with the cookie, and its method.
     Silent {

@@ -1,26 +1,26 @@
 //! The transitions of an answered call on each signal, by its stage.
 ghost use Rattle.std.specs.Prelude.{◌≡◌, OnErr, OnOk};
 ghost use Rattle.mmtel_types.specs.declared.causes.Cause.TheVariants.{Ended as HasEnded};
-ghost use Rattle.mmtel_call.specs.Calls.{Over, Stood};
-ghost use Rattle.mmtel_call.specs.Stages.{acked_at, busy_in, has_left, is_ack_at, is_due_at, left_by, on_ack_at, on_bye, on_cancel_at, on_due_at, on_heard_at, on_invite, on_request_at};
-ghost use Rattle.mmtel_call.specs.Stages.{on_other_at, on_response_at, on_silence_at, rung_out};
+ghost use Rattle.mmtel_call.specs.Calls.{Established, Over};
+ghost use Rattle.mmtel_call.specs.Stages.{after_ack_at, after_bye_at, busy_in, has_departed, is_ack_at, is_due_at, on_ack_at, on_bye, on_cancel_at, on_due_at, on_invite, on_request_at, on_valid_request_at};
+ghost use Rattle.mmtel_call.specs.Stages.{after_timer_at, on_other_at, on_response_at, on_timeout_at};
 ghost use Rattle.mmtel_call.specs.Answered.{leg_of, with_leg};
-ghost use Rattle.mmtel_call.specs.Reinvites.{silenced_across};
-ghost use Rattle.mmtel_call.specs.Requests.{having_heard, says};
+ghost use Rattle.mmtel_call.specs.Reinvites.{on_timeout_across};
+ghost use Rattle.mmtel_call.specs.Requests.{leg_after_receiving, request_check};
 
 use crate::answered::acknowledges;
-use crate::calls::{Call, Pair, Phase, Reinvite, Stage};
-use crate::context::Step;
+use crate::calls::{Call, EstablishedLegs, Phase, Reinvite, Stage};
+use crate::context::StepContext;
 use crate::expiring::is_expiry;
-use crate::legs::hear;
+use crate::legs::receive;
 use crate::reinvites::RelayedInvite;
 use crate::signals::SideRequest;
-use mmtel_answers::Hearing;
-use mmtel_call_decisions::is_same_side;
-use mmtel_desk::Desk;
+use mmtel_base::NoMemory;
+use mmtel_call_services::is_same_side;
+use mmtel_compose::ReceivedMessage;
 use mmtel_leg::{DialogueFault, InFlight};
 use mmtel_message::is_method;
-use mmtel_scan::NoMemory;
+use mmtel_output::StepOutput;
 use mmtel_transaction::{DueWord, TKey};
 use mmtel_types::Side;
 
@@ -31,9 +31,9 @@ impl Stage {
     {
         match self {
             Stage::Answered(_, _) => InFlight::Own,
-            Stage::Parting(_, _) => InFlight::Own,
-            Stage::Talking => InFlight::None,
-            Stage::Asking(asking, _) => if is_same_side(*asking, side) {
+            Stage::Departing(_, _) => InFlight::Own,
+            Stage::Stable => InFlight::None,
+            Stage::Reinviting(asking, _) => if is_same_side(*asking, side) {
                 InFlight::Theirs
             } else {
                 InFlight::Own
@@ -42,16 +42,21 @@ impl Stage {
     }
 }
 
-impl Pair {
+impl EstablishedLegs {
     /// Records the CSeq number of a request of a side, or refuses it.
-    fn hear(&mut self, side: Side, m: &Hearing, busy: InFlight) -> Result<(), DialogueFault>
-        ensures answer { result ≡ says (leg_of side self.old) m.now busy }
-        ensures heard { OnOk result (self.new ≡ with_leg side (having_heard (leg_of side self.old) m.now) self.old) }
+    fn receive(
+        &mut self,
+        side: Side,
+        message: &ReceivedMessage,
+        busy: InFlight,
+    ) -> Result<(), DialogueFault>
+        ensures answer { result ≡ request_check (leg_of side self.old) message.now busy }
+        ensures received { OnOk result (self.new ≡ with_leg side (leg_after_receiving (leg_of side self.old) message.now) self.old) }
         ensures refused { OnErr result (self.new ≡ self.old) }
     {
         match side {
-            Side::Caller => hear(&mut self.caller, m, busy),
-            Side::Callee => hear(&mut self.callee, m, busy),
+            Side::Caller => receive(&mut self.caller, message, busy),
+            Side::Callee => receive(&mut self.callee, message, busy),
         }
     }
 }
@@ -63,33 +68,33 @@ impl Stage {
     {
         match self {
             Stage::Answered(_, success) => success.is_due(what),
-            Stage::Parting(_, success) => success.is_due(what),
-            Stage::Talking => is_expiry(successes, what),
-            Stage::Asking(_, _) => is_expiry(successes, what),
+            Stage::Departing(_, success) => success.is_due(what),
+            Stage::Stable => is_expiry(successes, what),
+            Stage::Reinviting(_, _) => is_expiry(successes, what),
         }
     }
 
     /// Whether an ACK of a side belongs to the 2xx that waits for it.
-    fn is_ack(&self, side: Side, m: &Hearing) -> bool
-        ensures { result ≡ is_ack_at self.now side m.now }
+    fn is_ack(&self, side: Side, message: &ReceivedMessage) -> bool
+        ensures { result ≡ is_ack_at self.now side message.now }
     {
         match self {
-            Stage::Answered(waiting, success) => acknowledges(*waiting, success, side, m),
-            Stage::Parting(waiting, success) => acknowledges(*waiting, success, side, m),
-            Stage::Talking => false,
-            Stage::Asking(_, _) => false,
+            Stage::Answered(waiting, success) => acknowledges(*waiting, success, side, message),
+            Stage::Departing(waiting, success) => acknowledges(*waiting, success, side, message),
+            Stage::Stable => false,
+            Stage::Reinviting(_, _) => false,
         }
     }
 
     /// Whether the side has left already.
-    fn has_left(&self, side: Side) -> bool
-        ensures { result ≡ has_left self.now side }
+    fn has_departed(&self, side: Side) -> bool
+        ensures { result ≡ has_departed self.now side }
     {
         match self {
             Stage::Answered(_, _) => false,
-            Stage::Parting(waiting, _) => !is_same_side(*waiting, side),
-            Stage::Talking => false,
-            Stage::Asking(_, _) => false,
+            Stage::Departing(waiting, _) => !is_same_side(*waiting, side),
+            Stage::Stable => false,
+            Stage::Reinviting(_, _) => false,
         }
     }
 }
@@ -105,7 +110,7 @@ impl Call {
     }
 
     /// The same, and drops a request that is not kept.
-    fn pass_over(&mut self, phase: Phase, request: SideRequest)
+    fn skip_request(&mut self, phase: Phase, request: SideRequest)
         requires { self.old.phase ≡ Over HasEnded }
         ensures { self.new ≡ record self.old { phase = phase } }
     {
@@ -114,432 +119,450 @@ impl Call {
     }
 
     /// Processes an INVITE of a side that its leg accepted.
-    fn take_invite(
+    fn receive_invite(
         &mut self,
-        step: &Step<'_>,
-        x: Pair,
+        step: &StepContext<'_>,
+        legs: EstablishedLegs,
         stage: Stage,
         request: SideRequest,
-        desk: &mut Desk,
+        output: &mut StepOutput,
     ) -> Result<(), NoMemory>
         requires { self.old.phase ≡ Over HasEnded }
         ensures call { OnOk result (self.new
-            ≡ (on_invite stage step.now.setting.now x request.side request.key request.hearing
-            (record self.old { phase = Stood x stage }) desk.old).call) }
-        ensures desk { OnOk result (desk.new
-            ≡ (on_invite stage step.now.setting.now x request.side request.key request.hearing
-            (record self.old { phase = Stood x stage }) desk.old).desk) }
+            ≡ (on_invite stage step.now.config.now legs request.side request.key request.message
+            (record self.old { phase = Established legs stage }) output.old).call) }
+        ensures output { OnOk result (output.new
+            ≡ (on_invite stage step.now.config.now legs request.side request.key request.message
+            (record self.old { phase = Established legs stage }) output.old).output) }
     {
         match stage {
-            Stage::Talking => self.invite_across(step, x, request, desk),
+            Stage::Stable => self.relay_invite_across(step, legs, request, output),
             Stage::Answered(waiting, success) => {
-                self.pass_over(Phase::Stood(x, Stage::Answered(waiting, success)), request);
+                self.skip_request(
+                    Phase::Established(legs, Stage::Answered(waiting, success)),
+                    request,
+                );
                 Ok(())
             }
-            Stage::Parting(waiting, success) => {
-                self.pass_over(Phase::Stood(x, Stage::Parting(waiting, success)), request);
+            Stage::Departing(waiting, success) => {
+                self.skip_request(
+                    Phase::Established(legs, Stage::Departing(waiting, success)),
+                    request,
+                );
                 Ok(())
             }
-            Stage::Asking(asking, q) => {
-                self.pass_over(Phase::Stood(x, Stage::Asking(asking, q)), request);
+            Stage::Reinviting(asking, q) => {
+                self.skip_request(
+                    Phase::Established(legs, Stage::Reinviting(asking, q)),
+                    request,
+                );
                 Ok(())
             }
         }
     }
 
     /// A side leaves, whose BYE got its 200.
-    fn leave_by(
+    fn end_by_bye(
         &mut self,
-        step: &Step<'_>,
-        x: Pair,
+        step: &StepContext<'_>,
+        legs: EstablishedLegs,
         stage: Stage,
         side: Side,
-        m: &Hearing,
-        desk: &mut Desk,
+        message: &ReceivedMessage,
+        output: &mut StepOutput,
     ) -> Result<(), NoMemory>
         requires { self.old.phase ≡ Over HasEnded }
         ensures call { OnOk result (self.new
-            ≡ (left_by stage step.now.setting.now step.now.present.at x side m.now
-            (record self.old { phase = Stood x stage }) desk.old).call) }
-        ensures desk { OnOk result (desk.new
-            ≡ (left_by stage step.now.setting.now step.now.present.at x side m.now
-            (record self.old { phase = Stood x stage }) desk.old).desk) }
+            ≡ (after_bye_at stage step.now.config.now step.now.snapshot.at legs side message.now
+            (record self.old { phase = Established legs stage }) output.old).call) }
+        ensures output { OnOk result (output.new
+            ≡ (after_bye_at stage step.now.config.now step.now.snapshot.at legs side message.now
+            (record self.old { phase = Established legs stage }) output.old).output) }
     {
         match stage {
             Stage::Answered(waiting, success) => {
-                self.bye_before_ack(step, x, waiting, success, side, desk)
+                self.receive_bye_before_ack(step, legs, waiting, success, side, output)
             }
-            Stage::Parting(_waiting, success) => {
+            Stage::Departing(_waiting, success) => {
                 drop(success);
-                self.end_pair(step, x, desk)
+                self.end_established(step, legs, output)
             }
-            Stage::Talking => self.bye_across(step, x, side, m, desk),
-            Stage::Asking(asking, q) => {
+            Stage::Stable => self.receive_bye_across(step, legs, side, message, output),
+            Stage::Reinviting(asking, q) => {
                 let asked = RelayedInvite {
                     side: asking,
                     invite: q,
                 };
-                self.bye_while_asking(step, x, asked, side, desk)
+                self.receive_bye_reinviting(step, legs, asked, side, output)
             }
         }
     }
 
     /// Processes a BYE of a side that its leg accepted.
-    fn take_bye(
+    fn receive_bye(
         &mut self,
-        step: &Step<'_>,
-        x: Pair,
+        step: &StepContext<'_>,
+        legs: EstablishedLegs,
         stage: Stage,
         request: &SideRequest,
-        desk: &mut Desk,
+        output: &mut StepOutput,
     ) -> Result<(), NoMemory>
         requires { self.old.phase ≡ Over HasEnded }
         ensures call { OnOk result (self.new
-            ≡ (on_bye stage step.now.setting.now step.now.present.at x request.now.side request.now.key
-            request.now.hearing (record self.old { phase = Stood x stage }) desk.old).call) }
-        ensures desk { OnOk result (desk.new
-            ≡ (on_bye stage step.now.setting.now step.now.present.at x request.now.side request.now.key
-            request.now.hearing (record self.old { phase = Stood x stage }) desk.old).desk) }
+            ≡ (on_bye stage step.now.config.now step.now.snapshot.at legs request.now.side request.now.key
+            request.now.message (record self.old { phase = Established legs stage }) output.old).call) }
+        ensures output { OnOk result (output.new
+            ≡ (on_bye stage step.now.config.now step.now.snapshot.at legs request.now.side request.now.key
+            request.now.message (record self.old { phase = Established legs stage }) output.old).output) }
     {
-        let hearing = &request.hearing;
-        if stage.has_left(request.side) {
-            let replied = self.reply_to(step, request.key, hearing, 481, desk);
-            self.put_phase(Phase::Stood(x, stage));
+        let hearing = &request.message;
+        if stage.has_departed(request.side) {
+            let replied = self.respond_with_status(step, request.key, hearing, 481, output);
+            self.put_phase(Phase::Established(legs, stage));
             return replied;
         }
-        let replied = self.reply_to(step, request.key, hearing, 200, desk);
-        let left = self.leave_by(step, x, stage, request.side, hearing, desk);
+        let replied = self.respond_with_status(step, request.key, hearing, 200, output);
+        let left = self.end_by_bye(step, legs, stage, request.side, hearing, output);
         replied?;
         left
     }
 
     /// Processes a request of a side that its leg accepted, other than INVITE, BYE and UPDATE: a PRACK, which acknowledges nothing here, or a request for which there is no
     /// transition.
-    fn take_other_request(
+    fn receive_other_request(
         &mut self,
-        step: &Step<'_>,
+        step: &StepContext<'_>,
         phase: Phase,
         request: SideRequest,
-        desk: &mut Desk,
+        output: &mut StepOutput,
     ) -> Result<(), NoMemory>
         requires { self.old.phase ≡ Over HasEnded }
         ensures call { OnOk result (self.new
-            ≡ (on_other_at step.now.setting.now request.key request.hearing (record self.old { phase = phase })
-            desk.old).call) }
-        ensures desk { OnOk result (desk.new
-            ≡ (on_other_at step.now.setting.now request.key request.hearing (record self.old { phase = phase })
-            desk.old).desk) }
+            ≡ (on_other_at step.now.config.now request.key request.message (record self.old { phase = phase })
+            output.old).call) }
+        ensures output { OnOk result (output.new
+            ≡ (on_other_at step.now.config.now request.key request.message (record self.old { phase = phase })
+            output.old).output) }
     {
-        let hearing = &request.hearing;
+        let hearing = &request.message;
         if is_method(b"PRACK", hearing.message.start()) {
-            let refused = self.refuse_prack(step, request.key, hearing, desk);
-            self.pass_over(phase, request);
+            let refused = self.refuse_prack(step, request.key, hearing, output);
+            self.skip_request(phase, request);
             return refused;
         }
-        let answered = self.answer_unlisted(step, request.key, hearing, desk);
-        self.pass_over(phase, request);
+        let answered = self.respond_to_unlisted(step, request.key, hearing, output);
+        self.skip_request(phase, request);
         answered
     }
 
     /// Processes a request of a side that its leg accepted.
-    fn take_request(
+    fn receive_valid_request(
         &mut self,
-        step: &Step<'_>,
-        x: Pair,
+        step: &StepContext<'_>,
+        legs: EstablishedLegs,
         stage: Stage,
         request: SideRequest,
-        desk: &mut Desk,
+        output: &mut StepOutput,
     ) -> Result<(), NoMemory>
         requires { self.old.phase ≡ Over HasEnded }
         ensures call { OnOk result (self.new
-            ≡ (on_heard_at stage step.now.setting.now step.now.present.at x request.side request.key request.hearing
-            (record self.old { phase = Stood x stage }) desk.old).call) }
-        ensures desk { OnOk result (desk.new
-            ≡ (on_heard_at stage step.now.setting.now step.now.present.at x request.side request.key request.hearing
-            (record self.old { phase = Stood x stage }) desk.old).desk) }
+            ≡ (on_valid_request_at stage step.now.config.now step.now.snapshot.at legs request.side request.key request.message
+            (record self.old { phase = Established legs stage }) output.old).call) }
+        ensures output { OnOk result (output.new
+            ≡ (on_valid_request_at stage step.now.config.now step.now.snapshot.at legs request.side request.key request.message
+            (record self.old { phase = Established legs stage }) output.old).output) }
     {
-        if is_method(b"INVITE", request.hearing.message.start()) {
-            return self.take_invite(step, x, stage, request, desk);
+        if is_method(b"INVITE", request.message.message.start()) {
+            return self.receive_invite(step, legs, stage, request, output);
         }
-        if is_method(b"BYE", request.hearing.message.start()) {
-            let taken = self.take_bye(step, x, stage, &request, desk);
+        if is_method(b"BYE", request.message.message.start()) {
+            let taken = self.receive_bye(step, legs, stage, &request, output);
             drop(request);
             return taken;
         }
-        if is_method(b"UPDATE", request.hearing.message.start()) {
-            return self.hear_update_at(step, x, stage, request, desk);
+        if is_method(b"UPDATE", request.message.message.start()) {
+            return self.receive_update_at(step, legs, stage, request, output);
         }
-        self.take_other_request(step, Phase::Stood(x, stage), request, desk)
+        self.receive_other_request(step, Phase::Established(legs, stage), request, output)
     }
 
     /// Processes a request of a side of an answered call.
-    pub fn hear_request_at(
+    pub fn receive_request_at(
         &mut self,
-        step: &Step<'_>,
-        x: Pair,
+        step: &StepContext<'_>,
+        legs: EstablishedLegs,
         stage: Stage,
         request: SideRequest,
-        desk: &mut Desk,
+        output: &mut StepOutput,
     ) -> Result<(), NoMemory>
         requires { self.old.phase ≡ Over HasEnded }
         ensures call { OnOk result (self.new
-            ≡ (on_request_at stage step.now.setting.now step.now.present.at x request.side request.key request.hearing
-            (record self.old { phase = Stood x stage }) desk.old).call) }
-        ensures desk { OnOk result (desk.new
-            ≡ (on_request_at stage step.now.setting.now step.now.present.at x request.side request.key request.hearing
-            (record self.old { phase = Stood x stage }) desk.old).desk) }
+            ≡ (on_request_at stage step.now.config.now step.now.snapshot.at legs request.side request.key request.message
+            (record self.old { phase = Established legs stage }) output.old).call) }
+        ensures output { OnOk result (output.new
+            ≡ (on_request_at stage step.now.config.now step.now.snapshot.at legs request.side request.key request.message
+            (record self.old { phase = Established legs stage }) output.old).output) }
     {
-        let mut x = x;
-        match x.hear(request.side, &request.hearing, stage.busy(request.side)) {
-            Ok(()) => self.take_request(step, x, stage, request, desk),
+        let mut legs = legs;
+        match legs.receive(request.side, &request.message, stage.busy(request.side)) {
+            Ok(()) => self.receive_valid_request(step, legs, stage, request, output),
             Err(fault) => {
-                let refused = self.refuse_unheard(step, request.key, &request.hearing, fault, desk);
-                self.pass_over(Phase::Stood(x, stage), request);
+                let refused = self.refuse_invalid(
+                    step,
+                    request.key,
+                    &request.message,
+                    fault,
+                    output,
+                );
+                self.skip_request(Phase::Established(legs, stage), request);
                 refused
             }
         }
     }
 
     /// Processes the ACK of the 2xx that waited for it.
-    fn take_ack(
+    fn receive_due_ack(
         &mut self,
-        step: &Step<'_>,
-        x: Pair,
+        step: &StepContext<'_>,
+        legs: EstablishedLegs,
         stage: Stage,
         side: Side,
-        m: &Hearing,
-        desk: &mut Desk,
+        message: &ReceivedMessage,
+        output: &mut StepOutput,
     ) -> Result<(), NoMemory>
         requires { self.old.phase ≡ Over HasEnded }
         ensures call { OnOk result (self.new
-            ≡ (acked_at stage step.now.setting.now step.now.present.at x side m.now
-            (record self.old { phase = Stood x stage }) desk.old).call) }
-        ensures desk { OnOk result (desk.new
-            ≡ (acked_at stage step.now.setting.now step.now.present.at x side m.now
-            (record self.old { phase = Stood x stage }) desk.old).desk) }
+            ≡ (after_ack_at stage step.now.config.now step.now.snapshot.at legs side message.now
+            (record self.old { phase = Established legs stage }) output.old).call) }
+        ensures output { OnOk result (output.new
+            ≡ (after_ack_at stage step.now.config.now step.now.snapshot.at legs side message.now
+            (record self.old { phase = Established legs stage }) output.old).output) }
     {
         match stage {
             Stage::Answered(_waiting, success) => {
-                let acked = self.acknowledge_across(step, x, side, &success, m, desk);
+                let acked = self.acknowledge_across(step, legs, side, &success, message, output);
                 drop(success);
                 acked
             }
-            Stage::Parting(_waiting, success) => {
+            Stage::Departing(_waiting, success) => {
                 drop(success);
-                self.part(step, x, side, desk)
+                self.end_departing(step, legs, side, output)
             }
-            Stage::Talking => self.stay(Phase::Stood(x, Stage::Talking)),
-            Stage::Asking(asking, q) => self.stay(Phase::Stood(x, Stage::Asking(asking, q))),
+            Stage::Stable => self.stay(Phase::Established(legs, Stage::Stable)),
+            Stage::Reinviting(asking, q) => self.stay(Phase::Established(
+                legs,
+                Stage::Reinviting(asking, q),
+            )),
         }
     }
 
     /// Processes an ACK of a side of an answered call.
-    pub fn hear_ack_at(
+    pub fn receive_ack_at(
         &mut self,
-        step: &Step<'_>,
-        x: Pair,
+        step: &StepContext<'_>,
+        legs: EstablishedLegs,
         stage: Stage,
         side: Side,
-        m: &Hearing,
-        desk: &mut Desk,
+        message: &ReceivedMessage,
+        output: &mut StepOutput,
     ) -> Result<(), NoMemory>
         requires { self.old.phase ≡ Over HasEnded }
         ensures call { OnOk result (self.new
-            ≡ (on_ack_at stage step.now.setting.now step.now.present.at x side m.now
-            (record self.old { phase = Stood x stage }) desk.old).call) }
-        ensures desk { OnOk result (desk.new
-            ≡ (on_ack_at stage step.now.setting.now step.now.present.at x side m.now
-            (record self.old { phase = Stood x stage }) desk.old).desk) }
+            ≡ (on_ack_at stage step.now.config.now step.now.snapshot.at legs side message.now
+            (record self.old { phase = Established legs stage }) output.old).call) }
+        ensures output { OnOk result (output.new
+            ≡ (on_ack_at stage step.now.config.now step.now.snapshot.at legs side message.now
+            (record self.old { phase = Established legs stage }) output.old).output) }
     {
-        if stage.is_ack(side, m) {
-            return self.take_ack(step, x, stage, side, m, desk);
+        if stage.is_ack(side, message) {
+            return self.receive_due_ack(step, legs, stage, side, message, output);
         }
-        self.stay(Phase::Stood(x, stage))
+        self.stay(Phase::Established(legs, stage))
     }
 
     /// Processes a CANCEL in an answered call, which got its 200.
-    pub fn hear_cancel_at(
+    pub fn receive_cancel_at(
         &mut self,
-        step: &Step<'_>,
-        x: Pair,
+        step: &StepContext<'_>,
+        legs: EstablishedLegs,
         stage: Stage,
         invite: TKey,
-        desk: &mut Desk,
+        output: &mut StepOutput,
     ) -> Result<(), NoMemory>
         requires { self.old.phase ≡ Over HasEnded }
         ensures call { OnOk result (self.new
-            ≡ (on_cancel_at stage step.now.setting.now x invite
-            (record self.old { phase = Stood x stage }) desk.old).call) }
-        ensures desk { OnOk result (desk.new
-            ≡ (on_cancel_at stage step.now.setting.now x invite
-            (record self.old { phase = Stood x stage }) desk.old).desk) }
+            ≡ (on_cancel_at stage step.now.config.now legs invite
+            (record self.old { phase = Established legs stage }) output.old).call) }
+        ensures output { OnOk result (output.new
+            ≡ (on_cancel_at stage step.now.config.now legs invite
+            (record self.old { phase = Established legs stage }) output.old).output) }
     {
         match stage {
-            Stage::Answered(waiting, success) => self.stay(Phase::Stood(
-                x,
+            Stage::Answered(waiting, success) => self.stay(Phase::Established(
+                legs,
                 Stage::Answered(waiting, success),
             )),
-            Stage::Parting(waiting, success) => self.stay(Phase::Stood(
-                x,
-                Stage::Parting(waiting, success),
+            Stage::Departing(waiting, success) => self.stay(Phase::Established(
+                legs,
+                Stage::Departing(waiting, success),
             )),
-            Stage::Talking => self.stay(Phase::Stood(x, Stage::Talking)),
-            Stage::Asking(asking, q) => {
+            Stage::Stable => self.stay(Phase::Established(legs, Stage::Stable)),
+            Stage::Reinviting(asking, q) => {
                 if invite.0 == q.key.0 {
                     let asked = RelayedInvite {
                         side: asking,
                         invite: q,
                     };
-                    return self.cancel_across(step, x, asked, desk);
+                    return self.cancel_across(step, legs, asked, output);
                 }
-                self.stay(Phase::Stood(x, Stage::Asking(asking, q)))
+                self.stay(Phase::Established(legs, Stage::Reinviting(asking, q)))
             }
         }
     }
 
     /// Processes a response to the INVITE that was relayed.
-    pub fn hear_response_at(
+    pub fn receive_response_at(
         &mut self,
-        step: &Step<'_>,
-        x: Pair,
+        step: &StepContext<'_>,
+        legs: EstablishedLegs,
         stage: Stage,
         key: TKey,
-        m: &Hearing,
-        desk: &mut Desk,
+        message: &ReceivedMessage,
+        output: &mut StepOutput,
     ) -> Result<(), NoMemory>
         requires { self.old.phase ≡ Over HasEnded }
         ensures call { OnOk result (self.new
-            ≡ (on_response_at stage step.now.setting.now step.now.present.at x key m.now
-            (record self.old { phase = Stood x stage }) desk.old).call) }
-        ensures desk { OnOk result (desk.new
-            ≡ (on_response_at stage step.now.setting.now step.now.present.at x key m.now
-            (record self.old { phase = Stood x stage }) desk.old).desk) }
+            ≡ (on_response_at stage step.now.config.now step.now.snapshot.at legs key message.now
+            (record self.old { phase = Established legs stage }) output.old).call) }
+        ensures output { OnOk result (output.new
+            ≡ (on_response_at stage step.now.config.now step.now.snapshot.at legs key message.now
+            (record self.old { phase = Established legs stage }) output.old).output) }
     {
         match stage {
-            Stage::Answered(waiting, success) => self.stay(Phase::Stood(
-                x,
+            Stage::Answered(waiting, success) => self.stay(Phase::Established(
+                legs,
                 Stage::Answered(waiting, success),
             )),
-            Stage::Parting(waiting, success) => self.stay(Phase::Stood(
-                x,
-                Stage::Parting(waiting, success),
+            Stage::Departing(waiting, success) => self.stay(Phase::Established(
+                legs,
+                Stage::Departing(waiting, success),
             )),
-            Stage::Talking => self.stay(Phase::Stood(x, Stage::Talking)),
-            Stage::Asking(asking, q) => {
+            Stage::Stable => self.stay(Phase::Established(legs, Stage::Stable)),
+            Stage::Reinviting(asking, q) => {
                 let asked = RelayedInvite {
                     side: asking,
                     invite: q,
                 };
-                self.hear_response_across(step, x, asked, key, m, desk)
+                self.receive_response_across(step, legs, asked, key, message, output)
             }
         }
     }
 
     /// This INVITE timed out, and is dropped with the call.
-    fn end_by_silence(
+    fn end_by_timeout(
         &mut self,
-        step: &Step<'_>,
-        x: Pair,
-        q: Reinvite,
-        desk: &mut Desk,
+        step: &StepContext<'_>,
+        legs: EstablishedLegs,
+        reinvite: Reinvite,
+        output: &mut StepOutput,
     ) -> Result<(), NoMemory>
         requires { self.old.phase ≡ Over HasEnded }
         ensures call { OnOk result (self.new
-            ≡ (silenced_across step.now.setting.now step.now.present.at x q self.old desk.old).call) }
-        ensures desk { OnOk result (desk.new
-            ≡ (silenced_across step.now.setting.now step.now.present.at x q self.old desk.old).desk) }
+            ≡ (on_timeout_across step.now.config.now step.now.snapshot.at legs reinvite self.old output.old).call) }
+        ensures output { OnOk result (output.new
+            ≡ (on_timeout_across step.now.config.now step.now.snapshot.at legs reinvite self.old output.old).output) }
     {
-        let heard = self.hear_silence_across(step, x, &q, desk);
-        drop(q);
+        let heard = self.receive_timeout_across(step, legs, &reinvite, output);
+        drop(reinvite);
         heard
     }
 
     /// The INVITE that was relayed timed out.
-    pub fn hear_silence_at(
+    pub fn receive_timeout_at(
         &mut self,
-        step: &Step<'_>,
-        x: Pair,
+        step: &StepContext<'_>,
+        legs: EstablishedLegs,
         stage: Stage,
-        desk: &mut Desk,
+        output: &mut StepOutput,
     ) -> Result<(), NoMemory>
         requires { self.old.phase ≡ Over HasEnded }
         ensures call { OnOk result (self.new
-            ≡ (on_silence_at stage step.now.setting.now step.now.present.at x
-            (record self.old { phase = Stood x stage }) desk.old).call) }
-        ensures desk { OnOk result (desk.new
-            ≡ (on_silence_at stage step.now.setting.now step.now.present.at x
-            (record self.old { phase = Stood x stage }) desk.old).desk) }
+            ≡ (on_timeout_at stage step.now.config.now step.now.snapshot.at legs
+            (record self.old { phase = Established legs stage }) output.old).call) }
+        ensures output { OnOk result (output.new
+            ≡ (on_timeout_at stage step.now.config.now step.now.snapshot.at legs
+            (record self.old { phase = Established legs stage }) output.old).output) }
     {
         match stage {
-            Stage::Answered(waiting, success) => self.stay(Phase::Stood(
-                x,
+            Stage::Answered(waiting, success) => self.stay(Phase::Established(
+                legs,
                 Stage::Answered(waiting, success),
             )),
-            Stage::Parting(waiting, success) => self.stay(Phase::Stood(
-                x,
-                Stage::Parting(waiting, success),
+            Stage::Departing(waiting, success) => self.stay(Phase::Established(
+                legs,
+                Stage::Departing(waiting, success),
             )),
-            Stage::Talking => self.stay(Phase::Stood(x, Stage::Talking)),
-            Stage::Asking(_asking, q) => self.end_by_silence(step, x, q, desk),
+            Stage::Stable => self.stay(Phase::Established(legs, Stage::Stable)),
+            Stage::Reinviting(_asking, q) => self.end_by_timeout(step, legs, q, output),
         }
     }
 
     /// The ACK for which a 2xx waited did not arrive, or the session expired.
-    fn lapse(
+    fn fire_stage_timer(
         &mut self,
-        step: &Step<'_>,
-        x: Pair,
+        step: &StepContext<'_>,
+        legs: EstablishedLegs,
         stage: Stage,
-        desk: &mut Desk,
+        output: &mut StepOutput,
     ) -> Result<(), NoMemory>
         requires { self.old.phase ≡ Over HasEnded }
         ensures call { OnOk result (self.new
-            ≡ (rung_out stage step.now.setting.now step.now.present.at x
-            (record self.old { phase = Stood x stage }) desk.old).call) }
-        ensures desk { OnOk result (desk.new
-            ≡ (rung_out stage step.now.setting.now step.now.present.at x
-            (record self.old { phase = Stood x stage }) desk.old).desk) }
+            ≡ (after_timer_at stage step.now.config.now step.now.snapshot.at legs
+            (record self.old { phase = Established legs stage }) output.old).call) }
+        ensures output { OnOk result (output.new
+            ≡ (after_timer_at stage step.now.config.now step.now.snapshot.at legs
+            (record self.old { phase = Established legs stage }) output.old).output) }
     {
         match stage {
             Stage::Answered(waiting, success) => {
                 drop(success);
-                self.end_unacknowledged(step, x, waiting, desk)
+                self.end_unacknowledged(step, legs, waiting, output)
             }
-            Stage::Parting(waiting, success) => {
+            Stage::Departing(waiting, success) => {
                 drop(success);
-                self.part(step, x, waiting, desk)
+                self.end_departing(step, legs, waiting, output)
             }
-            Stage::Talking => self.expire(step, x, desk),
-            Stage::Asking(asking, q) => {
+            Stage::Stable => self.expire(step, legs, output),
+            Stage::Reinviting(asking, q) => {
                 let asked = RelayedInvite {
                     side: asking,
                     invite: q,
                 };
-                self.expire_asking(step, x, asked, desk)
+                self.expire_reinviting(step, legs, asked, output)
             }
         }
     }
 
     /// A deadline of an answered call fired.
-    pub fn ring_out_at(
+    pub fn fire_at(
         &mut self,
-        step: &Step<'_>,
-        x: Pair,
+        step: &StepContext<'_>,
+        legs: EstablishedLegs,
         stage: Stage,
         what: DueWord,
-        desk: &mut Desk,
+        output: &mut StepOutput,
     ) -> Result<(), NoMemory>
         requires { self.old.phase ≡ Over HasEnded }
         ensures call { OnOk result (self.new
-            ≡ (on_due_at stage step.now.setting.now step.now.present.at x what
-            (record self.old { phase = Stood x stage }) desk.old).call) }
-        ensures desk { OnOk result (desk.new
-            ≡ (on_due_at stage step.now.setting.now step.now.present.at x what
-            (record self.old { phase = Stood x stage }) desk.old).desk) }
+            ≡ (on_due_at stage step.now.config.now step.now.snapshot.at legs what
+            (record self.old { phase = Established legs stage }) output.old).call) }
+        ensures output { OnOk result (output.new
+            ≡ (on_due_at stage step.now.config.now step.now.snapshot.at legs what
+            (record self.old { phase = Established legs stage }) output.old).output) }
     {
         if stage.is_due(self.successes, what) {
-            return self.lapse(step, x, stage, desk);
+            return self.fire_stage_timer(step, legs, stage, output);
         }
-        self.stay(Phase::Stood(x, stage))
+        self.stay(Phase::Established(legs, stage))
     }
 }

@@ -1,22 +1,22 @@
 //! The step table of a call: to which INVITE a response belongs, and the transition of a call on each signal, by its phase.
 ghost use Rattle.std.specs.Prelude.{◌≡◌, if◌then◌else◌, OnOk};
 ghost use Rattle.std.specs.Option.{option_copied};
-ghost use Rattle.mmtel_answers.specs.Said.{status_of};
+ghost use Rattle.mmtel_compose.specs.ReceivedMessages.{status_of};
 ghost use Rattle.mmtel_types.specs.declared.causes.Cause.TheVariants.{Ended as HasEnded};
-ghost use Rattle.mmtel_desk.specs.Invites.{invite_answered, invite_silent};
-ghost use Rattle.mmtel_call_decisions.specs.Site.{standing};
+ghost use Rattle.mmtel_output.specs.ResponseMatching.{awaited_request_branch, timed_out_branch};
+ghost use Rattle.mmtel_call_services.specs.CallConfig.{snapshot_of};
 ghost use Rattle.mmtel_call.specs.Calls.{Offered, Over};
-ghost use Rattle.mmtel_call.specs.Flights.{dismissed, dismissing};
+ghost use Rattle.mmtel_call.specs.RelayedTransactions.{output_after_dismissal, without_in_flight};
 ghost use Rattle.mmtel_call.specs.Ringing.{on_response};
-ghost use Rattle.mmtel_call.specs.Table.{ack_in, answer_to, cancel_in, current, due_in, is_branch, leaves, request_in, response_in, row, silence_in, silence_of, step};
+ghost use Rattle.mmtel_call.specs.Table.{ack_in, cancel_in, current_invite, due_in, is_branch, leaves, on_response_to, on_timeout_of, request_in, response_in, step, timeout_in, transition};
 
-use crate::calls::{Call, Phase, Stage, Trial};
-use crate::context::Step;
+use crate::calls::{Call, OfferedAttempt, Phase, Stage};
+use crate::context::StepContext;
 use crate::signals::{SideRequest, Signal};
-use mmtel_answers::Hearing;
-use mmtel_call_decisions::{Present, Setting};
-use mmtel_desk::{Desk, invite_answered, invite_silent};
-use mmtel_scan::NoMemory;
+use mmtel_base::NoMemory;
+use mmtel_call_services::{CallConfig, Snapshot};
+use mmtel_compose::ReceivedMessage;
+use mmtel_output::{StepOutput, awaited_request_branch, timed_out_branch};
 use mmtel_transaction::{DueWord, TKey};
 use mmtel_types::{Cause, Side};
 use std::alloc::Global;
@@ -25,17 +25,17 @@ use std::mem;
 impl Phase {
     /// Whether the INVITE for which the call waits has this branch.
     pub fn waits_on(&self, branch: &[u8]) -> bool
-        ensures { result ≡ is_branch branch.now (current self.now) }
+        ensures { result ≡ is_branch branch.now (current_invite self.now) }
     {
         match self {
-            Phase::Offered(x) => x.attempt.invitation.branch.bytes() == branch,
-            Phase::Stood(_, stage) => match stage {
+            Phase::Offered(x) => x.attempt.invite.branch.bytes() == branch,
+            Phase::Established(_, stage) => match stage {
                 Stage::Answered(_, _) => false,
-                Stage::Parting(_, _) => false,
-                Stage::Talking => false,
-                Stage::Asking(_, q) => q.invitation.branch.bytes() == branch,
+                Stage::Departing(_, _) => false,
+                Stage::Stable => false,
+                Stage::Reinviting(_, q) => q.invite.branch.bytes() == branch,
             },
-            Phase::Lent(_) => false,
+            Phase::Detached(_) => false,
             Phase::Over(_) => false,
         }
     }
@@ -43,25 +43,27 @@ impl Phase {
 
 impl Call {
     /// Processes a request of a side in its dialog.
-    fn hear_request(
+    fn receive_request(
         &mut self,
-        step: &Step<'_>,
+        step: &StepContext<'_>,
         request: SideRequest,
-        desk: &mut Desk,
+        output: &mut StepOutput,
     ) -> Result<(), NoMemory>
         ensures call { OnOk result (self.new
-            ≡ (request_in self.old.phase step.now.setting.now step.now.present.at request.side request.key
-            request.hearing self.old desk.old).call) }
-        ensures desk { OnOk result (desk.new
-            ≡ (request_in self.old.phase step.now.setting.now step.now.present.at request.side request.key
-            request.hearing self.old desk.old).desk) }
+            ≡ (request_in self.old.phase step.now.config.now step.now.snapshot.at request.side request.key
+            request.message self.old output.old).call) }
+        ensures output { OnOk result (output.new
+            ≡ (request_in self.old.phase step.now.config.now step.now.snapshot.at request.side request.key
+            request.message self.old output.old).output) }
     {
         match mem::replace(&mut self.phase, Phase::Over(Cause::Ended)) {
-            Phase::Offered(x) => { self.hear_request_offered(step, x, request, desk) }
-            Phase::Stood(x, stage) => { self.hear_request_at(step, x, stage, request, desk) }
-            Phase::Lent(loan) => {
+            Phase::Offered(x) => { self.receive_request_offered(step, x, request, output) }
+            Phase::Established(x, stage) => {
+                self.receive_request_at(step, x, stage, request, output)
+            }
+            Phase::Detached(loan) => {
                 drop(request);
-                self.stay(Phase::Lent(loan))
+                self.stay(Phase::Detached(loan))
             }
             Phase::Over(cause) => {
                 drop(request);
@@ -71,196 +73,209 @@ impl Call {
     }
 
     /// Processes an ACK of a side.
-    fn hear_ack(
+    fn receive_ack(
         &mut self,
-        step: &Step<'_>,
+        step: &StepContext<'_>,
         side: Side,
-        m: &Hearing,
-        desk: &mut Desk,
+        message: &ReceivedMessage,
+        output: &mut StepOutput,
     ) -> Result<(), NoMemory>
         ensures call { OnOk result (self.new
-            ≡ (ack_in self.old.phase step.now.setting.now step.now.present.at side m.now self.old desk.old).call) }
-        ensures desk { OnOk result (desk.new
-            ≡ (ack_in self.old.phase step.now.setting.now step.now.present.at side m.now self.old desk.old).desk) }
+            ≡ (ack_in self.old.phase step.now.config.now step.now.snapshot.at side message.now self.old output.old).call) }
+        ensures output { OnOk result (output.new
+            ≡ (ack_in self.old.phase step.now.config.now step.now.snapshot.at side message.now self.old output.old).output) }
     {
         match mem::replace(&mut self.phase, Phase::Over(Cause::Ended)) {
             Phase::Offered(x) => self.stay(Phase::Offered(x)),
-            Phase::Stood(x, stage) => { self.hear_ack_at(step, x, stage, side, m, desk) }
-            Phase::Lent(loan) => self.stay(Phase::Lent(loan)),
+            Phase::Established(x, stage) => {
+                self.receive_ack_at(step, x, stage, side, message, output)
+            }
+            Phase::Detached(loan) => self.stay(Phase::Detached(loan)),
             Phase::Over(cause) => self.stay(Phase::Over(cause)),
         }
     }
 
     /// Processes a CANCEL.
-    fn hear_any_cancel(
+    fn receive_any_cancel(
         &mut self,
-        step: &Step<'_>,
+        step: &StepContext<'_>,
         key: TKey,
-        m: &Hearing,
+        message: &ReceivedMessage,
         invite: TKey,
-        desk: &mut Desk,
+        output: &mut StepOutput,
     ) -> Result<(), NoMemory>
         ensures call { OnOk result (self.new
-            ≡ (cancel_in self.old.phase step.now.setting.now step.now.present.at key m.now invite
-            self.old desk.old).call) }
-        ensures desk { OnOk result (desk.new
-            ≡ (cancel_in self.old.phase step.now.setting.now step.now.present.at key m.now invite
-            self.old desk.old).desk) }
+            ≡ (cancel_in self.old.phase step.now.config.now step.now.snapshot.at key message.now invite
+            self.old output.old).call) }
+        ensures output { OnOk result (output.new
+            ≡ (cancel_in self.old.phase step.now.config.now step.now.snapshot.at key message.now invite
+            self.old output.old).output) }
     {
         match mem::replace(&mut self.phase, Phase::Over(Cause::Ended)) {
-            Phase::Offered(x) => { self.hear_cancel(step, x, key, m, invite, desk) }
-            Phase::Stood(x, stage) => {
-                let replied = self.reply_to(step, key, m, 200, desk);
-                let heard = self.hear_cancel_at(step, x, stage, invite, desk);
+            Phase::Offered(x) => { self.receive_cancel(step, x, key, message, invite, output) }
+            Phase::Established(x, stage) => {
+                let replied = self.respond_with_status(step, key, message, 200, output);
+                let heard = self.receive_cancel_at(step, x, stage, invite, output);
                 replied?;
                 heard
             }
-            Phase::Lent(loan) => self.stay(Phase::Lent(loan)),
+            Phase::Detached(loan) => self.stay(Phase::Detached(loan)),
             Phase::Over(cause) => self.stay(Phase::Over(cause)),
         }
     }
 
     /// Processes a response of the target to which the call is offered.
-    fn hear_response_offered(
+    fn receive_response_offered(
         &mut self,
-        step: &Step<'_>,
-        x: Trial,
+        step: &StepContext<'_>,
+        offered: OfferedAttempt,
         key: TKey,
-        m: &Hearing,
-        desk: &mut Desk,
+        message: &ReceivedMessage,
+        output: &mut StepOutput,
     ) -> Result<(), NoMemory>
         requires { self.old.phase ≡ Over HasEnded }
         ensures call { OnOk result (self.new
-            ≡ (on_response step.now.setting.now (standing step.now.present) x key m.now (status_of m.now.heard.start)
-            (record self.old { phase = Offered x }) desk.old).call) }
-        ensures desk { OnOk result (desk.new
-            ≡ (on_response step.now.setting.now (standing step.now.present) x key m.now (status_of m.now.heard.start)
-            (record self.old { phase = Offered x }) desk.old).desk) }
+            ≡ (on_response step.now.config.now (snapshot_of step.now.snapshot) offered key message.now (status_of message.now.parsed.start)
+            (record self.old { phase = Offered offered }) output.old).call) }
+        ensures output { OnOk result (output.new
+            ≡ (on_response step.now.config.now (snapshot_of step.now.snapshot) offered key message.now (status_of message.now.parsed.start)
+            (record self.old { phase = Offered offered }) output.old).output) }
     {
-        self.hear_response(step, x, key, m, desk)
+        self.receive_response(step, offered, key, message, output)
     }
 
     /// Processes a response to the INVITE for which the call waits.
-    fn hear_answer_of(
+    fn receive_response_of(
         &mut self,
-        step: &Step<'_>,
+        step: &StepContext<'_>,
         key: TKey,
-        m: &Hearing,
-        desk: &mut Desk,
+        message: &ReceivedMessage,
+        output: &mut StepOutput,
     ) -> Result<(), NoMemory>
         ensures call { OnOk result (self.new
-            ≡ (response_in self.old.phase step.now.setting.now (standing step.now.present) key m.now
-            self.old desk.old).call) }
-        ensures desk { OnOk result (desk.new
-            ≡ (response_in self.old.phase step.now.setting.now (standing step.now.present) key m.now
-            self.old desk.old).desk) }
+            ≡ (response_in self.old.phase step.now.config.now (snapshot_of step.now.snapshot) key message.now
+            self.old output.old).call) }
+        ensures output { OnOk result (output.new
+            ≡ (response_in self.old.phase step.now.config.now (snapshot_of step.now.snapshot) key message.now
+            self.old output.old).output) }
     {
         match mem::replace(&mut self.phase, Phase::Over(Cause::Ended)) {
-            Phase::Offered(x) => { self.hear_response_offered(step, x, key, m, desk) }
-            Phase::Stood(x, stage) => { self.hear_response_at(step, x, stage, key, m, desk) }
-            Phase::Lent(loan) => self.stay(Phase::Lent(loan)),
+            Phase::Offered(x) => { self.receive_response_offered(step, x, key, message, output) }
+            Phase::Established(x, stage) => {
+                self.receive_response_at(step, x, stage, key, message, output)
+            }
+            Phase::Detached(loan) => self.stay(Phase::Detached(loan)),
             Phase::Over(cause) => self.stay(Phase::Over(cause)),
         }
     }
 
     /// The INVITE for which the call waits timed out.
-    fn hear_silence_of(&mut self, step: &Step<'_>, desk: &mut Desk) -> Result<(), NoMemory>
+    fn receive_timeout_of(
+        &mut self,
+        step: &StepContext<'_>,
+        output: &mut StepOutput,
+    ) -> Result<(), NoMemory>
         ensures call { OnOk result (self.new
-            ≡ (silence_in self.old.phase step.now.setting.now (standing step.now.present) self.old desk.old).call) }
-        ensures desk { OnOk result (desk.new
-            ≡ (silence_in self.old.phase step.now.setting.now (standing step.now.present) self.old desk.old).desk) }
+            ≡ (timeout_in self.old.phase step.now.config.now (snapshot_of step.now.snapshot) self.old output.old).call) }
+        ensures output { OnOk result (output.new
+            ≡ (timeout_in self.old.phase step.now.config.now (snapshot_of step.now.snapshot) self.old output.old).output) }
     {
         match mem::replace(&mut self.phase, Phase::Over(Cause::Ended)) {
-            Phase::Offered(x) => self.hear_silence(step, x, desk),
-            Phase::Stood(x, stage) => { self.hear_silence_at(step, x, stage, desk) }
-            Phase::Lent(loan) => self.stay(Phase::Lent(loan)),
+            Phase::Offered(x) => self.receive_timeout(step, x, output),
+            Phase::Established(x, stage) => { self.receive_timeout_at(step, x, stage, output) }
+            Phase::Detached(loan) => self.stay(Phase::Detached(loan)),
             Phase::Over(cause) => self.stay(Phase::Over(cause)),
         }
     }
 
     /// A deadline of the call fired.
-    fn hear_due(&mut self, step: &Step<'_>, what: DueWord, desk: &mut Desk) -> Result<(), NoMemory>
+    fn receive_due(
+        &mut self,
+        step: &StepContext<'_>,
+        what: DueWord,
+        output: &mut StepOutput,
+    ) -> Result<(), NoMemory>
         ensures call { OnOk result (self.new
-            ≡ (due_in self.old.phase step.now.setting.now (standing step.now.present) what self.old desk.old).call) }
-        ensures desk { OnOk result (desk.new
-            ≡ (due_in self.old.phase step.now.setting.now (standing step.now.present) what self.old desk.old).desk) }
+            ≡ (due_in self.old.phase step.now.config.now (snapshot_of step.now.snapshot) what self.old output.old).call) }
+        ensures output { OnOk result (output.new
+            ≡ (due_in self.old.phase step.now.config.now (snapshot_of step.now.snapshot) what self.old output.old).output) }
     {
         match mem::replace(&mut self.phase, Phase::Over(Cause::Ended)) {
-            Phase::Offered(x) => self.ring_out(step, x, what, desk),
-            Phase::Stood(x, stage) => { self.ring_out_at(step, x, stage, what, desk) }
-            Phase::Lent(loan) => self.stay(Phase::Lent(loan)),
+            Phase::Offered(x) => self.fire_offered(step, x, what, output),
+            Phase::Established(x, stage) => { self.fire_at(step, x, stage, what, output) }
+            Phase::Detached(loan) => self.stay(Phase::Detached(loan)),
             Phase::Over(cause) => self.stay(Phase::Over(cause)),
         }
     }
 
     /// Processes a response, by the branch of the INVITE to which it belongs.
-    fn hear_answer_to(
+    fn receive_response_to(
         &mut self,
-        step: &Step<'_>,
+        step: &StepContext<'_>,
         branch: Option<&[u8]>,
         key: TKey,
-        m: &Hearing,
-        desk: &mut Desk,
+        message: &ReceivedMessage,
+        output: &mut StepOutput,
     ) -> Result<(), NoMemory>
         ensures call { OnOk result (self.new
-            ≡ (answer_to (option_copied branch.entry) step.now.setting.now (standing step.now.present) key m.now
-            self.old desk.old).call) }
-        ensures desk { OnOk result (desk.new
-            ≡ (answer_to (option_copied branch.entry) step.now.setting.now (standing step.now.present) key m.now
-            self.old desk.old).desk) }
+            ≡ (on_response_to (option_copied branch.entry) step.now.config.now (snapshot_of step.now.snapshot) key message.now
+            self.old output.old).call) }
+        ensures output { OnOk result (output.new
+            ≡ (on_response_to (option_copied branch.entry) step.now.config.now (snapshot_of step.now.snapshot) key message.now
+            self.old output.old).output) }
     {
         let Some(branch) = branch else {
             return Ok(());
         };
         if self.phase.waits_on(branch) {
-            return self.hear_answer_of(step, key, m, desk);
+            return self.receive_response_of(step, key, message, output);
         }
-        self.hear_other(step, key, m, branch, desk)
+        self.receive_other(step, key, message, branch, output)
     }
 
     /// Processes a timeout, by the branch of the INVITE that timed out.
-    fn hear_silence_to(
+    fn receive_timeout_to(
         &mut self,
-        step: &Step<'_>,
+        step: &StepContext<'_>,
         branch: Option<&[u8]>,
-        desk: &mut Desk,
+        output: &mut StepOutput,
     ) -> Result<(), NoMemory>
         ensures call { OnOk result (self.new
-            ≡ (silence_of (option_copied branch.entry) step.now.setting.now (standing step.now.present)
-            self.old desk.old).call) }
-        ensures desk { OnOk result (desk.new
-            ≡ (silence_of (option_copied branch.entry) step.now.setting.now (standing step.now.present)
-            self.old desk.old).desk) }
+            ≡ (on_timeout_of (option_copied branch.entry) step.now.config.now (snapshot_of step.now.snapshot)
+            self.old output.old).call) }
+        ensures output { OnOk result (output.new
+            ≡ (on_timeout_of (option_copied branch.entry) step.now.config.now (snapshot_of step.now.snapshot)
+            self.old output.old).output) }
     {
         let Some(branch) = branch else {
             return Ok(());
         };
         if self.phase.waits_on(branch) {
-            return self.hear_silence_of(step, desk);
+            return self.receive_timeout_of(step, output);
         }
-        self.hear_silence_other(step, branch, desk)
+        self.receive_timeout_other(step, branch, output)
     }
 
     /// Processes a response.
-    fn hear_any_answer(
+    fn receive_any_response(
         &mut self,
-        step: &Step<'_>,
+        step: &StepContext<'_>,
         key: TKey,
-        m: &Hearing,
-        desk: &mut Desk,
+        message: &ReceivedMessage,
+        output: &mut StepOutput,
     ) -> Result<(), NoMemory>
         ensures call { OnOk result (self.new
-            ≡ (answer_to (invite_answered m.now) step.now.setting.now (standing step.now.present) key m.now
-            self.old desk.old).call) }
-        ensures desk { OnOk result (desk.new
-            ≡ (answer_to (invite_answered m.now) step.now.setting.now (standing step.now.present) key m.now
-            self.old desk.old).desk) }
+            ≡ (on_response_to (awaited_request_branch message.now) step.now.config.now (snapshot_of step.now.snapshot) key message.now
+            self.old output.old).call) }
+        ensures output { OnOk result (output.new
+            ≡ (on_response_to (awaited_request_branch message.now) step.now.config.now (snapshot_of step.now.snapshot) key message.now
+            self.old output.old).output) }
     {
-        match invite_answered(step.alloc, m)? {
+        match awaited_request_branch(step.alloc, message)? {
             None => Ok(()),
             Some(branch) => {
                 let answered = Some(branch.bytes());
-                let heard = self.hear_answer_to(step, answered, key, m, desk);
+                let heard = self.receive_response_to(step, answered, key, message, output);
                 drop(branch);
                 heard
             }
@@ -276,22 +291,26 @@ impl Call {
     pub fn step(
         &mut self,
         alloc: Global,
-        setting: &Setting<'_>,
-        present: &Present<'_>,
+        config: &CallConfig<'_>,
+        snapshot: &Snapshot<'_>,
         signal: Signal,
-        desk: &mut Desk,
+        output: &mut StepOutput,
     ) -> Result<(), NoMemory>
         ensures call { OnOk result (self.new
-            ≡ (step setting.now (standing present.now) signal self.old desk.old).call) }
-        ensures desk { OnOk result (desk.new
-            ≡ (step setting.now (standing present.now) signal self.old desk.old).desk) }
+            ≡ (step config.now (snapshot_of snapshot.now) signal self.old output.old).call) }
+        ensures output { OnOk result (output.new
+            ≡ (step config.now (snapshot_of snapshot.now) signal self.old output.old).output) }
     {
-        match self.dismiss_before(alloc, setting, &signal, desk) {
+        match self.dismiss_before(alloc, config, &signal, output) {
             Err(error) => {
                 drop(signal);
                 Err(error)
             }
-            Ok(()) => self.hear_signal(&Step::new(alloc, setting, present), signal, desk),
+            Ok(()) => self.receive_signal(
+                &StepContext::new(alloc, config, snapshot),
+                signal,
+                output,
+            ),
         }
     }
 
@@ -299,41 +318,49 @@ impl Call {
     fn dismiss_before(
         &mut self,
         alloc: Global,
-        setting: &Setting<'_>,
+        config: &CallConfig<'_>,
         signal: &Signal,
-        desk: &mut Desk,
+        output: &mut StepOutput,
     ) -> Result<(), NoMemory>
         ensures call { OnOk result (self.new
-            ≡ (if leaves signal.now self.old then dismissed self.old else self.old)) }
-        ensures desk { OnOk result (desk.new
-            ≡ (if leaves signal.now self.old then dismissing setting.now self.old desk.old else desk.old)) }
+            ≡ (if leaves signal.now self.old then without_in_flight self.old else self.old)) }
+        ensures output { OnOk result (output.new
+            ≡ (if leaves signal.now self.old then output_after_dismissal config.now self.old output.old else output.old)) }
     {
         if self.leaves(alloc, signal)? {
-            return self.dismiss(alloc, setting, desk);
+            return self.dismiss(alloc, config, output);
         }
         Ok(())
     }
 
     /// The transition that the step table has for a signal.
-    #[tactic(auto, unfolding(crate::specs::Table::row))]
-    fn hear_signal(
+    #[tactic(auto, unfolding(crate::specs::Table::transition))]
+    fn receive_signal(
         &mut self,
-        step: &Step<'_>,
+        step: &StepContext<'_>,
         signal: Signal,
-        desk: &mut Desk,
+        output: &mut StepOutput,
     ) -> Result<(), NoMemory>
         ensures call { OnOk result (self.new
-            ≡ (row step.now.setting.now (standing step.now.present) signal self.old desk.old).call) }
-        ensures desk { OnOk result (desk.new
-            ≡ (row step.now.setting.now (standing step.now.present) signal self.old desk.old).desk) }
+            ≡ (transition step.now.config.now (snapshot_of step.now.snapshot) signal self.old output.old).call) }
+        ensures output { OnOk result (output.new
+            ≡ (transition step.now.config.now (snapshot_of step.now.snapshot) signal self.old output.old).output) }
     {
         match signal {
             Signal::Request { side, key, request } => {
                 let hearing = request;
-                self.hear_request(step, SideRequest { side, key, hearing }, desk)
+                self.receive_request(
+                    step,
+                    SideRequest {
+                        side,
+                        key,
+                        message: hearing,
+                    },
+                    output,
+                )
             }
             Signal::Ack { side, ack } => {
-                let heard = self.hear_ack(step, side, &ack, desk);
+                let heard = self.receive_ack(step, side, &ack, output);
                 drop(ack);
                 heard
             }
@@ -342,23 +369,23 @@ impl Call {
                 cancel,
                 invite,
             } => {
-                let heard = self.hear_any_cancel(step, key, &cancel, invite, desk);
+                let heard = self.receive_any_cancel(step, key, &cancel, invite, output);
                 drop(cancel);
                 heard
             }
             Signal::Answer { key, response } => {
-                let heard = self.hear_any_answer(step, key, &response, desk);
+                let heard = self.receive_any_response(step, key, &response, output);
                 drop(response);
                 heard
             }
             Signal::Silent { branch, method } => {
-                let invite = invite_silent(branch.bytes(), method.bytes());
-                let heard = self.hear_silence_to(step, invite, desk);
+                let invite = timed_out_branch(branch.bytes(), method.bytes());
+                let heard = self.receive_timeout_to(step, invite, output);
                 drop(branch);
                 drop(method);
                 heard
             }
-            Signal::Due { what } => self.hear_due(step, what, desk),
+            Signal::Due { what } => self.receive_due(step, what, output),
             Signal::Ended { key } => {
                 self.drop_ended(key);
                 Ok(())

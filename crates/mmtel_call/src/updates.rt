@@ -1,32 +1,32 @@
 //! UPDATE of either side (RFC 3311): it is relayed to the other side while the call rings in an early dialog, and while it is stable; one at a time.
 ghost use Rattle.std.specs.Prelude.{◌≡◌, true, IfOk, OnOk, codes};
 ghost use Rattle.std.specs.Option.{option_copied};
-ghost use Rattle.mmtel_desk.specs.Desks.{token};
-ghost use Rattle.mmtel_types.specs.Sides.{other_of};
+ghost use Rattle.mmtel_output.specs.Outputs.{token};
+ghost use Rattle.mmtel_types.specs.Sides.{other_side};
 ghost use Rattle.mmtel_types.specs.declared.causes.Cause.TheVariants.{Ended as HasEnded};
-ghost use Rattle.mmtel_call_decisions.specs.Showing.{shown_to};
+ghost use Rattle.mmtel_call_services.specs.CopiedHeaders.{copied_lines};
 ghost use Rattle.mmtel_call.specs.Answered.{leg_of, with_leg};
-ghost use Rattle.mmtel_call.specs.Calls.{Offered, Over, Stood, Talking};
-ghost use Rattle.mmtel_call.specs.Flights.{having_asked, sent_in};
-ghost use Rattle.mmtel_call.specs.Requests.{unheard};
-ghost use Rattle.mmtel_call.specs.Updates.{having_updated, on_update, on_update_at, other_leg, takes_updates, updated_across, updated_early};
+ghost use Rattle.mmtel_call.specs.Calls.{Established, Offered, Over, Stable};
+ghost use Rattle.mmtel_call.specs.RelayedTransactions.{invite_sent_in, leg_after_request};
+ghost use Rattle.mmtel_call.specs.Requests.{with_refused_request};
+ghost use Rattle.mmtel_call.specs.Updates.{accepts_updates, attempt_after_update, on_early_update, on_stable_update, on_update, on_update_at, other_leg};
 
-use crate::calls::{Call, FlightKind, Pair, Phase, Stage, Trial};
-use crate::context::Step;
-use crate::flights::ask_leg;
+use crate::calls::{Call, EstablishedLegs, OfferedAttempt, Phase, RelayedKind, Stage};
+use crate::context::StepContext;
+use crate::relayed_transactions::relay_to_leg;
 use crate::signals::SideRequest;
-use mmtel_answers::Hearing;
-use mmtel_call_decisions::{Service, refusal_of_update};
-use mmtel_desk::{Desk, Invitation};
+use mmtel_base::{List, NoMemory};
+use mmtel_call_services::{Service, refusal_of_update};
+use mmtel_compose::ReceivedMessage;
 use mmtel_leg::DialogueFault;
 use mmtel_message::Line;
-use mmtel_scan::{List, NoMemory};
+use mmtel_output::{SentInvite, StepOutput};
 use mmtel_types::{Peer, Side};
 
-impl Trial {
+impl OfferedAttempt {
     /// Whether it rings, and the target has an early dialog.
-    fn takes_updates(&self) -> bool
-        ensures { result ≡ takes_updates self.now }
+    fn accepts_updates(&self) -> bool
+        ensures { result ≡ accepts_updates self.now }
     {
         self.attempt.rang && self.callee.is_early()
     }
@@ -34,44 +34,44 @@ impl Trial {
 
 impl Call {
     /// The header fields of the UPDATE of this side that are copied to the other side, behind this peer.
-    fn lines_of_update(
+    fn update_lines(
         &self,
-        step: &Step<'_>,
+        step: &StepContext<'_>,
         service: Option<&Service>,
         side: Side,
         peer: Peer,
-        m: &Hearing,
+        message: &ReceivedMessage,
     ) -> Result<List<Line>, NoMemory>
         ensures { IfOk result (λ ls. ls
-            ≡ shown_to step.now.setting.now self.now.opening self.now.diversions (option_copied service.entry) side
-            peer m.now) }
+            ≡ copied_lines step.now.config.now self.now.opening self.now.diversions (option_copied service.entry) side
+            peer message.now) }
     {
-        self.opening.shown_to(
+        self.opening.copied_lines(
             step.alloc,
-            step.setting,
+            step.config,
             &self.diversions,
             service,
             side,
             peer,
-            m,
+            message,
         )
     }
 
     /// Refuses an UPDATE, which is not relayed: it may be repeated later, or it crosses a request that the other side, or the server, has pending (RFC 3311 §5.2).
     fn refuse_update(
         &mut self,
-        step: &Step<'_>,
+        step: &StepContext<'_>,
         phase: Phase,
         fault: DialogueFault,
         request: SideRequest,
-        desk: &mut Desk,
+        output: &mut StepOutput,
     ) -> Result<(), NoMemory>
         requires { self.old.phase ≡ Over HasEnded }
         ensures call { OnOk result (self.new ≡ record self.old { phase = phase }) }
-        ensures desk { OnOk result (desk.new
-            ≡ unheard step.now.setting.now self.old request.key request.hearing fault desk.old) }
+        ensures output { OnOk result (output.new
+            ≡ with_refused_request step.now.config.now self.old request.key request.message fault output.old) }
     {
-        let refused = self.refuse_unheard(step, request.key, &request.hearing, fault, desk);
+        let refused = self.refuse_invalid(step, request.key, &request.message, fault, output);
         drop(request);
         self.put_phase(phase);
         refused
@@ -80,31 +80,43 @@ impl Call {
     /// Relays an UPDATE to the other side of an offered call. Returns it as it was sent.
     fn pass_update_early(
         &self,
-        step: &Step<'_>,
-        x: &mut Trial,
+        step: &StepContext<'_>,
+        offered: &mut OfferedAttempt,
         request: &SideRequest,
-        desk: &mut Desk,
-    ) -> Result<Invitation, NoMemory>
-        requires { x.old.callee.is_early ≡ true }
-        ensures done { OnOk result (desk.new
-            ≡ (updated_early step.now.setting.now x.old request.now.side request.now.key request.now.hearing self.now
-            desk.old).desk) }
+        output: &mut StepOutput,
+    ) -> Result<SentInvite, NoMemory>
+        requires { offered.old.callee.is_early ≡ true }
+        ensures done { OnOk result (output.new
+            ≡ (on_early_update step.now.config.now offered.old request.now.side request.now.key request.now.message self.now
+            output.old).output) }
         ensures sent { IfOk result (λ i. i
-            ≡ sent_in (having_asked (codes "UPDATE") (other_leg request.now.side x.old)).dialogue (token desk.old)) }
-        ensures asked { OnOk result (x.new ≡ having_updated request.now.side x.old) }
+            ≡ invite_sent_in (leg_after_request (codes "UPDATE") (other_leg request.now.side offered.old)).dialogue (token output.old)) }
+        ensures asked { OnOk result (offered.new ≡ attempt_after_update request.now.side offered.old) }
     {
-        let service = x.attempt.service.as_ref();
-        let m = &request.hearing;
+        let service = offered.attempt.service.as_ref();
+        let m = &request.message;
         match request.side {
             Side::Caller => {
-                let lines = self.lines_of_update(step, service, Side::Caller, x.callee.peer(), m)?;
-                let sent = x.ask_early(step, b"UPDATE", &lines, m, desk);
+                let lines = self.update_lines(
+                    step,
+                    service,
+                    Side::Caller,
+                    offered.callee.peer(),
+                    m,
+                )?;
+                let sent = offered.relay_early_request(step, b"UPDATE", &lines, m, output);
                 drop(lines);
                 sent
             }
             Side::Callee => {
-                let lines = self.lines_of_update(step, service, Side::Callee, x.caller.peer(), m)?;
-                let sent = ask_leg(step, b"UPDATE", &mut x.caller, &lines, m, desk);
+                let lines = self.update_lines(
+                    step,
+                    service,
+                    Side::Callee,
+                    offered.caller.peer(),
+                    m,
+                )?;
+                let sent = relay_to_leg(step, b"UPDATE", &mut offered.caller, &lines, m, output);
                 drop(lines);
                 sent
             }
@@ -112,175 +124,188 @@ impl Call {
     }
 
     /// The same, and it is in flight afterwards.
-    fn update_early(
+    fn relay_update_early(
         &mut self,
-        step: &Step<'_>,
-        x: Trial,
+        step: &StepContext<'_>,
+        offered: OfferedAttempt,
         request: SideRequest,
-        desk: &mut Desk,
+        output: &mut StepOutput,
     ) -> Result<(), NoMemory>
         requires phase { self.old.phase ≡ Over HasEnded }
-        requires early { x.callee.is_early ≡ true }
+        requires early { offered.callee.is_early ≡ true }
         ensures call { OnOk result (self.new
-            ≡ (updated_early step.now.setting.now x request.side request.key request.hearing self.old
-            desk.old).call) }
-        ensures desk { OnOk result (desk.new
-            ≡ (updated_early step.now.setting.now x request.side request.key request.hearing self.old
-            desk.old).desk) }
+            ≡ (on_early_update step.now.config.now offered request.side request.key request.message self.old
+            output.old).call) }
+        ensures output { OnOk result (output.new
+            ≡ (on_early_update step.now.config.now offered request.side request.key request.message self.old
+            output.old).output) }
     {
-        let mut x = x;
-        match self.pass_update_early(step, &mut x, &request, desk) {
+        let mut offered = offered;
+        match self.pass_update_early(step, &mut offered, &request, output) {
             Err(error) => {
                 drop(request);
-                x.give_up(step.present.at);
+                offered.give_up(step.snapshot.at);
                 Err(error)
             }
             Ok(sent) => {
-                let flown = self.fly(step.alloc, FlightKind::Update, request, sent);
-                self.put_phase(Phase::Offered(x));
+                let flown = self.add_in_flight(step.alloc, RelayedKind::Update, request, sent);
+                self.put_phase(Phase::Offered(offered));
                 flown
             }
         }
     }
 
     /// Processes an UPDATE of a side of an offered call.
-    pub fn hear_update(
+    pub fn receive_update(
         &mut self,
-        step: &Step<'_>,
-        x: Trial,
+        step: &StepContext<'_>,
+        offered: OfferedAttempt,
         request: SideRequest,
-        desk: &mut Desk,
+        output: &mut StepOutput,
     ) -> Result<(), NoMemory>
         requires { self.old.phase ≡ Over HasEnded }
         ensures call { OnOk result (self.new
-            ≡ (on_update step.now.setting.now x request.side request.key request.hearing
-            (record self.old { phase = Offered x }) desk.old).call) }
-        ensures desk { OnOk result (desk.new
-            ≡ (on_update step.now.setting.now x request.side request.key request.hearing
-            (record self.old { phase = Offered x }) desk.old).desk) }
+            ≡ (on_update step.now.config.now offered request.side request.key request.message
+            (record self.old { phase = Offered offered }) output.old).call) }
+        ensures output { OnOk result (output.new
+            ≡ (on_update step.now.config.now offered request.side request.key request.message
+            (record self.old { phase = Offered offered }) output.old).output) }
     {
-        if !x.takes_updates() {
+        if !offered.accepts_updates() {
             let later = DialogueFault::Unfinished;
-            return self.refuse_update(step, Phase::Offered(x), later, request, desk);
+            return self.refuse_update(step, Phase::Offered(offered), later, request, output);
         }
-        match refusal_of_update(self.updating(), request.side) {
-            None => self.update_early(step, x, request, desk),
-            Some(fault) => self.refuse_update(step, Phase::Offered(x), fault, request, desk),
+        match refusal_of_update(self.updating_side(), request.side) {
+            None => self.relay_update_early(step, offered, request, output),
+            Some(fault) => self.refuse_update(
+                step,
+                Phase::Offered(offered),
+                fault,
+                request,
+                output,
+            ),
         }
     }
 
     /// Relays an UPDATE to the other side of a stable call. Returns it as it was sent.
     fn pass_update(
         &self,
-        step: &Step<'_>,
-        x: &mut Pair,
+        step: &StepContext<'_>,
+        legs: &mut EstablishedLegs,
         request: &SideRequest,
-        desk: &mut Desk,
-    ) -> Result<Invitation, NoMemory>
-        ensures done { OnOk result (desk.new
-            ≡ (updated_across step.now.setting.now x.old request.now.side request.now.key request.now.hearing self.now
-            desk.old).desk) }
+        output: &mut StepOutput,
+    ) -> Result<SentInvite, NoMemory>
+        ensures done { OnOk result (output.new
+            ≡ (on_stable_update step.now.config.now legs.old request.now.side request.now.key request.now.message self.now
+            output.old).output) }
         ensures sent { IfOk result (λ i. i
-            ≡ sent_in (having_asked (codes "UPDATE") (leg_of (other_of request.now.side) x.old)).dialogue
-            (token desk.old)) }
-        ensures asked { OnOk result (x.new
-            ≡ with_leg (other_of request.now.side) (having_asked (codes "UPDATE")
-            (leg_of (other_of request.now.side) x.old)) x.old) }
+            ≡ invite_sent_in (leg_after_request (codes "UPDATE") (leg_of (other_side request.now.side) legs.old)).dialogue
+            (token output.old)) }
+        ensures asked { OnOk result (legs.new
+            ≡ with_leg (other_side request.now.side) (leg_after_request (codes "UPDATE")
+            (leg_of (other_side request.now.side) legs.old)) legs.old) }
     {
-        let m = &request.hearing;
-        let lines = self.shown_across(step, x, request.side, m)?;
-        let sent = x.ask(step, b"UPDATE", request.side.other(), &lines, m, desk);
+        let m = &request.message;
+        let lines = self.copied_across(step, legs, request.side, m)?;
+        let sent = legs.relay_request_kept(
+            step,
+            b"UPDATE",
+            request.side.other(),
+            &lines,
+            m,
+            output,
+        );
         drop(lines);
         sent
     }
 
     /// The same, and it is in flight afterwards.
-    fn update_across(
+    fn relay_update_across(
         &mut self,
-        step: &Step<'_>,
-        x: Pair,
+        step: &StepContext<'_>,
+        legs: EstablishedLegs,
         request: SideRequest,
-        desk: &mut Desk,
+        output: &mut StepOutput,
     ) -> Result<(), NoMemory>
         requires { self.old.phase ≡ Over HasEnded }
         ensures call { OnOk result (self.new
-            ≡ (updated_across step.now.setting.now x request.side request.key request.hearing self.old
-            desk.old).call) }
-        ensures desk { OnOk result (desk.new
-            ≡ (updated_across step.now.setting.now x request.side request.key request.hearing self.old
-            desk.old).desk) }
+            ≡ (on_stable_update step.now.config.now legs request.side request.key request.message self.old
+            output.old).call) }
+        ensures output { OnOk result (output.new
+            ≡ (on_stable_update step.now.config.now legs request.side request.key request.message self.old
+            output.old).output) }
     {
-        let mut x = x;
-        match self.pass_update(step, &mut x, &request, desk) {
+        let mut legs = legs;
+        match self.pass_update(step, &mut legs, &request, output) {
             Err(error) => {
                 drop(request);
-                x.give_up(step.present.at);
+                legs.give_up(step.snapshot.at);
                 Err(error)
             }
             Ok(sent) => {
-                let flown = self.fly(step.alloc, FlightKind::Update, request, sent);
-                self.put_phase(Phase::Stood(x, Stage::Talking));
+                let flown = self.add_in_flight(step.alloc, RelayedKind::Update, request, sent);
+                self.put_phase(Phase::Established(legs, Stage::Stable));
                 flown
             }
         }
     }
 
     /// Processes an UPDATE of a side of a stable call.
-    fn hear_update_talking(
+    fn receive_update_stable(
         &mut self,
-        step: &Step<'_>,
-        x: Pair,
+        step: &StepContext<'_>,
+        legs: EstablishedLegs,
         request: SideRequest,
-        desk: &mut Desk,
+        output: &mut StepOutput,
     ) -> Result<(), NoMemory>
         requires { self.old.phase ≡ Over HasEnded }
         ensures call { OnOk result (self.new
-            ≡ (on_update_at Talking step.now.setting.now x request.side request.key request.hearing
-            (record self.old { phase = Stood x Talking }) desk.old).call) }
-        ensures desk { OnOk result (desk.new
-            ≡ (on_update_at Talking step.now.setting.now x request.side request.key request.hearing
-            (record self.old { phase = Stood x Talking }) desk.old).desk) }
+            ≡ (on_update_at Stable step.now.config.now legs request.side request.key request.message
+            (record self.old { phase = Established legs Stable }) output.old).call) }
+        ensures output { OnOk result (output.new
+            ≡ (on_update_at Stable step.now.config.now legs request.side request.key request.message
+            (record self.old { phase = Established legs Stable }) output.old).output) }
     {
-        match refusal_of_update(self.updating(), request.side) {
-            None => self.update_across(step, x, request, desk),
+        match refusal_of_update(self.updating_side(), request.side) {
+            None => self.relay_update_across(step, legs, request, output),
             Some(fault) => {
-                let phase = Phase::Stood(x, Stage::Talking);
-                self.refuse_update(step, phase, fault, request, desk)
+                let phase = Phase::Established(legs, Stage::Stable);
+                self.refuse_update(step, phase, fault, request, output)
             }
         }
     }
 
     /// Processes an UPDATE of a side of an answered call.
-    pub fn hear_update_at(
+    pub fn receive_update_at(
         &mut self,
-        step: &Step<'_>,
-        x: Pair,
+        step: &StepContext<'_>,
+        legs: EstablishedLegs,
         stage: Stage,
         request: SideRequest,
-        desk: &mut Desk,
+        output: &mut StepOutput,
     ) -> Result<(), NoMemory>
         requires { self.old.phase ≡ Over HasEnded }
         ensures call { OnOk result (self.new
-            ≡ (on_update_at stage step.now.setting.now x request.side request.key request.hearing
-            (record self.old { phase = Stood x stage }) desk.old).call) }
-        ensures desk { OnOk result (desk.new
-            ≡ (on_update_at stage step.now.setting.now x request.side request.key request.hearing
-            (record self.old { phase = Stood x stage }) desk.old).desk) }
+            ≡ (on_update_at stage step.now.config.now legs request.side request.key request.message
+            (record self.old { phase = Established legs stage }) output.old).call) }
+        ensures output { OnOk result (output.new
+            ≡ (on_update_at stage step.now.config.now legs request.side request.key request.message
+            (record self.old { phase = Established legs stage }) output.old).output) }
     {
         let crossing = DialogueFault::Pending;
         match stage {
-            Stage::Talking => self.hear_update_talking(step, x, request, desk),
+            Stage::Stable => self.receive_update_stable(step, legs, request, output),
             Stage::Answered(waiting, success) => {
-                let phase = Phase::Stood(x, Stage::Answered(waiting, success));
-                self.refuse_update(step, phase, crossing, request, desk)
+                let phase = Phase::Established(legs, Stage::Answered(waiting, success));
+                self.refuse_update(step, phase, crossing, request, output)
             }
-            Stage::Parting(waiting, success) => {
-                let phase = Phase::Stood(x, Stage::Parting(waiting, success));
-                self.refuse_update(step, phase, crossing, request, desk)
+            Stage::Departing(waiting, success) => {
+                let phase = Phase::Established(legs, Stage::Departing(waiting, success));
+                self.refuse_update(step, phase, crossing, request, output)
             }
-            Stage::Asking(asking, q) => {
-                let phase = Phase::Stood(x, Stage::Asking(asking, q));
-                self.refuse_update(step, phase, crossing, request, desk)
+            Stage::Reinviting(asking, q) => {
+                let phase = Phase::Established(legs, Stage::Reinviting(asking, q));
+                self.refuse_update(step, phase, crossing, request, output)
             }
         }
     }

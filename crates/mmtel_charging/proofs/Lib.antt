@@ -1,4 +1,4 @@
-mod Dropped
+mod Removals
 mod Lines
-mod Reading
-mod Telling
+mod Roundtrip
+mod Injectivity

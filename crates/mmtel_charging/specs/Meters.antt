@@ -8,7 +8,7 @@ use Rattle.mmtel_charging.specs.declared.rows.Kind.{Kind}
 use Rattle.mmtel_charging.specs.declared.rows.Row.{Row}
 
 -- for which part, of whom, in which call, since when, and when it was answered; moments in milliseconds since 1970-01-01T00:00:00Z
-pub record Noted : Type 0 where
+pub record MeterView : Type 0 where
   pub kind : Kind
   pub account : Account
   pub call : CallNo
@@ -16,6 +16,6 @@ pub record Noted : Type 0 where
   pub answered : Option ℕ
 
 -- the row of a meter that is closed
-abbrev pub row_of : Noted → ℕ → ℕ → Cause → Row
-row_of meter now holds cause =
+abbrev pub row_of_meter : MeterView → ℕ → ℕ → Cause → Row
+row_of_meter meter now holds cause =
     record { kind = meter.kind; account = meter.account; call = meter.call; began = meter.began; answered = meter.answered; ended = now; holds = holds; cause = cause }

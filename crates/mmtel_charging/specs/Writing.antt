@@ -9,8 +9,8 @@ use Rattle.mmtel_charging.specs.Rows.{columns, fields_of}
 use Rattle.mmtel_charging.specs.declared.rows.Row.{Row}
 
 -- the bytes that it has written, those that it still buffers included
-abbrev pub written : Writer (Vec ℕ Global) → List ℕ
-written writer = (writer_under writer).items ++ writer_pending writer
+abbrev pub written_bytes : Writer (Vec ℕ Global) → List ℕ
+written_bytes writer = (writer_under writer).items ++ writer_pending writer
 
 -- what is written before the rows and with them, in the form that the writer takes
 abbrev pub records_text : List Row → List ℕ
@@ -20,7 +20,7 @@ records_text rows = row_text default_writer columns ++ flat_map (λ row. row_tex
 pub record IsReady (writer : Writer (Vec ℕ Global)) : Type 0 where
   pub setup : writer_setup writer ≡ default_writer
   pub fields : fields_written writer ≡ 0
-  pub wrote : has_written writer ≡ false
+  pub none_written : has_written writer ≡ false
 
 -- the numbers of a row fit into 64 bits
 pub record InRange (row : Row) : Type 0 where

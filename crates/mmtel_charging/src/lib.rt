@@ -2,13 +2,13 @@
 //! rows as CSV (RFC 4180).
 #![tactic(auto)]
 
-mod filing;
 mod meters;
 mod printing;
+mod row_lists;
 mod rows;
 
-pub use filing::{drop_first, file_some};
 pub use meters::Meter;
-pub use mmtel_scan::{NoMemory, Text};
-pub use printing::{rows_are_told_apart, rows_text};
+pub use mmtel_base::{NoMemory, Text};
+pub use printing::{rows_are_distinguished, rows_text};
+pub use row_lists::{drop_first, push_some};
 pub use rows::{Kind, Row};

@@ -1,6 +1,6 @@
 //! Meters.
 ghost use Rattle.std.specs.Prelude.{◌≡◌, Some, None};
-ghost use Rattle.mmtel_charging.specs.Meters.{row_of};
+ghost use Rattle.mmtel_charging.specs.Meters.{row_of_meter};
 
 use crate::rows::{Kind, Row};
 use mmtel_types::{Account, CallNo, Cause, Moment};
@@ -19,9 +19,9 @@ pub struct Meter {
 }
 
 impl Model for Meter {
-    ghost use Rattle.mmtel_charging.specs.Meters.{Noted};
+    ghost use Rattle.mmtel_charging.specs.Meters.{MeterView};
 
-    ghost Value = { Noted };
+    ghost Value = { MeterView };
 
     ghost view = { λ meter. record { kind = meter.kind; account = meter.account; call = meter.call; began = meter.began; answered = meter.answered } };
 }
@@ -56,7 +56,7 @@ impl Meter {
 
     /// Ends the account's part in the call, and returns its row.
     pub fn close(self, now: Moment, holds: u32, cause: Cause) -> Row
-        ensures row { result ≡ row_of self now holds cause }
+        ensures row { result ≡ row_of_meter self now holds cause }
     {
         let Meter {
             kind,

@@ -2,13 +2,13 @@
 ghost use Rattle.std.specs.Prelude.{◌≡◌, ◌∷◌, ◌++◌, ◌<◌, ◌^◌, IfOk, IfSome, map};
 ghost use Rattle.csv.specs.Writing.{default_writer, row_text};
 ghost use Rattle.mmtel_charging.specs.Rows.{columns, fields_of, line_of, moment_field, records_of, text_of};
-ghost use Rattle.mmtel_charging.specs.Writing.{InRange, IsReady, records_text, written};
+ghost use Rattle.mmtel_charging.specs.Writing.{InRange, IsReady, records_text, written_bytes};
 
 use crate::rows::Row;
 use csv::{Writer, WriterBuilder};
 use itoa::Buffer;
-use mmtel_scan::{NoMemory, Text};
-use mmtel_types::{Moment, causes_are_told_apart};
+use mmtel_base::{NoMemory, Text};
+use mmtel_types::{Moment, causes_are_distinguished};
 use std::alloc::Global;
 
 /// The digits of a moment, in milliseconds since 1970-01-01T00:00:00Z; empty where there is none.
@@ -23,10 +23,10 @@ fn moment_digits(buffer: &mut Buffer, moment: Option<Moment>) -> &str
 }
 
 /// Writes one record. A writer into memory fails only where memory runs out.
-fn put(writer: &mut Writer<Vec<u8>>, fields: &[&[u8]]) -> Result<(), NoMemory>
+fn write_record(writer: &mut Writer<Vec<u8>>, fields: &[&[u8]]) -> Result<(), NoMemory>
     requires { IsReady writer.old }
     ensures ready { IfOk result (λ _. IsReady writer.new) }
-    ensures csv_record { IfOk result (λ _. written writer.new ≡ written writer.old ++ row_text default_writer (map (λ field. field.now) fields.now)) }
+    ensures csv_record { IfOk result (λ _. written_bytes writer.new ≡ written_bytes writer.old ++ row_text default_writer (map (λ field. field.now) fields.now)) }
 {
     match writer.write_fields(fields) {
         Ok(()) => Ok(()),
@@ -35,11 +35,11 @@ fn put(writer: &mut Writer<Vec<u8>>, fields: &[&[u8]]) -> Result<(), NoMemory>
 }
 
 /// Writes one row.
-fn put_row(writer: &mut Writer<Vec<u8>>, row: &Row) -> Result<(), NoMemory>
+fn write_row(writer: &mut Writer<Vec<u8>>, row: &Row) -> Result<(), NoMemory>
     requires { IsReady writer.old }
     ensures ready { IfOk result (λ _. IsReady writer.new) }
-    ensures csv_record { IfOk result (λ _. written writer.new ≡ written writer.old ++ row_text default_writer (fields_of row.now)) }
-    ensures line { IfOk result (λ _. written writer.new ≡ written writer.old ++ line_of (fields_of row.now)) }
+    ensures csv_record { IfOk result (λ _. written_bytes writer.new ≡ written_bytes writer.old ++ row_text default_writer (fields_of row.now)) }
+    ensures line { IfOk result (λ _. written_bytes writer.new ≡ written_bytes writer.old ++ line_of (fields_of row.now)) }
 {
     let mut account = Buffer::new();
     let mut call = Buffer::new();
@@ -48,7 +48,7 @@ fn put_row(writer: &mut Writer<Vec<u8>>, row: &Row) -> Result<(), NoMemory>
     let mut ended = Buffer::new();
     let mut holds = Buffer::new();
     let mut status = Buffer::new();
-    put(
+    write_record(
         writer,
         &[
             row.kind.word().as_bytes(),
@@ -76,17 +76,17 @@ pub fn rows_text(alloc: Global, rows: &[Row]) -> Result<Text, NoMemory>
     ensures text { IfOk result (λ text. text ≡ text_of rows.now) }
     ensures reads_back { IfOk result (λ text. records_of text ≡ columns ∷ map fields_of rows.now) }
 {
-    let written = rows_written(alloc, rows)?;
+    let written = write_rows(alloc, rows)?;
     Text::of(alloc, written.as_slice())
 }
 
 /// Writes the header and the rows into memory.
-fn rows_written(alloc: Global, rows: &[Row]) -> Result<Vec<u8>, NoMemory>
+fn write_rows(alloc: Global, rows: &[Row]) -> Result<Vec<u8>, NoMemory>
     ensures text { IfOk result (λ text. text.items ≡ text_of rows.now) }
     ensures records { IfOk result (λ text. text.items ≡ records_text rows.now) }
 {
     let mut writer = WriterBuilder::new().from_writer(Vec::new(alloc));
-    put(
+    write_record(
         &mut writer,
         &[
             b"kind",
@@ -101,7 +101,7 @@ fn rows_written(alloc: Global, rows: &[Row]) -> Result<Vec<u8>, NoMemory>
         ],
     )?;
     for row in rows {
-        put_row(&mut writer, row)?;
+        write_row(&mut writer, row)?;
     }
     match writer.into_inner() {
         Ok(written) => Ok(written),
@@ -110,12 +110,12 @@ fn rows_written(alloc: Global, rows: &[Row]) -> Result<Vec<u8>, NoMemory>
 }
 
 /// A theorem, without code: rows with equal fields are equal, so the rows are determined by what a CSV reader returns for their text.
-pub fn rows_are_told_apart(one: Row, other: Row)
+pub fn rows_are_distinguished(one: Row, other: Row)
     ensures told_apart { fields_of one ≡ fields_of other → one ≡ other }
 {
     numbers_fit(one);
     numbers_fit(other);
-    causes_are_told_apart();
+    causes_are_distinguished();
 }
 
 /// A theorem, without code: the bounds that the type of a row implies for its numbers.

@@ -3,14 +3,14 @@ use Rattle.std.proofs.Common.{◌≡◌, Bool, true, false, ℕ, refl, sym, ◌�
 use Rattle.mmtel_directory.specs.Directory.{directory_of, line_of}
 use Rattle.mmtel_directory.specs.Lines.{words_of}
 use Rattle.mmtel_directory.specs.declared.directories.Directory.{Directory}
-use Rattle.mmtel_lex.specs.Percent.{percent_decoded}
+use Rattle.mmtel_lex.specs.Percent.{percent_decoded_text}
 use Rattle.mmtel_lex.specs.Reading.{all_params_at, headers_at, headers_of, host_at, number_at, param_at, params_at, params_of, port_at, port_number, scheme_of, sip_of, tel_of}
 use Rattle.mmtel_lex.specs.Reading.{text_at, token_at, uri_of, user_at, value_at}
 use Rattle.mmtel_lex.specs.SameIdentity.{is_same_identity}
-use Rattle.mmtel_lex.specs.UriPlaces.{host_part, user_part}
-use Rattle.mmtel_scan.specs.Classes.{in_class}
-use Rattle.mmtel_scan.specs.Numbers.{number_of, within}
-use Rattle.mmtel_scan.specs.Scanning.{after_run, closes, parted, run, trimmed}
+use Rattle.mmtel_lex.specs.UriParts.{host_part, user_part}
+use Rattle.mmtel_base.specs.Classes.{in_class}
+use Rattle.mmtel_base.specs.Numbers.{number_of, value_up_to}
+use Rattle.mmtel_base.specs.Scanning.{after_run, closing_quote_from, leading_run, split_once_at, without_trailing}
 use Rattle.mmtel_cli.specs.Workloads.{work_config}
 
 abbrev is_okay : Result Directory ℕ → Bool
@@ -19,7 +19,7 @@ is_okay (Err line) = false
 
 -- it computes
 work_reads : is_okay (directory_of work_config) ≡ true
-unfolding directory_of line_of words_of all_params_at headers_at headers_of host_at number_at param_at params_at params_of port_at port_number scheme_of sip_of tel_of text_at token_at uri_of user_at value_at is_same_identity percent_decoded user_part host_part run after_run parted closes trimmed within number_of in_class
+unfolding directory_of line_of words_of all_params_at headers_at headers_of host_at number_at param_at params_at params_of port_at port_number scheme_of sip_of tel_of text_at token_at uri_of user_at value_at is_same_identity percent_decoded_text user_part host_part leading_run after_run split_once_at closing_quote_from without_trailing value_up_to number_of in_class
 work_reads = refl
 
 okay_as : (read : Result Directory ℕ) → is_okay read ≡ true → (directory : Directory) × (read ≡ Ok directory)

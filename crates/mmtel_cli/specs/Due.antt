@@ -6,10 +6,10 @@ use Rattle.std.specs.declared.option.Option.{Option}
 use Rattle.std.specs.declared.result.Result.{Result}
 use Rattle.mmtel_directory.specs.Directory.{directory_of}
 use Rattle.mmtel_script.specs.Script.{events_of}
-use Rattle.mmtel_outside.specs.Shelf.{Shelf, answer_at, called}
+use Rattle.mmtel_environment.specs.FileStore.{FileStore, next_read, with_next_call}
 use Rattle.mmtel_words.specs.CommandLine.{Command, Serve, Replay, Check, Charges, Workload}
 use Rattle.mmtel_directory.specs.declared.directories.Directory.{Directory}
-use Rattle.mmtel_outside.specs.declared.events.Event.{Event}
+use Rattle.mmtel_environment.specs.declared.events.Event.{Event}
 use Rattle.mmtel_uploads.specs.Uploads.{upload_of}
 use Rattle.mmtel_uploads.specs.declared.uploads.Upload.{Upload}
 use Rattle.mmtel_uploads.specs.declared.uploads.Upload.TheVariants.{Accepted, Refused}
@@ -18,7 +18,7 @@ pub data Due : Type 0 where
   -- the arguments are no command
   Usage : Due
   -- that line is the first that is not of the grammar of its file
-  Line : (number : ℕ) → Due
+  BadLine : (number : ℕ) → Due
   -- a file cannot be read
   File : Due
   -- the listing of the server's outputs in the run of these events
@@ -28,14 +28,14 @@ pub data Due : Type 0 where
   -- the numbers of a server of this configuration for so many calls by the salt
   Work : (calls salt : ℕ) → (directory : Directory) → Due
   -- the file is a service record
-  Sound : Due
+  ValidRecord : Due
   -- the file is none, and this is the line of its first fault
-  Unsound : (line : List ℕ) → Due
+  InvalidRecord : (line : List ℕ) → Due
 
 -- the report once the script was parsed: the listing of the run of its events, or its first bad line
 abbrev pub due_of_events : Directory → List ℕ → Result (List Event) ℕ → Due
 due_of_events directory token (Ok events) = Run directory token events
-due_of_events directory token (Err line) = Line line
+due_of_events directory token (Err line) = BadLine line
 
 -- the report once the script was read, or could not be
 abbrev pub due_of_script : Directory → List ℕ → Option (List ℕ) → Due
@@ -45,7 +45,7 @@ due_of_script directory token (Some script) = due_of_events directory token (eve
 -- the report once the configuration was parsed; the last argument is the result of reading the script
 abbrev pub due_of_directory : Result Directory ℕ → List ℕ → Option (List ℕ) → Due
 due_of_directory (Ok directory) token script = due_of_script directory token script
-due_of_directory (Err line) token script = Line line
+due_of_directory (Err line) token script = BadLine line
 
 -- the report once the configuration was read, or could not be
 abbrev pub due_of_config : Option (List ℕ) → List ℕ → Option (List ℕ) → Due
@@ -54,8 +54,8 @@ due_of_config (Some config) token script = due_of_directory (directory_of config
 
 -- the report for a text that is to be checked
 abbrev pub due_of_upload : Upload → Due
-due_of_upload (Accepted sheet) = Sound
-due_of_upload (Refused line) = Unsound line
+due_of_upload (Accepted sheet) = ValidRecord
+due_of_upload (Refused line) = InvalidRecord line
 
 -- the report once the file that is to be checked was read, or could not be
 abbrev pub due_of_records : Option (List ℕ) → Due
@@ -65,7 +65,7 @@ due_of_records (Some text) = due_of_upload (upload_of text)
 -- the report of `charges` once the configuration was parsed
 abbrev pub due_of_store : Result Directory ℕ → Due
 due_of_store (Ok directory) = Rows directory.store
-due_of_store (Err line) = Line line
+due_of_store (Err line) = BadLine line
 
 -- and once it was read, or could not be
 abbrev pub due_of_charges : Option (List ℕ) → Due
@@ -74,33 +74,33 @@ due_of_charges (Some config) = due_of_store (directory_of config)
 
 -- the files after the calls that are due: for `replay` the first call is for CONFIG, and the second for SCRIPT, if CONFIG exists and is valid; for `serve`, `check` and `charges`
 -- there is one call, and for `workload` and without a command none
-abbrev pub shelf_of_directory : Shelf → Result Directory ℕ → Shelf
-shelf_of_directory shelf (Ok directory) = called shelf
-shelf_of_directory shelf (Err line) = shelf
+abbrev pub files_after_directory : FileStore → Result Directory ℕ → FileStore
+files_after_directory files (Ok directory) = with_next_call files
+files_after_directory files (Err line) = files
 
-abbrev pub shelf_of_config : Shelf → Option (List ℕ) → Shelf
-shelf_of_config shelf None = shelf
-shelf_of_config shelf (Some config) = shelf_of_directory shelf (directory_of config)
+abbrev pub files_after_config : FileStore → Option (List ℕ) → FileStore
+files_after_config files None = files
+files_after_config files (Some config) = files_after_directory files (directory_of config)
 
 -- after the first of them, if there is one
-abbrev pub shelf_first : Shelf → Command → Shelf
-shelf_first shelf (Serve config token turns) = called shelf
-shelf_first shelf (Replay asked) = called shelf
-shelf_first shelf (Check records) = called shelf
-shelf_first shelf (Charges config) = called shelf
-shelf_first shelf (Workload calls salt) = shelf
+abbrev pub files_after_first_read : FileStore → Command → FileStore
+files_after_first_read files (Serve config token turns) = with_next_call files
+files_after_first_read files (Replay asked) = with_next_call files
+files_after_first_read files (Check records) = with_next_call files
+files_after_first_read files (Charges config) = with_next_call files
+files_after_first_read files (Workload calls salt) = files
 
-abbrev pub shelf_by : Shelf → Command → Shelf
-shelf_by shelf (Serve config token turns) = called shelf
-shelf_by shelf (Replay asked) = shelf_of_config (called shelf) (answer_at shelf asked.config)
-shelf_by shelf (Check records) = called shelf
-shelf_by shelf (Charges config) = called shelf
-shelf_by shelf (Workload calls salt) = shelf
+abbrev pub files_after_command : FileStore → Command → FileStore
+files_after_command files (Serve config token turns) = with_next_call files
+files_after_command files (Replay asked) = files_after_config (with_next_call files) (next_read files asked.config)
+files_after_command files (Check records) = with_next_call files
+files_after_command files (Charges config) = with_next_call files
+files_after_command files (Workload calls salt) = files
 
-abbrev pub first_after : Shelf → Option Command → Shelf
-first_after shelf None = shelf
-first_after shelf (Some command) = shelf_first shelf command
+abbrev pub files_after_first : FileStore → Option Command → FileStore
+files_after_first files None = files
+files_after_first files (Some command) = files_after_first_read files command
 
-abbrev pub shelf_after : Shelf → Option Command → Shelf
-shelf_after shelf None = shelf
-shelf_after shelf (Some command) = shelf_by shelf command
+abbrev pub files_after : FileStore → Option Command → FileStore
+files_after files None = files
+files_after files (Some command) = files_after_command files command

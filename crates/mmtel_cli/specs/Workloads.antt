@@ -5,18 +5,18 @@ use Rattle.mmtel_charging.specs.declared.rows.Kind.{Kind}
 use Rattle.mmtel_charging.specs.declared.rows.Kind.TheVariants.{Origin, Terminating, Diversion, Participant}
 use Rattle.mmtel_charging.specs.declared.rows.Row.{Row}
 use Rattle.mmtel_directory.specs.declared.directories.Directory.{Directory}
-use Rattle.mmtel_in_force.specs.Texts.{Texts}
-use Rattle.mmtel_keeper.specs.Kept.{Held}
-use Rattle.mmtel_outside.specs.declared.events.Event.{Event}
-use Rattle.mmtel_outside.specs.declared.events.Offer.{Offer}
-use Rattle.mmtel_run.specs.Events.{Happened}
-use Rattle.mmtel_run.specs.Headline.{Gives}
-use Rattle.mmtel_run.specs.Run.{IsEnough, world_after}
-use Rattle.mmtel_run.specs.Short.{IsShortRun}
-use Rattle.mmtel_web.specs.Answers.{made}
+use Rattle.mmtel_records_in_force.specs.Texts.{Texts}
+use Rattle.mmtel_keeper.specs.Contents.{KeeperContents}
+use Rattle.mmtel_environment.specs.declared.events.Event.{Event}
+use Rattle.mmtel_environment.specs.declared.events.Offer.{Offer}
+use Rattle.mmtel_run_definitions.specs.Events.{EventRecord}
+use Rattle.mmtel_run_definitions.specs.TopTheorem.{Gives}
+use Rattle.mmtel_run_definitions.specs.Run.{IsEnough, state_after}
+use Rattle.mmtel_run_definitions.specs.ShortRuns.{IsShortRun}
+use Rattle.mmtel_web.specs.Handling.{made}
 use Rattle.mmtel_workload.specs.Events.{work_events}
-use Rattle.mmtel_server.specs.Seen.{KeeperSeen}
-use Rattle.mmtel_cli.specs.Listings.{OffersRun}
+use Rattle.mmtel_server.specs.States.{KeeperState}
+use Rattle.mmtel_cli.specs.Listings.{OffersOfRun}
 
 -- its configuration
 abbrev pub work_config : List ℕ
@@ -31,12 +31,12 @@ abbrev pub work_token : List ℕ
 work_token = codes "0123456789abcdef"
 
 -- the record that is in force: carol diverts each call
-abbrev pub work_loaded : Texts
-work_loaded = (record { 0 = 3 }, codes "[communication-diversion]\nactive = true\n\n[[communication-diversion.rule]]\ntarget = \"sip:vm@far.example\"\n") ∷ []
+abbrev pub work_records : Texts
+work_records = (record { 0 = 3 }, codes "[communication-diversion]\nactive = true\n\n[[communication-diversion.rule]]\ntarget = \"sip:vm@far.example\"\n") ∷ []
 
 -- what its keeper holds before
-abbrev pub nothing_held : Held
-nothing_held = record { sheets = []; rows = [] }
+abbrev pub empty_held : KeeperContents
+empty_held = record { sheets = []; rows = [] }
 
 -- how many CDRs are of a diversion
 abbrev pub diversions_in : List Row → ℕ
@@ -59,29 +59,29 @@ work_text calls offers rows diverted =
     with_line (with_line (with_line (with_line [] (codes "calls ") calls) (codes "offers ") offers) (codes "rows ") rows) (codes "diverted ") diverted
 
 -- its keeper: it holds this, and none of its calls failed
-abbrev pub keeper_of : Held → KeeperSeen
-keeper_of held = record { held = Some held; calls = None; faults = 0 }
+abbrev pub keeper_of : KeeperContents → KeeperState
+keeper_of held = record { contents = Some held; calls = None; faults = 0 }
 
 -- the record of an event in which the keeper was not called, and at whose end it accepted the CDRs that waited
-abbrev pub taken : Event → Happened
-taken event = record { event = event; kept = made; rows = []; took = true }
+abbrev pub accepted_record : Event → EventRecord
+accepted_record event = record { event = event; outcome = made; rows = []; accepted = true }
 
 -- the events of the run of so many calls by the salt
-abbrev pub work_happened : (calls salt : ℕ) → List Happened
-work_happened calls salt = map taken (work_events calls salt)
+abbrev pub work_event_records : (calls salt : ℕ) → List EventRecord
+work_event_records calls salt = map accepted_record (work_events calls salt)
 
 -- the text has the numbers of the outputs of a server in that run, and of the CDRs that the keeper holds then. Where the run is short these are those of the definitions of
 -- the run, so the numbers are determined by the configuration, the number of calls and the salt
 pub record Counts (directory : Directory) (calls salt : ℕ) (text : List ℕ) : Type 0 where
-  pub held : Held
+  pub held : KeeperContents
   pub offers : List Offer
   -- the outputs are exactly those of the run,
-  pub exact : IsShortRun directory work_token work_loaded (work_happened calls salt) → Gives directory work_token work_loaded (work_happened calls salt) offers
+  pub exact : IsShortRun directory work_token work_records (work_event_records calls salt) → Gives directory work_token work_records (work_event_records calls salt) offers
   -- the CDRs are exactly those that it files,
-  pub rows : IsShortRun directory work_token work_loaded (work_happened calls salt) → (fuel : ℕ) →
-      IsEnough directory work_token work_loaded fuel (work_happened calls salt) →
-      held.rows ≡ (world_after directory work_token work_loaded fuel (work_happened calls salt)).filed
+  pub rows : IsShortRun directory work_token work_records (work_event_records calls salt) → (fuel : ℕ) →
+      IsEnough directory work_token work_records fuel (work_event_records calls salt) →
+      held.rows ≡ (state_after directory work_token work_records fuel (work_event_records calls salt)).filed
   -- what holds for each run holds for this one: noninterference for restricted callers, the keeper and the CDRs,
-  pub run : OffersRun directory work_token work_loaded (work_events calls salt) (keeper_of nothing_held) (keeper_of held) offers
+  pub run : OffersOfRun directory work_token work_records (work_events calls salt) (keeper_of empty_held) (keeper_of held) offers
   -- and they are counted
-  pub counted : text ≡ work_text calls (length offers) (length held.rows) (diversions_in held.rows)
+  pub counts : text ≡ work_text calls (length offers) (length held.rows) (diversions_in held.rows)

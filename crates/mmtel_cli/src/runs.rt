@@ -1,22 +1,22 @@
 //! A run over a keeper and the events of a link, or of a script, to its end.
 ghost use Rattle.std.specs.Prelude.{◌≡◌, ◌≤◌, ◌⊎◌, ℕ, List, [], IfOk, IsErrOf, OnErr, OnOk};
-ghost use Rattle.mmtel_cli.specs.Keeping.{IsLoaded, IsNotLoaded, IsOnlyOpened};
-ghost use Rattle.mmtel_cli.specs.KnownEvents.{IsUnheard, NeverFails, OffersAllOf, StopsAllOf};
+ghost use Rattle.mmtel_cli.specs.KeeperUse.{IsLoaded, IsNotLoaded, OnlyOpened};
+ghost use Rattle.mmtel_cli.specs.KnownEvents.{AbortsAllOf, HasNoArrivals, NeverFails, OffersOfAllEvents};
 ghost use Rattle.mmtel_cli.specs.Listings.{Lists, ListsOver};
-ghost use Rattle.mmtel_cli.specs.Stopped.{StoppedOver, StoppedReplay};
+ghost use Rattle.mmtel_cli.specs.OutOfMemory.{AbortedListing, AbortedReplay};
 ghost use Rattle.mmtel_directory.specs.declared.directories.Directory.{Directory};
-ghost use Rattle.mmtel_in_force.specs.Texts.{Texts};
+ghost use Rattle.mmtel_records_in_force.specs.Texts.{Texts};
 ghost use Rattle.mmtel_keeper.specs.declared.keepers.KeepFault.TheVariants as fault;
-ghost use Rattle.mmtel_script.specs.Script.{unheard};
-ghost use Rattle.mmtel_server.specs.Seen.{keeper_seen};
-ghost use Rattle.mmtel_server.specs.Stands.{Went};
+ghost use Rattle.mmtel_script.specs.Script.{initial_input};
+ghost use Rattle.mmtel_server.specs.States.{keeper_state};
+ghost use Rattle.mmtel_server.specs.Representation.{RanFromStart};
 
+use mmtel_base::{List, NoMemory, Text};
 use mmtel_directory::Directory;
+use mmtel_environment::Offer;
 use mmtel_keeper::{KeepFault, Keeper};
 use mmtel_link::Link;
-use mmtel_outside::Offer;
-use mmtel_run_laws::runs_keep_the_secret;
-use mmtel_scan::{List, NoMemory, Text};
+use mmtel_run_theorems::runs_keep_noninterference;
 use mmtel_script::{ScriptLink, listing};
 use mmtel_server::{DriveFault, Server, connections_are_read_out, drive};
 use mmtel_timers::Steps;
@@ -25,17 +25,17 @@ use std::alloc::Global;
 use std::sync::ledger::Ledger;
 
 /// Binds a keeper to the store of that name, has its records of the first version replaced by new ones, and loads what it holds there.
-pub fn open<K: Keeper>(
+pub fn open_keeper<K: Keeper>(
     alloc: Global,
     keeper: &mut K,
     store: &[u8],
 ) -> Result<List<(Account, Text)>, KeepFault>
     ensures loaded { IfOk result (λ loaded.
-        IsLoaded store.now loaded (keeper_seen K.Keeper keeper.old) (keeper_seen K.Keeper keeper.new)) }
+        IsLoaded store.now loaded (keeper_state K.Keeper keeper.old) (keeper_state K.Keeper keeper.new)) }
     ensures failed { IsErrOf result fault.Failed →
-        IsNotLoaded store.now (keeper_seen K.Keeper keeper.old) (keeper_seen K.Keeper keeper.new) }
+        IsNotLoaded store.now (keeper_state K.Keeper keeper.old) (keeper_state K.Keeper keeper.new) }
     ensures stopped { IsErrOf result fault.NoMemory →
-        IsOnlyOpened store.now (keeper_seen K.Keeper keeper.old) (keeper_seen K.Keeper keeper.new) }
+        OnlyOpened store.now (keeper_state K.Keeper keeper.old) (keeper_state K.Keeper keeper.new) }
 {
     keeper.bind(alloc, store)?;
     keeper.migrate(alloc)?;
@@ -52,19 +52,19 @@ fn drive_over<L: Link, K: Keeper, C: Ledger>(
     out: &mut List<Offer>,
     steps: &mut Steps<C>,
 ) -> Result<(), NoMemory>
-    requires unfailing { NeverFails L.taking L.giving }
-    requires unheard { IsUnheard events (L.ear link.old) }
+    requires unfailing { NeverFails L.arrival_faults L.delivery_faults }
+    requires unheard { HasNoArrivals events (L.input link.old) }
     ensures run { OnOk result ((directory : Directory) (token : List ℕ) (loaded : Texts) →
-        Went directory token loaded [] [] server.old out.old →
-        OffersAllOf (L.ear link.old) directory token loaded
-        (keeper_seen K.Keeper keeper.old) (keeper_seen K.Keeper keeper.new) out.new) }
+        RanFromStart directory token loaded [] [] server.old out.old →
+        OffersOfAllEvents (L.input link.old) directory token loaded
+        (keeper_state K.Keeper keeper.old) (keeper_state K.Keeper keeper.new) out.new) }
     ensures stopped { OnErr result ((directory : Directory) (token : List ℕ) (loaded : Texts) →
-        Went directory token loaded [] [] server.old out.old →
-        StopsAllOf (L.ear link.old) directory token loaded
-        (keeper_seen K.Keeper keeper.old) (keeper_seen K.Keeper keeper.new)) }
+        RanFromStart directory token loaded [] [] server.old out.old →
+        AbortsAllOf (L.input link.old) directory token loaded
+        (keeper_state K.Keeper keeper.old) (keeper_state K.Keeper keeper.new)) }
 {
     connections_are_read_out();
-    runs_keep_the_secret();
+    runs_keep_noninterference();
     let turns = events.saturating_add(1);
     match drive(alloc, server, link, keeper, turns, out, steps) {
         Ok(_) => Ok(()),
@@ -74,7 +74,7 @@ fn drive_over<L: Link, K: Keeper, C: Ledger>(
 }
 
 /// The outputs of a server of this configuration over these texts in the run of the events of a link, of which there are so many. No call of the link fails.
-pub fn offered<L: Link, K: Keeper, C: Ledger>(
+pub fn run_offers<L: Link, K: Keeper, C: Ledger>(
     alloc: Global,
     directory: Directory,
     token: &[u8],
@@ -85,13 +85,13 @@ pub fn offered<L: Link, K: Keeper, C: Ledger>(
     steps: &mut Steps<C>,
 ) -> Result<List<Offer>, NoMemory>
     requires bounded { directory.bound ≤ 16 }
-    requires unfailing { NeverFails L.taking L.giving }
-    requires unheard { IsUnheard events (L.ear link.old) }
-    ensures run { IfOk result (OffersAllOf (L.ear link.old) directory token.now loaded.now
-        (keeper_seen K.Keeper keeper.old) (keeper_seen K.Keeper keeper.new)) }
-    ensures stopped { OnErr result ((keeper_seen K.Keeper keeper.new ≡ keeper_seen K.Keeper keeper.old)
-        ⊎ StopsAllOf (L.ear link.old) directory token.now loaded.now
-        (keeper_seen K.Keeper keeper.old) (keeper_seen K.Keeper keeper.new)) }
+    requires unfailing { NeverFails L.arrival_faults L.delivery_faults }
+    requires unheard { HasNoArrivals events (L.input link.old) }
+    ensures run { IfOk result (OffersOfAllEvents (L.input link.old) directory token.now loaded.now
+        (keeper_state K.Keeper keeper.old) (keeper_state K.Keeper keeper.new)) }
+    ensures stopped { OnErr result ((keeper_state K.Keeper keeper.new ≡ keeper_state K.Keeper keeper.old)
+        ⊎ AbortsAllOf (L.input link.old) directory token.now loaded.now
+        (keeper_state K.Keeper keeper.old) (keeper_state K.Keeper keeper.new)) }
 {
     let token = match Text::of(alloc, token) {
         Ok(token) => token,
@@ -109,7 +109,7 @@ pub fn offered<L: Link, K: Keeper, C: Ledger>(
 }
 
 /// The listing of those outputs.
-fn listed_over<K: Keeper, C: Ledger>(
+fn list_loaded_run<K: Keeper, C: Ledger>(
     alloc: Global,
     directory: Directory,
     token: &[u8],
@@ -119,14 +119,14 @@ fn listed_over<K: Keeper, C: Ledger>(
     steps: &mut Steps<C>,
 ) -> Result<Text, NoMemory>
     requires bounded { directory.bound ≤ 16 }
-    requires unheard { script.old ≡ unheard script.old.events }
+    requires unheard { script.old ≡ initial_input script.old.events }
     ensures lists { IfOk result (ListsOver directory token.now loaded.now script.old.events
-        (keeper_seen K.Keeper keeper.old) (keeper_seen K.Keeper keeper.new)) }
-    ensures stopped { OnErr result (StoppedOver directory token.now loaded.now script.old.events
-        (keeper_seen K.Keeper keeper.old) (keeper_seen K.Keeper keeper.new)) }
+        (keeper_state K.Keeper keeper.old) (keeper_state K.Keeper keeper.new)) }
+    ensures stopped { OnErr result (AbortedListing directory token.now loaded.now script.old.events
+        (keeper_state K.Keeper keeper.old) (keeper_state K.Keeper keeper.new)) }
 {
     let events = script.len();
-    let offers = offered(
+    let offers = run_offers(
         alloc, directory, token, loaded, script, events, keeper, steps,
     )?;
     listing(alloc, &offers)
@@ -138,7 +138,7 @@ fn listed_over<K: Keeper, C: Ledger>(
 /// # Errors
 ///
 /// `Failed` where the keeper could not be bound, migrated or loaded, and else out of memory alone.
-pub fn listed<K: Keeper, C: Ledger>(
+pub fn list_run<K: Keeper, C: Ledger>(
     alloc: Global,
     directory: Directory,
     token: &[u8],
@@ -147,17 +147,17 @@ pub fn listed<K: Keeper, C: Ledger>(
     steps: &mut Steps<C>,
 ) -> Result<Text, KeepFault>
     requires bounded { directory.bound ≤ 16 }
-    requires unheard { script.old ≡ unheard script.old.events }
+    requires unheard { script.old ≡ initial_input script.old.events }
     ensures lists { IfOk result (Lists directory token.now script.old.events
-        (keeper_seen K.Keeper keeper.old) (keeper_seen K.Keeper keeper.new)) }
+        (keeper_state K.Keeper keeper.old) (keeper_state K.Keeper keeper.new)) }
     ensures failed { IsErrOf result fault.Failed →
-        IsNotLoaded directory.store (keeper_seen K.Keeper keeper.old) (keeper_seen K.Keeper keeper.new) }
-    ensures stopped { IsErrOf result fault.NoMemory → StoppedReplay directory token.now script.old.events
-        (keeper_seen K.Keeper keeper.old) (keeper_seen K.Keeper keeper.new) }
+        IsNotLoaded directory.store (keeper_state K.Keeper keeper.old) (keeper_state K.Keeper keeper.new) }
+    ensures stopped { IsErrOf result fault.NoMemory → AbortedReplay directory token.now script.old.events
+        (keeper_state K.Keeper keeper.old) (keeper_state K.Keeper keeper.new) }
 {
-    match open(alloc, keeper, directory.store.bytes()) {
+    match open_keeper(alloc, keeper, directory.store.bytes()) {
         Ok(loaded) => {
-            let listed = listed_over(
+            let listed = list_loaded_run(
                 alloc,
                 directory,
                 token,

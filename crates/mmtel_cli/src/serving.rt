@@ -1,23 +1,23 @@
 //! Serving a network: a run over a link and a keeper.
 ghost use Rattle.std.specs.Prelude.{◌≡◌, ◌≤◌, ◌≢◌, ℕ, List, [], IfSome, OnErr, OnOk, Some};
-ghost use Rattle.mmtel_cli.specs.Found.{CountsFiles, CountsLink, IsRead, IsServedBy, IsServing, Spares, SparesLink};
-ghost use Rattle.mmtel_cli.specs.Gives.{GivesServe, ServesConfig};
-ghost use Rattle.mmtel_cli.specs.Keeping.{IsLoaded};
-ghost use Rattle.mmtel_cli.specs.Outside.{Outside, outside_seen};
+ghost use Rattle.mmtel_cli.specs.ReportsDue.{CountsFileFaults, CountsLinkFaults, IsRead, IsServedBy, IsServing, Spares, SparesLink};
+ghost use Rattle.mmtel_cli.specs.CommandResults.{ResultOfServe, ServesConfig};
+ghost use Rattle.mmtel_cli.specs.KeeperUse.{IsLoaded};
+ghost use Rattle.mmtel_cli.specs.Environment.{Environment, environment_of};
 ghost use Rattle.mmtel_cli.specs.Serving.{IsLinked, IsNotLinked};
 ghost use Rattle.mmtel_directory.specs.declared.directories.Directory.{Directory};
-ghost use Rattle.mmtel_in_force.specs.Texts.{Texts};
-ghost use Rattle.mmtel_outside.specs.Shelf.{called};
-ghost use Rattle.mmtel_server.specs.Seen.{KeeperSeen, keeper_seen, link_seen};
-ghost use Rattle.mmtel_server.specs.Stands.{Serves};
+ghost use Rattle.mmtel_records_in_force.specs.Texts.{Texts};
+ghost use Rattle.mmtel_environment.specs.FileStore.{with_next_call};
+ghost use Rattle.mmtel_server.specs.States.{KeeperState, keeper_state, link_state};
+ghost use Rattle.mmtel_server.specs.Representation.{RepresentsRun};
 
-use crate::runs::open;
+use crate::runs::open_keeper;
+use mmtel_base::{NoMemory, Text};
 use mmtel_directory::{Directory, DirectoryFault, read_directory};
+use mmtel_environment::{FileFault, Files};
 use mmtel_keeper::{KeepFault, Keeper};
 use mmtel_link::Link;
-use mmtel_outside::{FileFault, Files};
 use mmtel_reports::Report;
-use mmtel_scan::{NoMemory, Text};
 use mmtel_serve::serve;
 use mmtel_server::{DriveFault, Server};
 use mmtel_timers::Steps;
@@ -28,8 +28,8 @@ use std::sync::ledger::Ledger;
 
 /// Binds a link to the addresses of the configuration: the one for datagrams and the one for web connections.
 fn listen<L: Link>(directory: &Directory, link: &mut L) -> Result<(), Failed>
-    ensures linked { OnOk result (IsLinked directory.now (link_seen L.Link link.old) (link_seen L.Link link.new)) }
-    ensures failed { OnErr result (IsNotLinked directory.now (link_seen L.Link link.old) (link_seen L.Link link.new)) }
+    ensures linked { OnOk result (IsLinked directory.now (link_state L.Link link.old) (link_state L.Link link.new)) }
+    ensures failed { OnErr result (IsNotLinked directory.now (link_state L.Link link.old) (link_state L.Link link.new)) }
 {
     link.bind(directory.sip, directory.web)
 }
@@ -44,12 +44,12 @@ fn over_server<L: Link, K: Keeper, C: Ledger>(
     keeper: &mut K,
     steps: &mut Steps<C>,
 ) -> Report
-    ensures served { (directory : Directory) (token : List ℕ) (loaded : Texts) (start : Outside) →
-        Serves directory token loaded [] server.old → IsLinked directory start.link (link_seen L.Link link.old) →
-        IsLoaded directory.store loaded start.keeper (keeper_seen K.Keeper keeper.old) →
-        IsServedBy directory token turns start (outside_seen L.Link link.new K.Keeper keeper.new) result }
+    ensures served { (directory : Directory) (token : List ℕ) (loaded : Texts) (start : Environment) →
+        RepresentsRun directory token loaded [] server.old → IsLinked directory start.link (link_state L.Link link.old) →
+        IsLoaded directory.store loaded start.keeper (keeper_state K.Keeper keeper.old) →
+        IsServedBy directory token turns start (environment_of L.Link link.new K.Keeper keeper.new) result }
     ensures serving { IsServing result }
-    ensures taking { CountsLink result (L.taking link.old) (L.taking link.new) }
+    ensures arrival_faults { CountsLinkFaults result (L.arrival_faults link.old) (L.arrival_faults link.new) }
 {
     match serve(alloc, server, link, keeper, turns, steps) {
         Ok(_) => Report::Served,
@@ -62,24 +62,24 @@ fn over_server<L: Link, K: Keeper, C: Ledger>(
 fn over_link<L: Link, K: Keeper, C: Ledger>(
     alloc: Global,
     directory: Directory,
-    asked: Serve,
+    command: Serve,
     loaded: &[(Account, Text)],
     link: &mut L,
     keeper: &mut K,
     steps: &mut Steps<C>,
 ) -> Report
     requires bounded { directory.bound ≤ 16 }
-    ensures served { (start : Outside) → IsLinked directory start.link (link_seen L.Link link.old) →
-        IsLoaded directory.store loaded.now start.keeper (keeper_seen K.Keeper keeper.old) →
-        IsServedBy directory asked.token asked.turns start (outside_seen L.Link link.new K.Keeper keeper.new) result }
+    ensures served { (start : Environment) → IsLinked directory start.link (link_state L.Link link.old) →
+        IsLoaded directory.store loaded.now start.keeper (keeper_state K.Keeper keeper.old) →
+        IsServedBy directory command.token command.turns start (environment_of L.Link link.new K.Keeper keeper.new) result }
     ensures serving { IsServing result }
-    ensures taking { CountsLink result (L.taking link.old) (L.taking link.new) }
+    ensures arrival_faults { CountsLinkFaults result (L.arrival_faults link.old) (L.arrival_faults link.new) }
 {
     let Serve {
         config,
         token,
         turns,
-    } = asked;
+    } = command;
     drop(config);
     match Server::new(alloc, directory, token, loaded) {
         Ok(mut server) => {
@@ -95,25 +95,25 @@ fn over_link<L: Link, K: Keeper, C: Ledger>(
 fn over_loaded<L: Link, K: Keeper, C: Ledger>(
     alloc: Global,
     directory: Directory,
-    asked: Serve,
+    command: Serve,
     loaded: &[(Account, Text)],
     link: &mut L,
     keeper: &mut K,
     steps: &mut Steps<C>,
 ) -> Report
     requires bounded { directory.bound ≤ 16 }
-    ensures served { (kept : KeeperSeen) →
-        IsLoaded directory.store loaded.now kept (keeper_seen K.Keeper keeper.old) →
-        IsServedBy directory asked.token asked.turns (record { link = link_seen L.Link link.old; keeper = kept })
-        (outside_seen L.Link link.new K.Keeper keeper.new) result }
+    ensures served { (kept : KeeperState) →
+        IsLoaded directory.store loaded.now kept (keeper_state K.Keeper keeper.old) →
+        IsServedBy directory command.token command.turns (record { link = link_state L.Link link.old; keeper = kept })
+        (environment_of L.Link link.new K.Keeper keeper.new) result }
     ensures serving { IsServing result }
-    ensures taking { CountsLink result (L.taking link.old) (L.taking link.new) }
+    ensures arrival_faults { CountsLinkFaults result (L.arrival_faults link.old) (L.arrival_faults link.new) }
 {
     match listen(&directory, link) {
-        Ok(()) => over_link(alloc, directory, asked, loaded, link, keeper, steps),
+        Ok(()) => over_link(alloc, directory, command, loaded, link, keeper, steps),
         Err(Failed) => {
             drop(directory);
-            drop(asked);
+            drop(command);
             Report::Link
         }
     }
@@ -123,33 +123,41 @@ fn over_loaded<L: Link, K: Keeper, C: Ledger>(
 fn over_directory<L: Link, K: Keeper, C: Ledger>(
     alloc: Global,
     directory: Directory,
-    asked: Serve,
+    command: Serve,
     link: &mut L,
     keeper: &mut K,
     steps: &mut Steps<C>,
 ) -> Report
     requires bounded { directory.bound ≤ 16 }
-    ensures served { IsServedBy directory asked.token asked.turns
-        (outside_seen L.Link link.old K.Keeper keeper.old) (outside_seen L.Link link.new K.Keeper keeper.new) result }
+    ensures served { IsServedBy directory command.token command.turns
+        (environment_of L.Link link.old K.Keeper keeper.old) (environment_of L.Link link.new K.Keeper keeper.new) result }
     ensures read { IsRead result }
     ensures spares { Spares result keeper.old keeper.new }
     ensures spares_link { SparesLink result link.old link.new }
-    ensures taking { CountsLink result (L.taking link.old) (L.taking link.new) }
+    ensures arrival_faults { CountsLinkFaults result (L.arrival_faults link.old) (L.arrival_faults link.new) }
 {
-    match open(alloc, keeper, directory.store.bytes()) {
+    match open_keeper(alloc, keeper, directory.store.bytes()) {
         Ok(loaded) => {
-            let due = over_loaded(alloc, directory, asked, loaded.items(), link, keeper, steps);
+            let due = over_loaded(
+                alloc,
+                directory,
+                command,
+                loaded.items(),
+                link,
+                keeper,
+                steps,
+            );
             drop(loaded);
             due
         }
         Err(KeepFault::Failed) => {
             drop(directory);
-            drop(asked);
+            drop(command);
             Report::Keeper
         }
         Err(KeepFault::NoMemory) => {
             drop(directory);
-            drop(asked);
+            drop(command);
             Report::Memory
         }
     }
@@ -158,27 +166,27 @@ fn over_directory<L: Link, K: Keeper, C: Ledger>(
 /// The report once the configuration's text was read.
 fn over_config<L: Link, K: Keeper, C: Ledger>(
     alloc: Global,
-    asked: Serve,
+    command: Serve,
     config: &Text,
     link: &mut L,
     keeper: &mut K,
     steps: &mut Steps<C>,
 ) -> Report
-    ensures due { ServesConfig (Some config.now) asked.token asked.turns
-        (outside_seen L.Link link.old K.Keeper keeper.old) (outside_seen L.Link link.new K.Keeper keeper.new) result }
+    ensures due { ServesConfig (Some config.now) command.token command.turns
+        (environment_of L.Link link.old K.Keeper keeper.old) (environment_of L.Link link.new K.Keeper keeper.new) result }
     ensures read { IsRead result }
     ensures spares { Spares result keeper.old keeper.new }
     ensures spares_link { SparesLink result link.old link.new }
-    ensures taking { CountsLink result (L.taking link.old) (L.taking link.new) }
+    ensures arrival_faults { CountsLinkFaults result (L.arrival_faults link.old) (L.arrival_faults link.new) }
 {
     match read_directory(alloc, config.bytes()) {
-        Ok(directory) => over_directory(alloc, directory, asked, link, keeper, steps),
+        Ok(directory) => over_directory(alloc, directory, command, link, keeper, steps),
         Err(DirectoryFault::BadLine { line }) => {
-            drop(asked);
-            Report::Line(line)
+            drop(command);
+            Report::BadLine(line)
         }
         Err(DirectoryFault::NoMemory) => {
-            drop(asked);
+            drop(command);
             Report::Memory
         }
     }
@@ -187,34 +195,34 @@ fn over_config<L: Link, K: Keeper, C: Ledger>(
 /// The report of `serve`. The next call of the files is for the configuration.
 pub fn over_serve<F: Files, L: Link, K: Keeper, C: Ledger>(
     alloc: Global,
-    asked: Serve,
+    command: Serve,
     files: &mut F,
     link: &mut L,
     keeper: &mut K,
     steps: &mut Steps<C>,
 ) -> Report
-    ensures gives { GivesServe (F.told files.old)
-        (outside_seen L.Link link.old K.Keeper keeper.old) (outside_seen L.Link link.new K.Keeper keeper.new)
-        asked.config asked.token asked.turns result }
-    ensures calls { IfSome (F.told files.old) (λ shelf. F.told files.new ≡ Some (called shelf)) }
-    ensures count { CountsFiles result (F.faults files.old) (F.faults files.new) }
+    ensures gives { ResultOfServe (F.contents files.old)
+        (environment_of L.Link link.old K.Keeper keeper.old) (environment_of L.Link link.new K.Keeper keeper.new)
+        command.config command.token command.turns result }
+    ensures calls { IfSome (F.contents files.old) (λ shelf. F.contents files.new ≡ Some (with_next_call shelf)) }
+    ensures count { CountsFileFaults result (F.faults files.old) (F.faults files.new) }
     ensures asked { result ≢ Report.Usage }
     ensures spares { Spares result keeper.old keeper.new }
     ensures spares_link { SparesLink result link.old link.new }
-    ensures taking { CountsLink result (L.taking link.old) (L.taking link.new) }
+    ensures arrival_faults { CountsLinkFaults result (L.arrival_faults link.old) (L.arrival_faults link.new) }
 {
-    match files.read(alloc, asked.config.bytes()) {
+    match files.read(alloc, command.config.bytes()) {
         Ok(config) => {
-            let due = over_config(alloc, asked, &config, link, keeper, steps);
+            let due = over_config(alloc, command, &config, link, keeper, steps);
             drop(config);
             due
         }
         Err(FileFault::Failed) => {
-            drop(asked);
+            drop(command);
             Report::File
         }
         Err(FileFault::NoMemory) => {
-            drop(asked);
+            drop(command);
             Report::Memory
         }
     }

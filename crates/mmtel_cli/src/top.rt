@@ -1,43 +1,43 @@
 //! The top-level function.
 ghost use Rattle.std.specs.Prelude.{◌≡◌, ◌<◌, ◌≤◌, ◌≢◌, IfSome, Ok, Some};
 ghost use Rattle.std.specs.Process.{exit_status};
-ghost use Rattle.mmtel_cli.specs.Asks.{asked_by};
+ghost use Rattle.mmtel_cli.specs.Commands.{replay_args_of};
 ghost use Rattle.mmtel_words.specs.CommandLine as line;
 ghost use Rattle.mmtel_words.specs.Commands.{command_in};
 ghost use Rattle.mmtel_directory.specs.Directory.{directory_of};
-ghost use Rattle.mmtel_cli.specs.Due.{due_of_events, due_of_script, shelf_of_directory, shelf_by, shelf_first};
-ghost use Rattle.mmtel_cli.specs.Found.{IsDue, HasCalled, CountsFiles, IsRead, SparedBy, Spares, TakingBy, UnboundBy};
-ghost use Rattle.mmtel_cli.specs.Gives.{GivesScript, GivesBoth, GivesCommand, Prepares, ports};
-ghost use Rattle.mmtel_cli.specs.Keeping.{IsSpared};
-ghost use Rattle.mmtel_cli.specs.Outside.{outside_seen};
-ghost use Rattle.mmtel_cli.specs.Runs.{CalledFor, CountsAtFive, CountsAtFour, Ran};
+ghost use Rattle.mmtel_cli.specs.Due.{due_of_events, due_of_script, files_after_directory, files_after_command, files_after_first_read};
+ghost use Rattle.mmtel_cli.specs.ReportsDue.{IsDue, HasReadFiles, CountsFileFaults, IsRead, SparedBy, Spares, CountsLinkFaultsBy, UnboundBy};
+ghost use Rattle.mmtel_cli.specs.CommandResults.{ResultOfScript, ResultOfReplay, ResultOfCommand, Prepares, ports};
+ghost use Rattle.mmtel_cli.specs.KeeperUse.{IsSpared};
+ghost use Rattle.mmtel_cli.specs.Environment.{environment_of};
+ghost use Rattle.mmtel_cli.specs.Runs.{CallsFilesFor, CountsAtStatus4, CountsAtStatus5, ProgramRun};
 ghost use Rattle.mmtel_cli.specs.Serving.{IsUnbound};
-ghost use Rattle.mmtel_outside.specs.Shelf.{called};
-ghost use Rattle.mmtel_reports.specs.Ends.{written_by};
-ghost use Rattle.mmtel_run_laws.specs.Mailboxes.{MailboxesAreToldToTheirSubscribers};
-ghost use Rattle.mmtel_run_laws.specs.Sessions.{ShortSessionsAreRefused};
-ghost use Rattle.mmtel_script.specs.Script.{unheard};
-ghost use Rattle.mmtel_server.specs.Seen.{keeper_seen};
+ghost use Rattle.mmtel_environment.specs.FileStore.{with_next_call};
+ghost use Rattle.mmtel_reports.specs.WriteEffects.{write_effect};
+ghost use Rattle.mmtel_run_theorems.specs.Mailboxes.{SubscribersAreNotified};
+ghost use Rattle.mmtel_run_theorems.specs.ShortSessions.{ShortSessionsAreRefused};
+ghost use Rattle.mmtel_script.specs.Script.{initial_input};
+ghost use Rattle.mmtel_server.specs.States.{keeper_state};
 
 use crate::charges::over_charges;
 use crate::checks::over_records;
-use crate::runs::listed;
+use crate::runs::list_run;
 use crate::serving::over_serve;
 use crate::workloads::over_workload;
+use mmtel_base::{NoMemory, Text};
 use mmtel_directory::{Directory, DirectoryFault, read_directory};
+use mmtel_environment::{FileFault, Files, Sink};
 use mmtel_keeper::{KeepFault, Keeper};
 use mmtel_link::Link;
-use mmtel_outside::{FileFault, Files, Sink};
 use mmtel_reports::{Report, write_report};
-use mmtel_run_laws::{
-    bytes_are_seen, calls_of_runs_come_to_their_outcome, configurations_are_read,
-    homes_of_configurations_are_clean, mailboxes_are_told_to_their_subscribers,
-    runs_send_clean_messages, seats_of_runs_are_charged_once, short_sessions_are_refused,
+use mmtel_run_theorems::{
+    bytes_are_seen, calls_of_runs_reach_outcome, configurations_are_read, homes_have_no_injection,
+    run_participants_charged_once, runs_send_no_injection, short_sessions_are_refused,
+    subscribers_are_notified,
 };
-use mmtel_scan::{NoMemory, Text};
 use mmtel_script::{ScriptFault, ScriptLink};
 use mmtel_timers::Steps;
-use mmtel_words::{Replay, Wanted, command};
+use mmtel_words::{Replay, WantedCommand, command};
 use std::alloc::Global;
 use std::marker::Brand;
 use std::process::ExitCode;
@@ -53,13 +53,13 @@ fn over_events<K: Keeper, C: Ledger>(
     steps: &mut Steps<C>,
 ) -> Report
     requires bounded { directory.bound ≤ 16 }
-    requires unheard { script.old ≡ unheard script.old.events }
-    ensures due { IsDue (keeper_seen K.Keeper keeper.old) (keeper_seen K.Keeper keeper.new)
+    requires unheard { script.old ≡ initial_input script.old.events }
+    ensures due { IsDue (keeper_state K.Keeper keeper.old) (keeper_state K.Keeper keeper.new)
         result (due_of_events directory token.now (Ok script.old.events)) }
     ensures read { IsRead result }
     ensures spares { Spares result keeper.old keeper.new }
 {
-    match listed(alloc, directory, token, script, keeper, steps) {
+    match list_run(alloc, directory, token, script, keeper, steps) {
         Ok(text) => Report::Listing(text),
         Err(KeepFault::Failed) => Report::Keeper,
         Err(KeepFault::NoMemory) => Report::Memory,
@@ -76,7 +76,7 @@ fn over_script<K: Keeper, C: Ledger>(
     steps: &mut Steps<C>,
 ) -> Report
     requires bounded { directory.bound ≤ 16 }
-    ensures due { IsDue (keeper_seen K.Keeper keeper.old) (keeper_seen K.Keeper keeper.new)
+    ensures due { IsDue (keeper_state K.Keeper keeper.old) (keeper_state K.Keeper keeper.new)
         result (due_of_script directory token.now (Some script.now)) }
     ensures read { IsRead result }
     ensures spares { Spares result keeper.old keeper.new }
@@ -89,7 +89,7 @@ fn over_script<K: Keeper, C: Ledger>(
         }
         Err(ScriptFault::BadLine { line }) => {
             drop(directory);
-            Report::Line(line)
+            Report::BadLine(line)
         }
         Err(ScriptFault::NoMemory) => {
             drop(directory);
@@ -108,10 +108,10 @@ fn over_directory<F: Files, K: Keeper, C: Ledger>(
     steps: &mut Steps<C>,
 ) -> Report
     requires bounded { directory.bound ≤ 16 }
-    ensures gives { GivesScript (F.told files.old) (keeper_seen K.Keeper keeper.old) (keeper_seen K.Keeper keeper.new)
-        (asked_by replay) (Ok directory) result }
-    ensures calls { IfSome (F.told files.old) (λ shelf. F.told files.new ≡ Some (called shelf)) }
-    ensures count { CountsFiles result (F.faults files.old) (F.faults files.new) }
+    ensures gives { ResultOfScript (F.contents files.old) (keeper_state K.Keeper keeper.old) (keeper_state K.Keeper keeper.new)
+        (replay_args_of replay) (Ok directory) result }
+    ensures calls { IfSome (F.contents files.old) (λ shelf. F.contents files.new ≡ Some (with_next_call shelf)) }
+    ensures count { CountsFileFaults result (F.faults files.old) (F.faults files.new) }
     ensures asked { result ≢ Report.Usage }
     ensures spares { Spares result keeper.old keeper.new }
 {
@@ -151,11 +151,11 @@ fn over_config<F: Files, K: Keeper, C: Ledger>(
     keeper: &mut K,
     steps: &mut Steps<C>,
 ) -> Report
-    ensures gives { GivesScript (F.told files.old) (keeper_seen K.Keeper keeper.old) (keeper_seen K.Keeper keeper.new)
-        (asked_by replay) (directory_of config.now) result }
-    ensures calls { IfSome (F.told files.old)
-        (λ shelf. HasCalled result (F.told files.new) shelf (shelf_of_directory shelf (directory_of config.now))) }
-    ensures count { CountsFiles result (F.faults files.old) (F.faults files.new) }
+    ensures gives { ResultOfScript (F.contents files.old) (keeper_state K.Keeper keeper.old) (keeper_state K.Keeper keeper.new)
+        (replay_args_of replay) (directory_of config.now) result }
+    ensures calls { IfSome (F.contents files.old)
+        (λ shelf. HasReadFiles result (F.contents files.new) shelf (files_after_directory shelf (directory_of config.now))) }
+    ensures count { CountsFileFaults result (F.faults files.old) (F.faults files.new) }
     ensures asked { result ≢ Report.Usage }
     ensures spares { Spares result keeper.old keeper.new }
 {
@@ -163,7 +163,7 @@ fn over_config<F: Files, K: Keeper, C: Ledger>(
         Ok(directory) => over_directory(alloc, replay, directory, files, keeper, steps),
         Err(DirectoryFault::BadLine { line }) => {
             drop(replay);
-            Report::Line(line)
+            Report::BadLine(line)
         }
         Err(DirectoryFault::NoMemory) => {
             drop(replay);
@@ -180,11 +180,11 @@ fn over_replay<F: Files, K: Keeper, C: Ledger>(
     keeper: &mut K,
     steps: &mut Steps<C>,
 ) -> Report
-    ensures gives { GivesBoth (F.told files.old) (keeper_seen K.Keeper keeper.old) (keeper_seen K.Keeper keeper.new)
-        (asked_by replay) result }
-    ensures calls { IfSome (F.told files.old)
-        (λ shelf. HasCalled result (F.told files.new) (called shelf) (shelf_by shelf (line.Replay (asked_by replay)))) }
-    ensures count { CountsFiles result (F.faults files.old) (F.faults files.new) }
+    ensures gives { ResultOfReplay (F.contents files.old) (keeper_state K.Keeper keeper.old) (keeper_state K.Keeper keeper.new)
+        (replay_args_of replay) result }
+    ensures calls { IfSome (F.contents files.old)
+        (λ shelf. HasReadFiles result (F.contents files.new) (with_next_call shelf) (files_after_command shelf (line.Replay (replay_args_of replay)))) }
+    ensures count { CountsFileFaults result (F.faults files.old) (F.faults files.new) }
     ensures asked { result ≢ Report.Usage }
     ensures spares { Spares result keeper.old keeper.new }
 {
@@ -206,32 +206,32 @@ fn over_replay<F: Files, K: Keeper, C: Ledger>(
 }
 
 /// The report of this command, over these files, this link and this keeper.
-fn over_wanted<F: Files, L: Link, K: Keeper, C: Ledger>(
+fn over_command<F: Files, L: Link, K: Keeper, C: Ledger>(
     alloc: Global,
-    wanted: Wanted,
+    command: WantedCommand,
     files: &mut F,
     link: &mut L,
     keeper: &mut K,
     steps: &mut Steps<C>,
 ) -> Report
-    ensures gives { GivesCommand (F.told files.old)
-        (outside_seen L.Link link.old K.Keeper keeper.old) (outside_seen L.Link link.new K.Keeper keeper.new)
-        (command_in wanted) result }
-    ensures calls { IfSome (F.told files.old) (λ shelf. HasCalled result (F.told files.new)
-        (shelf_first shelf (command_in wanted)) (shelf_by shelf (command_in wanted))) }
-    ensures count { CountsFiles result (F.faults files.old) (F.faults files.new) }
+    ensures gives { ResultOfCommand (F.contents files.old)
+        (environment_of L.Link link.old K.Keeper keeper.old) (environment_of L.Link link.new K.Keeper keeper.new)
+        (command_in command) result }
+    ensures calls { IfSome (F.contents files.old) (λ shelf. HasReadFiles result (F.contents files.new)
+        (files_after_first_read shelf (command_in command)) (files_after_command shelf (command_in command))) }
+    ensures count { CountsFileFaults result (F.faults files.old) (F.faults files.new) }
     ensures asked { result ≢ Report.Usage }
     ensures spares { Spares result keeper.old keeper.new }
-    ensures spared { SparedBy (Some (command_in wanted)) keeper.old keeper.new }
-    ensures unbound { UnboundBy (Some (command_in wanted)) result link.old link.new }
-    ensures taking { TakingBy (Some (command_in wanted)) result (L.taking link.old) (L.taking link.new) }
+    ensures spared { SparedBy (Some (command_in command)) keeper.old keeper.new }
+    ensures unbound { UnboundBy (Some (command_in command)) result link.old link.new }
+    ensures arrival_faults { CountsLinkFaultsBy (Some (command_in command)) result (L.arrival_faults link.old) (L.arrival_faults link.new) }
 {
-    match wanted {
-        Wanted::Replay(replay) => over_replay(alloc, replay, files, keeper, steps),
-        Wanted::Check(records) => over_records(alloc, records.bytes(), files),
-        Wanted::Charges(config) => over_charges(alloc, config.bytes(), files, keeper),
-        Wanted::Workload { calls, salt } => over_workload(alloc, calls, salt, steps),
-        Wanted::Serve(asked) => over_serve(alloc, asked, files, link, keeper, steps),
+    match command {
+        WantedCommand::Replay(replay) => over_replay(alloc, replay, files, keeper, steps),
+        WantedCommand::Check(records) => over_records(alloc, records.bytes(), files),
+        WantedCommand::Charges(config) => over_charges(alloc, config.bytes(), files, keeper),
+        WantedCommand::Workload { calls, salt } => over_workload(alloc, calls, salt, steps),
+        WantedCommand::Serve(asked) => over_serve(alloc, asked, files, link, keeper, steps),
     }
 }
 
@@ -248,14 +248,14 @@ fn prepare<F: Files, L: Link, K: Keeper, C: Ledger>(
     requires parts { blank.parts ≡ C.parts }
     requires some { 0 < C.parts }
     ensures prepares { Prepares words.now
-        (outside_seen L.Link link.old K.Keeper keeper.old) (outside_seen L.Link link.new K.Keeper keeper.new)
-        (ports (F.told files.old) link.old keeper.old) (ports (F.told files.new) link.new keeper.new) result }
-    ensures count { CountsFiles result (F.faults files.old) (F.faults files.new) }
+        (environment_of L.Link link.old K.Keeper keeper.old) (environment_of L.Link link.new K.Keeper keeper.new)
+        (ports (F.contents files.old) link.old keeper.old) (ports (F.contents files.new) link.new keeper.new) result }
+    ensures count { CountsFileFaults result (F.faults files.old) (F.faults files.new) }
     ensures spares { Spares result keeper.old keeper.new }
 {
     let mut steps: Steps<C> = Steps::new(blank);
     match command(alloc, words) {
-        Ok(Some(wanted)) => over_wanted(alloc, wanted, files, link, keeper, &mut steps),
+        Ok(Some(wanted)) => over_command(alloc, wanted, files, link, keeper, &mut steps),
         Ok(None) => Report::Usage,
         Err(NoMemory) => Report::Memory,
     }
@@ -291,33 +291,33 @@ pub fn run<F: Files, L: Link, K: Keeper, S: Sink>(
     // or be loaded; or the link could not be bound or failed to receive. Of the others: whether a text that was checked is a record; the text of exactly the CDRs
     // that the keeper returned, or that it could not be bound or read; the numbers for exactly the outputs of a server for so many calls by the salt, whose messages are determined
     // by these two. Or it is the text of another status; and where memory ran out, what had been done by then: of the last event a prefix at most.
-    ensures ran { Ran (F.told files.old)
-        (outside_seen L.Link link.old K.Keeper keeper.old) (outside_seen L.Link link.new K.Keeper keeper.new)
-        words.now (written_by S.Sink result out.old out.new) }
+    ensures ran { ProgramRun (F.contents files.old)
+        (environment_of L.Link link.old K.Keeper keeper.old) (environment_of L.Link link.new K.Keeper keeper.new)
+        words.now (write_effect S.Sink result out.old out.new) }
     // By those definitions the server itself sends a 422 to an INVITE or UPDATE whose session is too short, and to nothing else, and that request has no other effect.
     ensures sessions { ShortSessionsAreRefused }
     // By those definitions each request of the server's own is of a call, of a conference, or a NOTIFY to the trusted peer of a live subscription, with the summary of
     // the last accepted upload of its mailbox; and a SUBSCRIBE of a peer that is not trusted is refused.
-    ensures mailboxes { MailboxesAreToldToTheirSubscribers }
+    ensures mailboxes { SubscribersAreNotified }
     // Which calls of the files were made.
-    ensures calls { IfSome (F.told files.old) (λ shelf. CalledFor shelf words.now result (F.told files.new)) }
+    ensures calls { IfSome (F.contents files.old) (λ shelf. CallsFilesFor shelf words.now result (F.contents files.new)) }
     // When the count of the files' faults rose.
-    ensures files { CountsAtFive result (F.faults files.old) (F.faults files.new) }
+    ensures files { CountsAtStatus5 result (F.faults files.old) (F.faults files.new) }
     // When the keeper was not called.
     ensures keeper { IsSpared words.now result keeper.old keeper.new }
     // When the link was not called.
     ensures link { IsUnbound words.now result link.old link.new }
     // When the count of the link's arrival faults rose.
-    ensures taking { CountsAtFour result (L.taking link.old) (L.taking link.new) }
+    ensures arrival_faults { CountsAtStatus4 result (L.arrival_faults link.old) (L.arrival_faults link.new) }
 {
-    calls_of_runs_come_to_their_outcome();
-    seats_of_runs_are_charged_once();
-    runs_send_clean_messages();
-    homes_of_configurations_are_clean();
+    calls_of_runs_reach_outcome();
+    run_participants_charged_once();
+    runs_send_no_injection();
+    homes_have_no_injection();
     configurations_are_read();
     bytes_are_seen();
     short_sessions_are_refused();
-    mailboxes_are_told_to_their_subscribers();
+    subscribers_are_notified();
     let due = prepare::<F, L, K, Brand>(alloc, words, files, link, keeper, Blank::new(1));
     let status = write_report(&due, out);
     drop(due);
@@ -334,15 +334,15 @@ pub fn program<F: Files, L: Link, K: Keeper, S: Sink>(
     out: &mut S,
 ) -> ExitCode
     // The same for the status that the process exits with.
-    ensures ran { Ran (F.told files.old)
-        (outside_seen L.Link link.old K.Keeper keeper.old) (outside_seen L.Link link.new K.Keeper keeper.new)
-        words.now (written_by S.Sink (exit_status result) out.old out.new) }
-    ensures calls { IfSome (F.told files.old)
-        (λ shelf. CalledFor shelf words.now (exit_status result) (F.told files.new)) }
-    ensures files { CountsAtFive (exit_status result) (F.faults files.old) (F.faults files.new) }
+    ensures ran { ProgramRun (F.contents files.old)
+        (environment_of L.Link link.old K.Keeper keeper.old) (environment_of L.Link link.new K.Keeper keeper.new)
+        words.now (write_effect S.Sink (exit_status result) out.old out.new) }
+    ensures calls { IfSome (F.contents files.old)
+        (λ shelf. CallsFilesFor shelf words.now (exit_status result) (F.contents files.new)) }
+    ensures files { CountsAtStatus5 (exit_status result) (F.faults files.old) (F.faults files.new) }
     ensures keeper { IsSpared words.now (exit_status result) keeper.old keeper.new }
     ensures link { IsUnbound words.now (exit_status result) link.old link.new }
-    ensures taking { CountsAtFour (exit_status result) (L.taking link.old) (L.taking link.new) }
+    ensures arrival_faults { CountsAtStatus4 (exit_status result) (L.arrival_faults link.old) (L.arrival_faults link.new) }
 {
     ExitCode::from(run(alloc, words, files, link, keeper, out))
 }

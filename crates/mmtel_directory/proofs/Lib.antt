@@ -1,3 +1,3 @@
-pub mod BoundLaws
-pub mod DraftLaws
-pub mod LineLaws
+pub mod BoundTheorems
+pub mod DraftTheorems
+pub mod LineTheorems

@@ -3,11 +3,11 @@ use Rattle.std.specs.Prelude.{ℕ, Bool, true, false, nat_lt, nat_le, not, ◌&&
 use Rattle.std.specs.Prelude.{List, [], ◌∷◌, ◌++◌, length, map, codes, Option, Some, None, unwrap_or, Result, Ok, Err}
 use Rattle.std.specs.List.{flat_map, list_all, list_any}
 use Rattle.std.specs.Str.{bytes_eq}
-use Rattle.mmtel_scan.specs.Chain.{◌>>=◌}
-use Rattle.mmtel_scan.specs.Classes.{in_class}
-use Rattle.mmtel_scan.specs.Numbers.{plain_number}
-use Rattle.mmtel_scan.specs.Scanning.{parted}
-use Rattle.mmtel_scan.specs.declared.classes.Class.TheVariants.{Digit, Host}
+use Rattle.mmtel_base.specs.Chain.{◌>>=◌}
+use Rattle.mmtel_base.specs.Classes.{in_class}
+use Rattle.mmtel_base.specs.Numbers.{plain_number}
+use Rattle.mmtel_base.specs.Scanning.{split_once_at}
+use Rattle.mmtel_base.specs.declared.classes.Class.TheVariants.{Digit, Host}
 use Rattle.mmtel_lex.specs.Reading.{Refusal, uri_of}
 use Rattle.mmtel_lex.specs.declared.values.Uri.{Uri}
 use Rattle.mmtel_sdp.specs.declared.values.Mixer.{Mixer}
@@ -16,8 +16,8 @@ use Rattle.mmtel_types.specs.declared.numbers.Account.{Account}
 use Rattle.mmtel_types.specs.declared.numbers.Peer.{Peer}
 use Rattle.mmtel_trust.specs.Accounts.{has_identity}
 use Rattle.mmtel_trust.specs.declared.accounts.AccountIdentity.{AccountIdentity}
-use Rattle.mmtel_trust.specs.declared.parties.KnownPeer.{KnownPeer}
-use Rattle.mmtel_trust.specs.declared.parties.Route.{Route}
+use Rattle.mmtel_trust.specs.declared.known_peers.KnownPeer.{KnownPeer}
+use Rattle.mmtel_trust.specs.declared.known_peers.Route.{Route}
 use Rattle.mmtel_trust.specs.Peers.{Peers, has_number, has_addr, has_name, is_prefix}
 use Rattle.mmtel_directory.specs.declared.directories.Directory.{Directory}
 use Rattle.mmtel_directory.specs.declared.directories.DirectoryFault.{DirectoryFault}
@@ -28,16 +28,16 @@ use Rattle.mmtel_directory.specs.declared.config_lines.Extension.{Extension}
 use Rattle.mmtel_directory.specs.declared.config_lines.Extension.TheVariants as extension
 use Rattle.mmtel_directory.specs.declared.config_lines.Line.{Line}
 use Rattle.mmtel_directory.specs.declared.config_lines.Line.TheVariants as line
-use Rattle.mmtel_directory.specs.Lines.{lines_of, words_of, is_remark, number_from, said_by}
+use Rattle.mmtel_directory.specs.Lines.{lines_of, words_of, is_comment, number_from, lines_by}
 
 -- ---- addresses
 
 -- `a.b.c.d`, each of 0 to 255
 abbrev pub ip_of : List ℕ → Option (List ℕ)
 ip_of s = do
-  a ← parted 46 s
-  b ← parted 46 a.1
-  c ← parted 46 b.1
+  a ← split_once_at 46 s
+  b ← split_once_at 46 a.1
+  c ← split_once_at 46 b.1
   first ← plain_number 255 a.0
   second ← plain_number 255 b.0
   third ← plain_number 255 c.0
@@ -47,7 +47,7 @@ ip_of s = do
 -- `a.b.c.d:port`, the port of 1 to 65535
 abbrev pub addr_of : List ℕ → Option Addr
 addr_of s = do
-  x ← parted 58 s
+  x ← split_once_at 58 s
   ip ← ip_of x.0
   port ← number_from 1 65535 x.1
   Some (record { ip = ip; port = port })
@@ -141,8 +141,8 @@ home_line s = if is_host s then Some (line.Home s) else None
 -- `peer N ADDR trusted` or `peer N ADDR untrusted`
 abbrev pub peer_line : List ℕ → Option Line
 peer_line s = do
-  n ← parted 32 s
-  a ← parted 32 n.1
+  n ← split_once_at 32 s
+  a ← split_once_at 32 n.1
   peer ← peer_of n.0
   addr ← addr_of a.0
   trusted ← trust_of a.1
@@ -151,7 +151,7 @@ peer_line s = do
 -- `route HOST N`, `route +DIGITS N` or `route * N`
 abbrev pub route_words : List ℕ → Option (List ℕ × Peer)
 route_words s = do
-  n ← parted 32 s
+  n ← split_once_at 32 s
   peer ← peer_of n.1
   if is_route_name n.0 then Some (n.0, peer) else None
 
@@ -163,7 +163,7 @@ route_line s = do
 -- `account N` and its identities
 abbrev pub account_words : List ℕ → Option (Account × List ℕ)
 account_words s = do
-  n ← parted 32 s
+  n ← split_once_at 32 s
   account ← account_number n.0
   Some (account, n.1)
 
@@ -216,7 +216,7 @@ extension_line s = do
 -- `mixer IP PORT`
 abbrev pub mixer_line : List ℕ → Option Line
 mixer_line s = do
-  x ← parted 32 s
+  x ← split_once_at 32 s
   ip ← ip_of x.0
   port ← number_from 1 65535 x.1
   Some (line.Mixer (record { ip = ip; port = port }))
@@ -244,7 +244,7 @@ line_of_kind kind.Store s = store_line s
 -- the kind of a line of two words or more, and what follows the first
 abbrev pub kind_and_rest : List ℕ → Option (LineKind × List ℕ)
 kind_and_rest s = do
-  words ← parted 32 s
+  words ← split_once_at 32 s
   kind ← kind_of words.0
   Some (kind, words.1)
 
@@ -255,7 +255,7 @@ line_of_words s = do
 
 -- the content of a line, where it is of a form of the grammar
 unfoldable pub line_of : List ℕ → Option Line
-line_of s = if is_remark s then Some line.Remark else line_of_words s
+line_of s = if is_comment s then Some line.Comment else line_of_words s
 
 -- ---- the values of each kind in lines
 
@@ -334,12 +334,12 @@ table_of said = record { known = flat_map peer_in said; routes = flat_map route_
 -- ---- which line may follow which
 
 -- no line sets it yet
-abbrev pub is_unsaid : {A : Type 0} → (Line → List A) → List Line → Bool
-is_unsaid part said = length (flat_map part said) == 0
+abbrev pub is_unset : {A : Type 0} → (Line → List A) → List Line → Bool
+is_unset part said = length (flat_map part said) == 0
 
 -- a line sets it
-abbrev pub is_said : {A : Type 0} → (Line → List A) → List Line → Bool
-is_said part said = not (is_unsaid part said)
+abbrev pub is_set : {A : Type 0} → (Line → List A) → List Line → Bool
+is_set part said = not (is_unset part said)
 
 -- there is such an account: it has an identity
 abbrev pub is_account : List AccountIdentity → Account → Bool
@@ -352,70 +352,70 @@ are_new identities (one ∷ more) = not (has_identity one.uri identities) && are
 
 -- whether a line may follow directly after these: a peer of a new number and a new address; a route of a new name to a peer that is named above, with at most 4,096 routes; an
 -- account of a new number and of identities that no other line has, with at most 10,000 accounts; each extension once, and each other kind
-abbrev pub stands : List Line → Line → Bool
-stands said line.Remark = true
-stands said (line.Sip addr) = is_unsaid sip_in said
-stands said (line.Web addr) = is_unsaid web_in said
-stands said (line.Home name) = is_unsaid home_in said
-stands said (line.Peer peer) = not (has_number peer.peer (flat_map peer_in said)) && not (has_addr peer.addr (flat_map peer_in said))
-stands said (line.Route route) =
+abbrev pub may_follow : List Line → Line → Bool
+may_follow said line.Comment = true
+may_follow said (line.Sip addr) = is_unset sip_in said
+may_follow said (line.Web addr) = is_unset web_in said
+may_follow said (line.Home name) = is_unset home_in said
+may_follow said (line.Peer peer) = not (has_number peer.peer (flat_map peer_in said)) && not (has_addr peer.addr (flat_map peer_in said))
+may_follow said (line.Route route) =
     nat_lt (length (flat_map route_in said)) 4096 && not (has_name route.name (flat_map route_in said)) && has_number route.peer (flat_map peer_in said)
-stands said (line.Account account uris) =
+may_follow said (line.Account account uris) =
     nat_lt (length (flat_map account_in said)) 10000 && not (is_account (flat_map identities_in said) account) && are_new (flat_map identities_in said) (entries_of account uris)
-stands said (line.Operator uri) = is_unsaid operator_in said
-stands said (line.Factory uri) = is_unsaid factory_in said
-stands said (line.Bound n) = is_unsaid bound_in said
-stands said (line.Country digits) = is_unsaid country_in said
-stands said (line.Extension extension.Reliable) = is_unsaid reliable_in said
-stands said (line.Extension extension.Timer) = is_unsaid timer_in said
-stands said (line.Extension extension.Mwi) = is_unsaid mwi_in said
-stands said (line.Mixer mixer) = is_unsaid mixer_in said
-stands said (line.Store name) = is_unsaid store_in said
+may_follow said (line.Operator uri) = is_unset operator_in said
+may_follow said (line.Factory uri) = is_unset factory_in said
+may_follow said (line.Bound n) = is_unset bound_in said
+may_follow said (line.Country digits) = is_unset country_in said
+may_follow said (line.Extension extension.Reliable) = is_unset reliable_in said
+may_follow said (line.Extension extension.Timer) = is_unset timer_in said
+may_follow said (line.Extension extension.Mwi) = is_unset mwi_in said
+may_follow said (line.Mixer mixer) = is_unset mixer_in said
+may_follow said (line.Store name) = is_unset store_in said
 
 -- the content of the next line, where it breaks no rule
-abbrev pub next_said : List Line → List ℕ → Option Line
-next_said said text = do
+abbrev pub next_config_line : List Line → List ℕ → Option Line
+next_config_line said text = do
   line ← line_of text
-  if stands said line then Some line else None
+  if may_follow said line then Some line else None
 
 -- ---- configurations
 
 -- the defaults
-abbrev pub usual_web : Addr
-usual_web = record { ip = 127 ∷ 0 ∷ 0 ∷ 1 ∷ []; port = 8080 }
+abbrev pub default_web : Addr
+default_web = record { ip = 127 ∷ 0 ∷ 0 ∷ 1 ∷ []; port = 8080 }
 
-abbrev pub usual_bound : ℕ
-usual_bound = 5
+abbrev pub default_bound : ℕ
+default_bound = 5
 
-abbrev pub usual_mixer : Mixer
-usual_mixer = record { ip = 127 ∷ 0 ∷ 0 ∷ 1 ∷ []; port = 40000 }
+abbrev pub default_mixer : Mixer
+default_mixer = record { ip = 127 ∷ 0 ∷ 0 ∷ 1 ∷ []; port = 40000 }
 
-abbrev pub usual_store : List ℕ
-usual_store = codes ":memory:"
+abbrev pub default_store : List ℕ
+default_store = codes ":memory:"
 
 abbrev pub first_of : {A : Type 0} → List A → Option A
 first_of [] = None
 first_of (x ∷ xs) = Some x
 
 -- the value that the lines set, where one does
-abbrev pub first_said : {A : Type 0} → (Line → List A) → List Line → Option A
-first_said part said = first_of (flat_map part said)
+abbrev pub first_value : {A : Type 0} → (Line → List A) → List Line → Option A
+first_value part said = first_of (flat_map part said)
 
 -- the directory of a server with this address and this home domain
 abbrev pub directory_with : Addr → List ℕ → List Line → Directory
 directory_with sip home said = record {
   sip = sip;
-  web = unwrap_or (first_said web_in said) usual_web;
+  web = unwrap_or (first_value web_in said) default_web;
   home = home;
   peers = table_of said;
-  names = record { accounts = flat_map identities_in said; operator = first_said operator_in said; mwi = is_said mwi_in said };
-  factory = first_said factory_in said;
-  bound = unwrap_or (first_said bound_in said) usual_bound;
-  country = first_said country_in said;
-  reliable = is_said reliable_in said;
-  timer = is_said timer_in said;
-  mixer = unwrap_or (first_said mixer_in said) usual_mixer;
-  store = unwrap_or (first_said store_in said) usual_store;
+  names = record { accounts = flat_map identities_in said; operator = first_value operator_in said; mwi = is_set mwi_in said };
+  factory = first_value factory_in said;
+  bound = unwrap_or (first_value bound_in said) default_bound;
+  country = first_value country_in said;
+  reliable = is_set reliable_in said;
+  timer = is_set timer_in said;
+  mixer = unwrap_or (first_value mixer_in said) default_mixer;
+  store = unwrap_or (first_value store_in said) default_store;
 }
 
 abbrev pub directory_by : ℕ → Option Addr → Option (List ℕ) → List Line → Result Directory ℕ
@@ -425,17 +425,17 @@ directory_by last (Some sip) (Some home) said = Ok (directory_with sip home said
 
 -- the directory of lines with this content, `last` being the number after that of the last: `sip` and `home` are required
 abbrev pub directory_from : ℕ → Result (List Line) ℕ → Result Directory ℕ
-directory_from last (Ok said) = directory_by last (first_said sip_in said) (first_said home_in said) said
+directory_from last (Ok said) = directory_by last (first_value sip_in said) (first_value home_in said) said
 directory_from last (Err number) = Err number
 
 -- the directory of a text, or the number, from 1, of the first line that breaks the grammar: one past the last where a required line is absent
 unfoldable pub directory_of : List ℕ → Result Directory ℕ
-directory_of text = directory_from (length (lines_of text) + 1) (said_by next_said 1 [] (lines_of text))
+directory_of text = directory_from (length (lines_of text) + 1) (lines_by next_config_line 1 [] (lines_of text))
 
 -- ---- words of contracts
 
 -- this result, unless memory ran out
-abbrev pub Answers : Result Directory DirectoryFault → Result Directory ℕ → Type 0
-Answers (Ok directory) due = due ≡ Ok directory
-Answers (Err (BadLine number)) due = due ≡ Err number
-Answers (Err NoMemory) due = Unit {0}
+abbrev pub ReadsDirectory : Result Directory DirectoryFault → Result Directory ℕ → Type 0
+ReadsDirectory (Ok directory) due = due ≡ Ok directory
+ReadsDirectory (Err (BadLine number)) due = due ≡ Err number
+ReadsDirectory (Err NoMemory) due = Unit {0}

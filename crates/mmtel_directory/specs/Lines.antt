@@ -1,8 +1,8 @@
 -- The lines of a text, and numbers in the format of configurations and scripts: formats of this project's own.
 use Rattle.std.specs.Prelude.{ℕ, Bool, true, false, nat_lt, ◌==◌, if◌then◌else◌, List, [], ◌∷◌, ◌++◌, ◌+◌, Option, Some, None, Result, Ok, Err}
 use Rattle.std.specs.List.{onto_first, slice_split}
-use Rattle.mmtel_scan.specs.Chain.{◌>>=◌}
-use Rattle.mmtel_scan.specs.Numbers.{plain_number}
+use Rattle.mmtel_base.specs.Chain.{◌>>=◌}
+use Rattle.mmtel_base.specs.Numbers.{plain_number}
 
 -- the lines: an LF ends each, and the last may lack it
 abbrev pub lines_of : List ℕ → List (List ℕ)
@@ -10,9 +10,9 @@ lines_of [] = []
 lines_of (b ∷ s) = if b == 10 then [] ∷ lines_of s else onto_first b (lines_of s)
 
 -- an empty line, or one that begins with `#`
-abbrev pub is_remark : List ℕ → Bool
-is_remark [] = true
-is_remark (b ∷ s) = b == 35
+abbrev pub is_comment : List ℕ → Bool
+is_comment [] = true
+is_comment (b ∷ s) = b == 35
 
 -- the number, of at least the least and at most the limit, that these decimal digits without leading zeros write
 abbrev pub number_from : ℕ → ℕ → List ℕ → Option ℕ
@@ -27,9 +27,9 @@ and_then number None more = Err number
 
 -- the contents of lines, each read after those of the lines before it, or the number of the first that may not follow there; the lines begin at this number, after lines with these
 -- contents
-abbrev pub said_by : {L : Type 0} → (List L → List ℕ → Option L) → ℕ → List L → List (List ℕ) → Result (List L) ℕ
-said_by read number said [] = Ok said
-said_by read number said (text ∷ texts) = and_then number (read said text) (λ line. said_by read (number + 1) (said ++ line ∷ []) texts)
+abbrev pub lines_by : {L : Type 0} → (List L → List ℕ → Option L) → ℕ → List L → List (List ℕ) → Result (List L) ℕ
+lines_by read number said [] = Ok said
+lines_by read number said (text ∷ texts) = and_then number (read said text) (λ line. lines_by read (number + 1) (said ++ line ∷ []) texts)
 
 -- the words of a line, which are separated by one space
 unfoldable pub words_of : List ℕ → List (List ℕ)

@@ -3,19 +3,19 @@ ghost use Rattle.std.specs.Prelude.{◌≡◌, IfOk, option_copied};
 ghost use Rattle.std.specs.Option.{option_map};
 ghost use Rattle.mmtel_lex.specs.Reading.{uri_of};
 ghost use Rattle.mmtel_trust.specs.Peers.{is_prefix};
-ghost use Rattle.mmtel_scan.specs.Numbers.{plain_number};
+ghost use Rattle.mmtel_base.specs.Numbers.{plain_number};
 ghost use Rattle.mmtel_directory.specs.Directory.{route_words, ip_of, addr_of, kind_of, is_host, is_route_name, trust_of, peer_of, account_number, readable, identities_of};
 ghost use Rattle.mmtel_directory.specs.Directory.{is_country, country_line, extension_line, extension_of, is_one_word, is_store_name};
 ghost use Rattle.mmtel_directory.specs.Lines.{words_of};
 ghost use Rattle.mmtel_directory.specs.Directory.{uris_of, kind_and_rest, sip_line, web_line, home_line, peer_line, route_line, account_words, account_line, operator_line};
 ghost use Rattle.mmtel_directory.specs.Directory.{factory_line, bound_line, mixer_line, store_line, line_of_kind, line_of_words, line_of};
 
-use crate::lines::{first_word, is_remark, number_from};
+use crate::lines::{first_word, is_comment, number_from};
+use mmtel_base::{Class, List, NoMemory, Text, is_all, plain_number, split_once_at};
 use mmtel_lex::{Uri, UriFault, read_uri};
-use mmtel_scan::{Class, List, NoMemory, Text, is_all, part, plain_number};
 use mmtel_sdp::Mixer;
 use mmtel_trust::{KnownPeer, Route};
-use mmtel_types::limits::{ACCOUNT_IDENTITIES, DIVERSIONS_MOST};
+use mmtel_types::limits::{ACCOUNT_IDENTITIES, MAX_DIVERSIONS};
 use mmtel_types::{Account, Addr, Peer};
 use std::alloc::Global;
 
@@ -52,7 +52,7 @@ pub enum Extension {
 #[derive(Drop)]
 pub enum Line {
     /// Nothing: it is empty, or begins with `#`.
-    Remark,
+    Comment,
     /// The server's own address for SIP.
     Sip(Addr),
     /// The server's own address for HTTP.
@@ -96,16 +96,16 @@ fn octet(bytes: &[u8]) -> Option<u8>
 fn read_ip(bytes: &[u8]) -> Option<[u8; 4]>
     ensures { result ≡ ip_of bytes.now }
 {
-    let (first, rest) = part(b'.', bytes)?;
-    let (second, rest) = part(b'.', rest)?;
-    let (third, fourth) = part(b'.', rest)?;
+    let (first, rest) = split_once_at(b'.', bytes)?;
+    let (second, rest) = split_once_at(b'.', rest)?;
+    let (third, fourth) = split_once_at(b'.', rest)?;
     Some([octet(first)?, octet(second)?, octet(third)?, octet(fourth)?])
 }
 
 fn read_addr(bytes: &[u8]) -> Option<Addr>
     ensures { result ≡ addr_of bytes.now }
 {
-    let (ip, port) = part(b':', bytes)?;
+    let (ip, port) = split_once_at(b':', bytes)?;
     let ip = read_ip(ip)?;
     let port = number_from(1, 65535, port)?;
     Some(Addr {
@@ -213,8 +213,8 @@ fn home_line(alloc: Global, rest: &[u8]) -> Result<Option<Line>, NoMemory>
 fn peer_line(rest: &[u8]) -> Option<Line>
     ensures { result ≡ peer_line rest.now }
 {
-    let (number, rest) = part(b' ', rest)?;
-    let (addr, trust) = part(b' ', rest)?;
+    let (number, rest) = split_once_at(b' ', rest)?;
+    let (addr, trust) = split_once_at(b' ', rest)?;
     let peer = read_peer(number)?;
     let addr = read_addr(addr)?;
     let trusted = read_trust(trust)?;
@@ -229,7 +229,7 @@ fn peer_line(rest: &[u8]) -> Option<Line>
 fn route_words(rest: &[u8]) -> Option<(&[u8], Peer)>
     ensures { option_map (λ x. (x.0.now, x.1)) result ≡ route_words rest.now }
 {
-    let (name, number) = part(b' ', rest)?;
+    let (name, number) = split_once_at(b' ', rest)?;
     let peer = read_peer(number)?;
     if is_route_name(name) {
         Some((name, peer))
@@ -309,7 +309,7 @@ fn read_identities(alloc: Global, words: &[u8]) -> Result<Option<List<Uri>>, NoM
 fn account_words(rest: &[u8]) -> Option<(Account, &[u8])>
     ensures { option_map (λ x. (x.0, x.1.now)) result ≡ account_words rest.now }
 {
-    let (number, words) = part(b' ', rest)?;
+    let (number, words) = split_once_at(b' ', rest)?;
     Some((account_number(number)?, words))
 }
 
@@ -349,7 +349,7 @@ fn factory_line(alloc: Global, rest: &[u8]) -> Result<Option<Line>, NoMemory>
 fn bound_line(rest: &[u8]) -> Option<Line>
     ensures { result ≡ bound_line rest.now }
 {
-    let number = plain_number(u64::from(DIVERSIONS_MOST), rest)?;
+    let number = plain_number(u64::from(MAX_DIVERSIONS), rest)?;
     Some(Line::Bound(number as u16))
 }
 
@@ -392,7 +392,7 @@ fn extension_line(rest: &[u8]) -> Option<Line>
 fn mixer_line(rest: &[u8]) -> Option<Line>
     ensures { result ≡ mixer_line rest.now }
 {
-    let (ip, port) = part(b' ', rest)?;
+    let (ip, port) = split_once_at(b' ', rest)?;
     let ip = read_ip(ip)?;
     let port = number_from(1, 65535, port)?;
     Some(Line::Mixer(Mixer {
@@ -446,7 +446,7 @@ fn line_of_kind(alloc: Global, kind: LineKind, rest: &[u8]) -> Result<Option<Lin
 fn kind_and_rest(text: &[u8]) -> Option<(LineKind, &[u8])>
     ensures { option_map (λ x. (x.0, x.1.now)) result ≡ kind_and_rest text.now }
 {
-    let (word, rest) = part(b' ', text)?;
+    let (word, rest) = split_once_at(b' ', text)?;
     Some((kind_of(word)?, rest))
 }
 
@@ -455,8 +455,8 @@ fn kind_and_rest(text: &[u8]) -> Option<(LineKind, &[u8])>
 pub fn read_line(alloc: Global, text: &[u8]) -> Result<Option<Line>, NoMemory>
     ensures { IfOk result (λ said. said ≡ line_of text.now) }
 {
-    if is_remark(text) {
-        return Ok(Some(Line::Remark));
+    if is_comment(text) {
+        return Ok(Some(Line::Comment));
     }
     match kind_and_rest(text) {
         None => Ok(None),

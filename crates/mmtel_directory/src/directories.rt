@@ -1,14 +1,14 @@
 //! Configurations.
 ghost use Rattle.std.specs.Prelude.{◌≡◌, ◌≤◌, IfOk};
-ghost use Rattle.mmtel_directory.specs.Directory.{Answers, directory_of};
+ghost use Rattle.mmtel_directory.specs.Directory.{ReadsDirectory, directory_of};
 ghost use Rattle.mmtel_directory.specs.Drafts.{Reads};
 ghost use Rattle.mmtel_directory.specs.Lines.{lines_of};
 ghost use Rattle.mmtel_directory.specs.declared.directories.DirectoryFault.TheVariants as fault;
 
 use crate::drafts::Draft;
 use crate::lines::next_line;
+use mmtel_base::{NoMemory, Text};
 use mmtel_lex::Uri;
-use mmtel_scan::{NoMemory, Text};
 use mmtel_sdp::Mixer;
 use mmtel_trust::{Accounts, PeerTable};
 use mmtel_types::Addr;
@@ -113,7 +113,7 @@ fn read_lines(alloc: Global, draft: &mut Draft, bytes: &[u8]) -> Result<u64, Dir
 ///
 /// `BadLine` exactly with the first line that breaks this, or with one past the last where `sip` or `home` is absent; else out of memory only.
 pub fn read_directory(alloc: Global, bytes: &[u8]) -> Result<Directory, DirectoryFault>
-    ensures exact { Answers result (directory_of bytes.now) }
+    ensures exact { ReadsDirectory result (directory_of bytes.now) }
     ensures bounded { IfOk result (λ directory. directory.bound ≤ 16) }
 {
     let mut draft = Draft::new();

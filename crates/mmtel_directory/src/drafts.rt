@@ -1,13 +1,13 @@
 //! A directory while its lines are read.
 ghost use Rattle.std.specs.Prelude.{◌≡◌, ◌++◌, Some, is_none, not, true, unwrap_or, IfOk};
-ghost use Rattle.mmtel_directory.specs.Directory.{Answers, are_new, entries_of, usual_mixer, usual_store, usual_web};
-ghost use Rattle.mmtel_directory.specs.Drafts.{Adds, Steps, empty_draft, finished, step, takes, with_line};
+ghost use Rattle.mmtel_directory.specs.Directory.{ReadsDirectory, are_new, default_mixer, default_store, default_web, entries_of};
+ghost use Rattle.mmtel_directory.specs.Drafts.{Adds, Steps, accepts, directory_of_draft, empty_draft, step, with_line};
 ghost use Rattle.mmtel_directory.specs.declared.config_lines.Line.TheVariants as said;
 
 use crate::config_lines::{Extension, Line, read_line};
 use crate::directories::{Directory, DirectoryFault, WebDirectory};
+use mmtel_base::{List, NoMemory, Text};
 use mmtel_lex::Uri;
-use mmtel_scan::{List, NoMemory, Text};
 use mmtel_sdp::Mixer;
 use mmtel_trust::{Accounts, KnownPeer, PeerTable, Route, TableFault};
 use mmtel_types::limits::{ACCOUNTS, DIVERSIONS_DEFAULT, ROUTES};
@@ -36,13 +36,13 @@ pub struct Draft {
 }
 
 /// Sets the value of the line of this number, where no line set it yet.
-fn say_once<T: Drop>(place: &mut Option<T>, number: u64, said: T) -> Result<(), DirectoryFault>
-    ensures { Adds result number (is_none place.old) (Some said) place.new }
+fn set_once<T: Drop>(slot: &mut Option<T>, number: u64, value: T) -> Result<(), DirectoryFault>
+    ensures { Adds result number (is_none slot.old) (Some value) slot.new }
 {
-    if place.is_some() {
+    if slot.is_some() {
         return Err(DirectoryFault::BadLine { line: number });
     }
-    *place = Some(said);
+    *slot = Some(value);
     Ok(())
 }
 
@@ -80,8 +80,8 @@ fn add_identities(
     Ok(())
 }
 
-fn web_or_usual(web: Option<Addr>) -> Addr
-    ensures { result ≡ unwrap_or web usual_web }
+fn web_or_default(web: Option<Addr>) -> Addr
+    ensures { result ≡ unwrap_or web default_web }
 {
     web.unwrap_or(Addr {
         ip: [127, 0, 0, 1],
@@ -89,8 +89,8 @@ fn web_or_usual(web: Option<Addr>) -> Addr
     })
 }
 
-fn mixer_or_usual(mixer: Option<Mixer>) -> Mixer
-    ensures { result ≡ unwrap_or mixer usual_mixer }
+fn mixer_or_default(mixer: Option<Mixer>) -> Mixer
+    ensures { result ≡ unwrap_or mixer default_mixer }
 {
     mixer.unwrap_or(Mixer {
         ip: [127, 0, 0, 1],
@@ -98,8 +98,8 @@ fn mixer_or_usual(mixer: Option<Mixer>) -> Mixer
     })
 }
 
-fn store_or_usual(alloc: Global, store: Option<Text>) -> Result<Text, NoMemory>
-    ensures { IfOk result (λ name. name ≡ unwrap_or store usual_store) }
+fn store_or_default(alloc: Global, store: Option<Text>) -> Result<Text, NoMemory>
+    ensures { IfOk result (λ name. name ≡ unwrap_or store default_store) }
 {
     match store {
         Some(name) => Ok(name),
@@ -138,7 +138,7 @@ impl Draft {
         number: u64,
         peer: KnownPeer,
     ) -> Result<(), DirectoryFault>
-        ensures { Adds result number (takes self.old (said.Peer peer)) (with_line self.old (said.Peer peer)) self.new }
+        ensures { Adds result number (accepts self.old (said.Peer peer)) (with_line self.old (said.Peer peer)) self.new }
     {
         match self
             .peers
@@ -153,7 +153,7 @@ impl Draft {
     }
 
     fn add_route(&mut self, alloc: Global, number: u64, route: Route) -> Result<(), DirectoryFault>
-        ensures { Adds result number (takes self.old (said.Route route)) (with_line self.old (said.Route route)) self.new }
+        ensures { Adds result number (accepts self.old (said.Route route)) (with_line self.old (said.Route route)) self.new }
     {
         if self.routes >= ROUTES {
             return Err(DirectoryFault::BadLine { line: number });
@@ -177,7 +177,7 @@ impl Draft {
         account: Account,
         identities: List<Uri>,
     ) -> Result<(), DirectoryFault>
-        ensures { Adds result number (takes self.old (said.Account account identities)) (with_line self.old (said.Account account identities)) self.new }
+        ensures { Adds result number (accepts self.old (said.Account account identities)) (with_line self.old (said.Account account identities)) self.new }
     {
         if self.account_lines >= ACCOUNTS || self.accounts.has_account(account) {
             return Err(DirectoryFault::BadLine { line: number });
@@ -188,28 +188,28 @@ impl Draft {
     }
 
     fn add(&mut self, alloc: Global, number: u64, line: Line) -> Result<(), DirectoryFault>
-        ensures { Adds result number (takes self.old line) (with_line self.old line) self.new }
+        ensures { Adds result number (accepts self.old line) (with_line self.old line) self.new }
     {
         match line {
-            Line::Remark => Ok(()),
-            Line::Sip(addr) => say_once(&mut self.sip, number, addr),
-            Line::Web(addr) => say_once(&mut self.web, number, addr),
-            Line::Home(name) => say_once(&mut self.home, number, name),
+            Line::Comment => Ok(()),
+            Line::Sip(addr) => set_once(&mut self.sip, number, addr),
+            Line::Web(addr) => set_once(&mut self.web, number, addr),
+            Line::Home(name) => set_once(&mut self.home, number, name),
             Line::Peer(peer) => self.add_peer(alloc, number, peer),
             Line::Route(route) => self.add_route(alloc, number, route),
             Line::Account {
                 account,
                 identities,
             } => self.add_account(alloc, number, account, identities),
-            Line::Operator(uri) => say_once(&mut self.operator, number, uri),
-            Line::Factory(uri) => say_once(&mut self.factory, number, uri),
-            Line::Bound(bound) => say_once(&mut self.bound, number, bound),
-            Line::Country(digits) => say_once(&mut self.country, number, digits),
+            Line::Operator(uri) => set_once(&mut self.operator, number, uri),
+            Line::Factory(uri) => set_once(&mut self.factory, number, uri),
+            Line::Bound(bound) => set_once(&mut self.bound, number, bound),
+            Line::Country(digits) => set_once(&mut self.country, number, digits),
             Line::Extension(Extension::Reliable) => switch_on(&mut self.reliable, number),
             Line::Extension(Extension::Timer) => switch_on(&mut self.timer, number),
             Line::Extension(Extension::Mwi) => switch_on(&mut self.mwi, number),
-            Line::Mixer(mixer) => say_once(&mut self.mixer, number, mixer),
-            Line::Store(name) => say_once(&mut self.store, number, name),
+            Line::Mixer(mixer) => set_once(&mut self.mixer, number, mixer),
+            Line::Store(name) => set_once(&mut self.store, number, name),
         }
     }
 
@@ -226,12 +226,12 @@ impl Draft {
 
     /// The directory, where `last` is the number after that of the last line.
     pub fn finish(self, alloc: Global, last: u64) -> Result<Directory, DirectoryFault>
-        ensures { Answers result (finished last self) }
+        ensures { ReadsDirectory result (directory_of_draft last self) }
     {
         match (self.sip, self.home) {
             (Some(sip), Some(home)) => Ok(Directory {
                 sip,
-                web: web_or_usual(self.web),
+                web: web_or_default(self.web),
                 home,
                 peers: self.peers,
                 names: WebDirectory {
@@ -244,8 +244,8 @@ impl Draft {
                 country: self.country,
                 reliable: self.reliable,
                 timer: self.timer,
-                mixer: mixer_or_usual(self.mixer),
-                store: store_or_usual(alloc, self.store)?,
+                mixer: mixer_or_default(self.mixer),
+                store: store_or_default(alloc, self.store)?,
             }),
             _ => Err(DirectoryFault::BadLine { line: last }),
         }

@@ -1,8 +1,8 @@
 //! The lines of a text, and numbers in the format of configurations and scripts.
 ghost use Rattle.std.specs.Prelude.{◌≡◌, ◌<◌, ◌≤◌, ◌∷◌, [], length, MatchOption, IfSome, option_copied};
-ghost use Rattle.mmtel_directory.specs.Lines.{lines_of, words_of, words_after, is_remark, number_from};
+ghost use Rattle.mmtel_directory.specs.Lines.{lines_of, words_of, words_after, is_comment, number_from};
 
-use mmtel_scan::{part, plain_number};
+use mmtel_base::{plain_number, split_once_at};
 
 /// The first line, without the LF that ends it, and what follows; None where there is no line.
 pub fn next_line(bytes: &[u8]) -> Option<(&[u8], &[u8])>
@@ -12,7 +12,7 @@ pub fn next_line(bytes: &[u8]) -> Option<(&[u8], &[u8])>
     if bytes.is_empty() {
         return None;
     }
-    match part(b'\n', bytes) {
+    match split_once_at(b'\n', bytes) {
         Some((line, more)) => Some((line, more)),
         None => Some((bytes, &[])),
     }
@@ -23,15 +23,15 @@ pub fn first_word(bytes: &[u8]) -> (&[u8], Option<&[u8]>)
     ensures words { words_of bytes.now ≡ result.0.now ∷ words_after (option_copied result.1) }
     ensures shorter { IfSome result.1 (λ more. length more.now < length bytes.now) }
 {
-    match part(b' ', bytes) {
+    match split_once_at(b' ', bytes) {
         Some((word, more)) => (word, Some(more)),
         None => (bytes, None),
     }
 }
 
 /// Whether a line is ignored: it is empty, or begins with `#`.
-pub fn is_remark(line: &[u8]) -> bool
-    ensures { result ≡ is_remark line.now }
+pub fn is_comment(line: &[u8]) -> bool
+    ensures { result ≡ is_comment line.now }
 {
     match line {
         [] => true,

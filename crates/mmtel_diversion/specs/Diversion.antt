@@ -10,20 +10,20 @@ use Rattle.mmtel_sheet_values.specs.declared.values.EventWord.TheVariants.{Busy,
 use Rattle.mmtel_sheet_values.specs.declared.values.Forward.{Forward}
 use Rattle.mmtel_sheet_values.specs.declared.values.Rule.{Rule}
 use Rattle.mmtel_sheet_values.specs.declared.values.Sheet.{Sheet}
-use Rattle.mmtel_rules.specs.Circumstances.{Circumstances}
+use Rattle.mmtel_rules.specs.Facts.{FactsView}
 use Rattle.mmtel_rules.specs.Rules.{first_that_holds}
 use Rattle.mmtel_rules.specs.declared.values.When.{When}
 use Rattle.mmtel_diversion.specs.declared.choosing.Diversion.{Diversion}
 
 -- a diversion: the index of its rule, where the call goes, and the cause
-pub record Chosen : Type 0 where
+pub record ChosenDiversion : Type 0 where
   pub rule : ℕ
   pub forward : Forward
   pub cause : ℕ
 
 -- a diversion of the program, as seen here
-abbrev pub shown : Diversion → Chosen
-shown d = record { rule = d.rule; forward = d.forward.now; cause = d.cause }
+abbrev pub chosen_diversion : Diversion → ChosenDiversion
+chosen_diversion d = record { rule = d.rule; forward = d.forward.now; cause = d.cause }
 
 -- the cause by the event of the rule; unconditional without one (RFC 4458 §2)
 abbrev pub cause_of : Option EventWord → ℕ
@@ -39,16 +39,16 @@ forward_of (Act.Forward forward) = Some forward
 forward_of (Act.Allow allowed) = None
 
 -- the diversion of the rule at this index
-abbrev pub diversion_by : ℕ → Rule → Option Chosen
+abbrev pub diversion_by : ℕ → Rule → Option ChosenDiversion
 diversion_by place rule = option_map (λ forward. record { rule = place; forward = forward; cause = cause_of rule.condition.event }) (forward_of rule.action)
 
 -- the diversion of the first rule that holds
-abbrev pub diversion_among : Circumstances → When → List Rule → Option Chosen
+abbrev pub diversion_among : FactsView → When → List Rule → Option ChosenDiversion
 diversion_among k when rules =
     option_and_then (λ place. option_and_then (diversion_by place) (slice_get rules place)) (first_that_holds k when rules)
 
 -- the diversion at the event; none where diversion is not active
-abbrev pub diversion_of : Circumstances → When → Sheet → Option Chosen
+abbrev pub diversion_of : FactsView → When → Sheet → Option ChosenDiversion
 diversion_of k when sheet =
     option_and_then (λ part. diversion_among k when part.rules) sheet.diversion
 

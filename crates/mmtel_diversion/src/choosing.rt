@@ -1,8 +1,8 @@
 //! The diversion that a record requires.
 ghost use Rattle.std.specs.Prelude.{◌≡◌};
 ghost use Rattle.std.specs.Option.{option_map};
-ghost use Rattle.mmtel_rules.specs.Circumstances.{known};
-ghost use Rattle.mmtel_diversion.specs.Diversion.{cause_of, deflection_of, diversion_by, diversion_of, shown};
+ghost use Rattle.mmtel_rules.specs.Facts.{facts_view};
+ghost use Rattle.mmtel_diversion.specs.Diversion.{cause_of, chosen_diversion, deflection_of, diversion_by, diversion_of};
 
 use mmtel_rules::{Facts, When, first};
 use mmtel_sheet_values::{Action, EventWord, Forward, Rule, Sheet};
@@ -32,12 +32,12 @@ fn cause_of(event: Option<EventWord>) -> u16
 }
 
 /// The diversion of the rule at this index; None where it forwards nowhere.
-fn diversion_by(place: usize, rule: &Rule) -> Option<Diversion<'_>>
-    ensures { option_map shown result ≡ diversion_by place rule.now }
+fn diversion_by(index: usize, rule: &Rule) -> Option<Diversion<'_>>
+    ensures { option_map chosen_diversion result ≡ diversion_by index rule.now }
 {
     match &rule.action {
         Action::Forward(forward) => Some(Diversion {
-            rule: place,
+            rule: index,
             forward,
             cause: cause_of(rule.condition.event),
         }),
@@ -47,22 +47,22 @@ fn diversion_by(place: usize, rule: &Rule) -> Option<Diversion<'_>>
 
 /// The diversion that the record requires at this event: that of the first of its rules that holds (TS 24.604 §4.5.2.6 and §4.9.1). None where diversion is not active or no rule
 /// holds, and where the first that holds forwards nowhere, which no rule of a record that was read does. It allocates nothing.
-pub fn choose<'a>(s: &'a Sheet, f: &Facts, when: When) -> Option<Diversion<'a>>
-    ensures exact { let facts = f.entry.now in option_map shown result ≡ diversion_of (known facts) when s.now }
+pub fn choose<'a>(sheet: &'a Sheet, call_facts: &Facts, when: When) -> Option<Diversion<'a>>
+    ensures exact { let facts = call_facts.entry.now in option_map chosen_diversion result ≡ diversion_of (facts_view facts) when sheet.now }
 {
-    let part = s.diversion.as_ref()?;
+    let part = sheet.diversion.as_ref()?;
     let rules = part.rules.items();
-    let place = first(rules, f, when)?;
+    let place = first(rules, call_facts, when)?;
     let rule = rules.get(place)?;
     diversion_by(place, rule)
 }
 
 /// The cause of a diversion by the user's own device (communication deflection, TS 24.604 §4.5.2.6): 487 once the device was alerted, else 480 (RFC 4458 §2). None where
 /// the record does not allow it. It allocates nothing.
-pub fn deflect(s: &Sheet, alerted: bool) -> Option<u16>
-    ensures exact { result ≡ deflection_of s.now alerted }
+pub fn deflect(sheet: &Sheet, alerted: bool) -> Option<u16>
+    ensures exact { result ≡ deflection_of sheet.now alerted }
 {
-    match &s.diversion {
+    match &sheet.diversion {
         Some(part) if part.deflection => Some(if alerted { 487 } else { 480 }),
         _ => None,
     }

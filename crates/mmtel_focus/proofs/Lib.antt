@@ -1,5 +1,5 @@
 mod Places
-mod Bids
-mod Marked
-mod Keeping
+mod ReferResults
+mod MarksFound
+mod TableInvariant
 mod Numbering

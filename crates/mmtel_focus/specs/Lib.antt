@@ -1,18 +1,18 @@
 -- What public clauses cite: the configuration as conferences need it, conferences and participants as they are kept, their texts, what a REFER asks for, what a participant
 -- receives and the step that follows, the conferences after each operation, and the queries on them.
-pub mod Site
-pub mod Rooms
+pub mod ConferenceConfig
+pub mod Conferences
 pub mod Texts
 pub mod Referrals
-pub mod Seats
+pub mod Participants
 pub mod Joining
 pub mod Requests
-pub mod Answers
-pub mod SeatSignals
+pub mod Responses
+pub mod ParticipantSignals
 pub mod Table
-pub mod Names
-pub mod Histories
+pub mod Queries
+pub mod Operations
 -- What private functions alone cite.
 pub mod Private
-pub mod Lent
+pub mod Borrowed
 pub mod Marks

@@ -2,13 +2,13 @@
 use Rattle.std.specs.Prelude.{ℕ, Bool, true, if◌then◌else◌, Option, Some, None, List, [], ◌∷◌, codes, find}
 use Rattle.std.specs.Option.{option_map, unwrap_or}
 use Rattle.std.specs.Str.{bytes_eq}
-use Rattle.mmtel_lex.specs.Percent.{percent_decoded}
-use Rattle.mmtel_lex.specs.UriPlaces.{behind, is_named, parts}
+use Rattle.mmtel_lex.specs.Percent.{percent_decoded_text}
+use Rattle.mmtel_lex.specs.UriParts.{is_named, parts, text_after}
 use Rattle.mmtel_lex.specs.declared.values.Param.{Param}
 use Rattle.mmtel_lex.specs.declared.values.Uri.{Uri}
 use Rattle.mmtel_lex.specs.declared.values.Uri.TheVariants.{Sip, Tel}
 use Rattle.mmtel_trust.specs.Asserted.{uri_in}
-pub use Rattle.mmtel_seats.specs.Targets.{is_method, is_no_method, target_of}
+pub use Rattle.mmtel_participants.specs.Targets.{is_method, is_no_method, target_of}
 use Rattle.mmtel_focus.specs.declared.referrals.Referral.{Referral}
 use Rattle.mmtel_focus.specs.declared.referrals.Referral.TheVariants.{Invite, Missing, OtherMethod, Replace}
 use Rattle.mmtel_focus.specs.declared.referrals.Replaces.{Replaces}
@@ -17,7 +17,7 @@ use Rattle.mmtel_focus.specs.declared.referrals.Replaces.{Replaces}
 
 -- the text after the `=` of the first of these that has the name
 abbrev pub value_named : (name : List ℕ) → List (List ℕ) → Option (List ℕ)
-value_named name words = option_map (behind 61) (find (is_named name) words)
+value_named name words = option_map (text_after 61) (find (is_named name) words)
 
 -- the Call-ID, and after it the parameters, each after a `;`
 abbrev pub replaces_in : List (List ℕ) → Replaces
@@ -26,7 +26,7 @@ replaces_in (call_id ∷ params) = record { call_id = call_id; to_tag = value_na
 
 -- a value whose escapes cannot be decoded names no dialog
 abbrev pub replaces_at : (value : List ℕ) → Replaces
-replaces_at value = replaces_in (parts 59 (unwrap_or (percent_decoded value) []))
+replaces_at value = replaces_in (parts 59 (unwrap_or (percent_decoded_text value) []))
 
 -- the first Replaces in the header part of a URI
 unfoldable pub replaces_of : (headers : List ℕ) → Option Replaces

@@ -2,21 +2,21 @@
 -- answer (RFC 3264), and status lines.
 use Rattle.std.specs.Prelude.{ℕ, ◌==◌, ◌&&◌, Bool, true, false, if◌then◌else◌, Option, Some, None, List, [], ◌∷◌, ◌++◌, ◌^◌, ◌-◌, codes, decimal}
 use Rattle.std.specs.Str.{bytes_eq}
-use Rattle.mmtel_scan.specs.Chain.{◌>>=◌}
-use Rattle.mmtel_scan.specs.Numbers.{plain_number}
-use Rattle.mmtel_scan.specs.Scanning.{after_text}
+use Rattle.mmtel_base.specs.Chain.{◌>>=◌}
+use Rattle.mmtel_base.specs.Numbers.{plain_number}
+use Rattle.mmtel_base.specs.Scanning.{after_text}
 use Rattle.mmtel_lex.specs.declared.values.Uri.{Uri}
 use Rattle.mmtel_lex.specs.declared.values.Uri.TheVariants.{Sip, Tel}
 use Rattle.mmtel_message.specs.Addresses.{ip_text}
 use Rattle.mmtel_message.specs.Phrases.{phrase_of}
 use Rattle.mmtel_message.specs.Texts.{start_text}
 use Rattle.mmtel_message.specs.declared.messages.Start.TheVariants.{Status}
-use Rattle.mmtel_sdp.specs.Mixing.{answer_text}
+use Rattle.mmtel_sdp.specs.Mixer.{answer_text}
 use Rattle.mmtel_sdp.specs.Sdp.{sdp_of}
 use Rattle.mmtel_sdp.specs.declared.values.Mixer.{Mixer}
 use Rattle.mmtel_sdp.specs.declared.values.SdpView.{SdpView}
 use Rattle.mmtel_types.specs.declared.addrs.Addr.{Addr}
-pub use Rattle.mmtel_seats.specs.Texts.{contact_line, contact_value, described, fragment, notify_lines, room_from, room_uri, sdp_lines, subscription}
+pub use Rattle.mmtel_participants.specs.Texts.{conference_from, conference_uri, contact_and_sdp_lines, contact_line, contact_value, notify_lines, sdp_lines, sipfrag, subscription_state}
 
 -- ---- the conference that a URI names
 
@@ -26,13 +26,13 @@ is_port port None = port == 5060
 is_port port (Some n) = n == port
 
 -- `room-` and a number
-abbrev pub room_by : List ℕ → Option ℕ
-room_by user = after_text (codes "room-") user >>= plain_number (2 ^ 64 - 1)
+abbrev pub conference_number : List ℕ → Option ℕ
+conference_number user = after_text (codes "room-") user >>= plain_number (2 ^ 64 - 1)
 
 -- the conference of this server, whether it is live or not
-abbrev pub room_in : Addr → Uri → Option ℕ
-room_in sip (Sip user host port params headers) = user >>= λ name. if bytes_eq host (ip_text sip.ip) && is_port sip.port port then room_by name else None
-room_in sip (Tel number params) = None
+abbrev pub conference_in : Addr → Uri → Option ℕ
+conference_in sip (Sip user host port params headers) = user >>= λ name. if bytes_eq host (ip_text sip.ip) && is_port sip.port port then conference_number name else None
+conference_in sip (Tel number params) = None
 
 -- ---- the mixer's session descriptions
 

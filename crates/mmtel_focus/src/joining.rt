@@ -1,29 +1,29 @@
 //! How a party becomes a participant: by an INVITE to the conference, or by a leg moved out of a call.
 ghost use Rattle.std.specs.Prelude.{◌≡◌, [], IfErr, IfOk, None, OnErr, OnOk, Some, codes, true};
-ghost use Rattle.mmtel_desk.specs.Desks.{token};
-ghost use Rattle.mmtel_desk.specs.Invitations.{sent};
-ghost use Rattle.mmtel_desk.specs.Sending.{answered_at, asked_with};
+ghost use Rattle.mmtel_output.specs.Outputs.{token};
+ghost use Rattle.mmtel_output.specs.SentInvites.{sent_invite};
+ghost use Rattle.mmtel_output.specs.Sending.{with_contact_response, with_own_request};
 ghost use Rattle.mmtel_leg.specs.Releases.{released_leg};
-ghost use Rattle.mmtel_scan.specs.Numbers.{next_number};
-ghost use Rattle.mmtel_sdp.specs.Mixing.{offer_text};
+ghost use Rattle.mmtel_base.specs.Numbers.{next_number};
+ghost use Rattle.mmtel_sdp.specs.Mixer.{offer_text};
 ghost use Rattle.mmtel_sdp.specs.Offers.{offers_audio};
-ghost use Rattle.mmtel_focus.specs.Joining.{adopted, agreed, come, having_invited, having_invited_by, is_same_side, new_room, new_seat, next_in, party_of};
-ghost use Rattle.mmtel_focus.specs.Rooms.{in_step, Waiting};
-ghost use Rattle.mmtel_focus.specs.Seats.{meter_of};
-ghost use Rattle.mmtel_focus.specs.Texts.{answer_in, contact_value, described, sdp_lines};
+ghost use Rattle.mmtel_focus.specs.Joining.{after_adoption, after_join, is_same_side, leg_after_invite, new_conference, new_participant, next_in, party_of, released_after_reinvite, with_accepted_invite};
+ghost use Rattle.mmtel_focus.specs.Conferences.{in_step, Outstanding};
+ghost use Rattle.mmtel_focus.specs.Participants.{meter_of};
+ghost use Rattle.mmtel_focus.specs.Texts.{answer_in, contact_and_sdp_lines, contact_value, sdp_lines};
 
-use crate::rooms::Room;
+use crate::conferences::Conference;
 use crate::texts::answer_in;
-use mmtel_answers::{Hearing, OwnResponse};
+use mmtel_base::NoMemory;
 use mmtel_charging::Meter;
-use mmtel_desk::{Desk, Invitation};
+use mmtel_compose::{OwnResponse, ReceivedMessage};
 use mmtel_leg::{LegOf, Released, Standing};
-use mmtel_scan::NoMemory;
-use mmtel_sdp::mixer_offer;
-use mmtel_seats::{
-    Awaited, Effects, Invite, Next, Party, Seat, Step, contact_value, described, meter_of, metered,
-    sdp_lines,
+use mmtel_output::{SentInvite, StepOutput};
+use mmtel_participants::{
+    Effects, Invite, NextNumbers, ParticipantState, Party, PendingAck, StepContext,
+    contact_and_sdp_lines, contact_value, leg_with_meter, meter_of, sdp_lines,
 };
+use mmtel_sdp::mixer_offer;
 use mmtel_sip_rules::ACK_TIME;
 use mmtel_transaction::{Emit, RoomWord, TKey};
 use mmtel_types::{Account, Moment, RoomNo};
@@ -52,55 +52,55 @@ fn party_of(leg: Released, meter: Option<Meter>, now: Moment) -> Party
     ensures { result ≡ party_of meter leg }
 {
     match leg {
-        Released::Caller(leg) => Party::Came(metered(leg, meter, now)),
-        Released::Callee(leg) => Party::Brought(metered(leg, meter, now)),
+        Released::Caller(leg) => Party::DialedIn(leg_with_meter(leg, meter, now)),
+        Released::Callee(leg) => Party::DialedOut(leg_with_meter(leg, meter, now)),
     }
 }
 
 /// Responds to an INVITE to a conference with the mixer's answer.
-fn answer(
-    step: &Step<'_>,
+fn send_ok(
+    step: &StepContext<'_>,
     room: RoomNo,
     key: TKey,
-    invite: &Hearing,
+    invite: &ReceivedMessage,
     tag: &[u8],
-    desk: &mut Desk,
+    output: &mut StepOutput,
 ) -> Result<(), NoMemory>
-    requires { offers_audio invite.now.heard.body ≡ true }
-    ensures { OnOk result (desk.new
-        ≡ answered_at (contact_value step.now.setting.sip room) key invite.now tag.now 200 [] sdp_lines
-        (answer_in step.now.setting.mixer invite.now.heard.body) desk.old) }
+    requires { offers_audio invite.now.parsed.body ≡ true }
+    ensures { OnOk result (output.new
+        ≡ with_contact_response (contact_value step.now.config.sip room) key invite.now tag.now 200 [] sdp_lines
+        (answer_in step.now.config.mixer invite.now.parsed.body) output.old) }
 {
-    let contact = contact_value(step.alloc, step.setting.sip, room)?;
+    let contact = contact_value(step.alloc, step.config.sip, room)?;
     let named = sdp_lines(step.alloc)?;
-    let body = answer_in(step.alloc, step.setting.mixer, invite.message.body())?;
+    let body = answer_in(step.alloc, step.config.mixer, invite.message.body())?;
     let own = OwnResponse {
         code: 200,
         passed: &[],
         named: named.items(),
         body: body.bytes(),
     };
-    desk.answer_at(step.alloc, contact.bytes(), key, invite, tag, own)
+    output.respond_with_contact(step.alloc, contact.bytes(), key, invite, tag, own)
 }
 
 /// Responds to an INVITE to a conference with the mixer's answer, and arms the timer of its ACK.
-pub fn agree(
-    step: &Step<'_>,
-    numbers: Next,
+pub fn accept_invite(
+    step: &StepContext<'_>,
+    numbers: NextNumbers,
     key: TKey,
-    invite: &Hearing,
+    invite: &ReceivedMessage,
     tag: &[u8],
-    desk: &mut Desk,
+    output: &mut StepOutput,
 ) -> Result<(), NoMemory>
-    requires { offers_audio invite.now.heard.body ≡ true }
-    ensures { OnOk result (desk.new
-        ≡ agreed step.now.setting step.now.at numbers.room numbers.seat numbers.number key invite.now tag.now desk.old) }
+    requires { offers_audio invite.now.parsed.body ≡ true }
+    ensures { OnOk result (output.new
+        ≡ with_accepted_invite step.now.config step.now.at numbers.room numbers.seat numbers.number key invite.now tag.now output.old) }
 {
-    let Next { room, seat, number } = numbers;
-    answer(step, room, key, invite, tag, desk)?;
+    let NextNumbers { room, seat, number } = numbers;
+    send_ok(step, room, key, invite, tag, output)?;
     let at = step.at.ms() + ACK_TIME;
     let what = RoomWord::NoAck(number);
-    desk.emit(
+    output.emit(
         step.alloc,
         Emit::ArmSeat {
             room,
@@ -112,146 +112,151 @@ pub fn agree(
 }
 
 /// The participant that joins a conference.
-fn new_seat(room: &Room, leg: Released, account: Option<Account>, now: Moment) -> Seat
-    ensures { result ≡ new_seat now room.now leg account }
+fn new_participant(
+    conference: &Conference,
+    leg: Released,
+    account: Option<Account>,
+    now: Moment,
+) -> ParticipantState
+    ensures { result ≡ new_participant now conference.now leg account }
 {
-    let Next {
+    let NextNumbers {
         room: _,
         seat,
         number,
-    } = room.next();
-    let cseq = leg.dialogue().last;
-    let meter = meter_of(room.number, now, account);
-    Seat {
+    } = conference.next();
+    let cseq = leg.dialogue().remote_cseq;
+    let meter = meter_of(conference.number, now, account);
+    ParticipantState {
         number: seat,
         by: None,
         account,
-        awaited: Some(Awaited { number, cseq }),
+        pending_ack: Some(PendingAck { number, cseq }),
         invite: None,
         party: party_of(leg, meter, now),
     }
 }
 
 /// The participant of a leg that is invited by the REFER of another one.
-fn adopted_seat(
-    room: &Room,
+fn adopted_participant(
+    conference: &Conference,
     leg: Released,
     account: Option<Account>,
     by: u64,
-    invitation: Invitation,
+    invitation: SentInvite,
     now: Moment,
-) -> Seat
+) -> ParticipantState
     ensures { result ≡ record {
-      number = next_number room.now.taken;
+      number = next_number conference.now.last_seat;
       by = Some by;
       account = account;
-      awaited = None;
-      invite = Some (Waiting (next_number room.now.counted) invitation);
-      party = party_of (meter_of room.now.number now account) leg;
+      pending_ack = None;
+      invite = Some (Outstanding (next_number conference.now.last_number) invitation);
+      party = party_of (meter_of conference.now.number now account) leg;
     } }
 {
-    let Next {
+    let NextNumbers {
         room: _,
         seat,
         number,
-    } = room.next();
-    let meter = meter_of(room.number, now, account);
-    Seat {
+    } = conference.next();
+    let meter = meter_of(conference.number, now, account);
+    ParticipantState {
         number: seat,
         by: Some(by),
         account,
-        awaited: None,
-        invite: Some(Invite::Waiting(number, invitation)),
+        pending_ack: None,
+        invite: Some(Invite::Outstanding(number, invitation)),
         party: party_of(leg, meter, now),
     }
 }
 
 /// Sends a re-INVITE with the mixer's offer on a leg that enters a conference.
-fn ask<P>(
-    step: &Step<'_>,
+fn reinvite<P>(
+    step: &StepContext<'_>,
     room: RoomNo,
     leg: &mut LegOf<P, Standing>,
-    desk: &mut Desk,
-) -> Result<Invitation, NoMemory>
-    ensures desk { OnOk result (desk.new
-        ≡ asked_with step.now.setting.sip (codes "INVITE") leg.old.dialogue (described step.now.setting.sip room) (offer_text step.now.setting.mixer) desk.old) }
-    ensures counted { OnOk result (leg.new ≡ having_invited leg.old) }
+    output: &mut StepOutput,
+) -> Result<SentInvite, NoMemory>
+    ensures output { OnOk result (output.new
+        ≡ with_own_request step.now.config.sip (codes "INVITE") leg.old.dialogue (contact_and_sdp_lines step.now.config.sip room) (offer_text step.now.config.mixer) output.old) }
+    ensures counted { OnOk result (leg.new ≡ leg_after_invite leg.old) }
     ensures meter { leg.new.meter ≡ leg.old.meter }
     ensures sent { IfOk result (λ i. i
-        ≡ sent (having_invited leg.old).dialogue (next_number leg.old.dialogue.own) (token desk.old)) }
+        ≡ sent_invite (leg_after_invite leg.old).dialogue (next_number leg.old.dialogue.local_cseq) (token output.old)) }
 {
-    let named = described(step.alloc, step.setting.sip, room)?;
-    let body = mixer_offer(step.alloc, step.setting.mixer)?;
-    let branch = desk.ask_with(
+    let named = contact_and_sdp_lines(step.alloc, step.config.sip, room)?;
+    let body = mixer_offer(step.alloc, step.config.mixer)?;
+    let branch = output.send_own_request(
         step.alloc,
-        step.setting.sip,
+        step.config.sip,
         b"INVITE",
         leg,
         &named,
         body.bytes(),
     )?;
     let dialogue = leg.dialogue().copied(step.alloc)?;
-    let number = dialogue.own;
-    Ok(Invitation::sent(dialogue, number, branch))
+    let number = dialogue.local_cseq;
+    Ok(SentInvite::new(dialogue, number, branch))
 }
 
 /// The same of a leg that was taken out of a call, which is handed back in any case.
-fn ask_in(
-    step: &Step<'_>,
+fn reinvite_released(
+    step: &StepContext<'_>,
     room: RoomNo,
     leg: Released,
-    desk: &mut Desk,
-) -> (Released, Result<Invitation, NoMemory>)
+    output: &mut StepOutput,
+) -> (Released, Result<SentInvite, NoMemory>)
     requires { (released_leg leg).meter ≡ None }
-    ensures desk { OnOk result.1 (desk.new
-        ≡ asked_with step.now.setting.sip (codes "INVITE") (released_leg leg).dialogue
-        (described step.now.setting.sip room) (offer_text step.now.setting.mixer) desk.old) }
-    ensures counted { OnOk result.1 (result.0 ≡ having_invited_by leg) }
+    ensures output { OnOk result.1 (output.new
+        ≡ with_own_request step.now.config.sip (codes "INVITE") (released_leg leg).dialogue
+        (contact_and_sdp_lines step.now.config.sip room) (offer_text step.now.config.mixer) output.old) }
+    ensures counted { OnOk result.1 (result.0 ≡ released_after_reinvite leg) }
     ensures meter { (released_leg result.0).meter ≡ None }
     ensures side { is_same_side result.0 leg ≡ true }
     ensures sent { IfOk result.1 (λ i. i
-        ≡ sent (having_invited (released_leg leg)).dialogue (next_number (released_leg leg).dialogue.own) (token desk.old)) }
+        ≡ sent_invite (leg_after_invite (released_leg leg)).dialogue (next_number (released_leg leg).dialogue.local_cseq) (token output.old)) }
 {
     match leg {
         Released::Caller(leg) => {
             let mut leg = leg;
-            let sent = ask(step, room, &mut leg, desk);
+            let sent = reinvite(step, room, &mut leg, output);
             (Released::Caller(leg), sent)
         }
         Released::Callee(leg) => {
             let mut leg = leg;
-            let sent = ask(step, room, &mut leg, desk);
+            let sent = reinvite(step, room, &mut leg, output);
             (Released::Callee(leg), sent)
         }
     }
 }
 
-impl Room {
+impl Conference {
     /// A conference without participants.
-    pub fn new(alloc: Global, number: RoomNo) -> Room
-        ensures { result ≡ new_room number }
+    pub fn new(alloc: Global, number: RoomNo) -> Conference
+        ensures { result ≡ new_conference number }
     {
-        Room {
+        Conference {
             number,
-            taken: 0,
-            counted: 0,
-            seats: Vec::new(alloc),
+            last_seat: 0,
+            last_number: 0,
+            participants: Vec::new(alloc),
         }
     }
 
     /// The numbers of the next participant.
-    pub fn next(&self) -> Next
+    pub fn next(&self) -> NextNumbers
         ensures { result ≡ next_in self.now }
     {
-        Next::after(self.number, self.taken, self.counted)
+        NextNumbers::after(self.number, self.last_seat, self.last_number)
     }
 
     /// Counts a participant that came with these numbers, and with it an invitation or a 2xx.
-    pub fn count(&mut self, next: Next)
-        ensures { self.new ≡ record self.old { taken = next.seat; counted = next.number } }
+    pub fn count(&mut self, next: NextNumbers)
+        ensures { self.new ≡ record self.old { last_seat = next.seat; last_number = next.number } }
     {
-        self.taken = next.seat;
-        self.counted = next.number;
+        self.last_seat = next.seat;
+        self.last_number = next.number;
     }
 
     /// A leg joins the conference by an INVITE that offers audio: it gets the mixer's answer, and is a participant.
@@ -259,37 +264,37 @@ impl Room {
     /// # Errors
     ///
     /// Out of memory only; the leg is handed back, and the conference has not changed.
-    #[tactic(auto, unfolding(crate::specs::Joining::come))]
-    pub fn come(
+    #[tactic(auto, unfolding(crate::specs::Joining::after_join))]
+    pub fn join(
         &mut self,
-        step: &Step<'_>,
+        step: &StepContext<'_>,
         entrant: Entrant,
         key: TKey,
-        invite: &Hearing,
+        invite: &ReceivedMessage,
         effects: &mut Effects,
     ) -> Result<(), Released>
         requires unmetered { (released_leg entrant.leg).meter ≡ None }
-        requires audio { offers_audio invite.now.heard.body ≡ true }
+        requires audio { offers_audio invite.now.parsed.body ≡ true }
         ensures room { OnOk result (self.new
-            ≡ (come step.now.setting step.now.at entrant.leg entrant.account key invite.now (in_step self.old effects.old)).room) }
+            ≡ (after_join step.now.config step.now.at entrant.leg entrant.account key invite.now (in_step self.old effects.old)).conference) }
         ensures effects { OnOk result (effects.new
-            ≡ (come step.now.setting step.now.at entrant.leg entrant.account key invite.now (in_step self.old effects.old)).effects) }
-        ensures loose { OnOk result (effects.new.loose ≡ effects.old.loose) }
-        ensures rows { OnOk result (effects.new.desk.rows ≡ effects.old.desk.rows) }
+            ≡ (after_join step.now.config step.now.at entrant.leg entrant.account key invite.now (in_step self.old effects.old)).effects) }
+        ensures abandoned { OnOk result (effects.new.abandoned ≡ effects.old.abandoned) }
+        ensures rows { OnOk result (effects.new.output.rows ≡ effects.old.output.rows) }
         ensures refused { OnErr result (self.new ≡ self.old) }
         ensures handed_back { IfErr result (λ l. l ≡ entrant.leg) }
     {
         let Entrant { leg, account } = entrant;
-        if self.seats.reserve(1).is_err() {
+        if self.participants.reserve(1).is_err() {
             return Err(leg);
         }
         let next = self.next();
         let tag = leg.dialogue().local_tag.bytes();
-        if agree(step, next, key, invite, tag, &mut effects.desk).is_err() {
+        if accept_invite(step, next, key, invite, tag, &mut effects.output).is_err() {
             return Err(leg);
         }
-        let seat = new_seat(self, leg, account, step.at);
-        self.seats.push_reserved(seat);
+        let seat = new_participant(self, leg, account, step.at);
+        self.participants.push_reserved(seat);
         self.count(next);
         Ok(())
     }
@@ -299,35 +304,35 @@ impl Room {
     /// # Errors
     ///
     /// Out of memory only; a leg of the same side without a meter is handed back, and the conference has not changed.
-    #[tactic(auto, unfolding(crate::specs::Joining::adopted))]
+    #[tactic(auto, unfolding(crate::specs::Joining::after_adoption))]
     pub fn adopt(
         &mut self,
-        step: &Step<'_>,
+        step: &StepContext<'_>,
         entrant: Entrant,
         by: u64,
         effects: &mut Effects,
     ) -> Result<(), Released>
         requires { (released_leg entrant.leg).meter ≡ None }
         ensures room { OnOk result (self.new
-            ≡ (adopted step.now.setting step.now.at entrant.leg entrant.account by (in_step self.old effects.old)).room) }
+            ≡ (after_adoption step.now.config step.now.at entrant.leg entrant.account by (in_step self.old effects.old)).conference) }
         ensures effects { OnOk result (effects.new
-            ≡ (adopted step.now.setting step.now.at entrant.leg entrant.account by (in_step self.old effects.old)).effects) }
-        ensures loose { OnOk result (effects.new.loose ≡ effects.old.loose) }
-        ensures rows { OnOk result (effects.new.desk.rows ≡ effects.old.desk.rows) }
+            ≡ (after_adoption step.now.config step.now.at entrant.leg entrant.account by (in_step self.old effects.old)).effects) }
+        ensures abandoned { OnOk result (effects.new.abandoned ≡ effects.old.abandoned) }
+        ensures rows { OnOk result (effects.new.output.rows ≡ effects.old.output.rows) }
         ensures refused { OnErr result (self.new ≡ self.old) }
         ensures meter { IfErr result (λ l. (released_leg l).meter ≡ None) }
         ensures side { IfErr result (λ l. is_same_side l entrant.leg ≡ true) }
     {
         let Entrant { leg, account } = entrant;
-        if self.seats.reserve(1).is_err() {
+        if self.participants.reserve(1).is_err() {
             return Err(leg);
         }
-        match ask_in(step, self.number, leg, &mut effects.desk) {
+        match reinvite_released(step, self.number, leg, &mut effects.output) {
             (leg, Err(_)) => Err(leg),
             (leg, Ok(invitation)) => {
                 let next = self.next();
-                let seat = adopted_seat(self, leg, account, by, invitation, step.at);
-                self.seats.push_reserved(seat);
+                let seat = adopted_participant(self, leg, account, by, invitation, step.at);
+                self.participants.push_reserved(seat);
                 self.count(next);
                 Ok(())
             }

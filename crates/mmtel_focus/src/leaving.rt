@@ -1,23 +1,27 @@
 //! How a conference closes.
 ghost use Rattle.std.specs.Prelude.{◌≡◌, OnOk};
-ghost use Rattle.mmtel_focus.specs.Rooms.{in_step};
-ghost use Rattle.mmtel_focus.specs.Seats.{closed, closed_with};
+ghost use Rattle.mmtel_focus.specs.Conferences.{in_step};
+ghost use Rattle.mmtel_focus.specs.Participants.{after_close, after_close_with};
 
-use crate::rooms::Room;
-use mmtel_scan::NoMemory;
-use mmtel_seats::{CREATOR, Effects, Step};
+use crate::conferences::Conference;
+use mmtel_base::NoMemory;
+use mmtel_participants::{CREATOR, Effects, StepContext};
 
-impl Room {
+impl Conference {
     /// All remaining participants are sent BYE and leave, the first one first, and the conference closes.
-    #[tactic(auto, unfolding(crate::specs::Seats::closed))]
-    fn close_room(&mut self, step: &Step<'_>, effects: &mut Effects) -> Result<(), NoMemory>
+    #[tactic(auto, unfolding(crate::specs::Participants::after_close))]
+    fn close_conference(
+        &mut self,
+        step: &StepContext<'_>,
+        effects: &mut Effects,
+    ) -> Result<(), NoMemory>
         ensures room { OnOk result (self.new
-            ≡ (closed step.now.setting step.now.at self.old.seats (in_step self.old effects.old)).room) }
+            ≡ (after_close step.now.config step.now.at self.old.participants (in_step self.old effects.old)).conference) }
         ensures effects { OnOk result (effects.new
-            ≡ (closed step.now.setting step.now.at self.old.seats (in_step self.old effects.old)).effects) }
+            ≡ (after_close step.now.config step.now.at self.old.participants (in_step self.old effects.old)).effects) }
     {
-        'seats: while !self.seats.is_empty() {
-            let seat = self.seats.remove(0);
+        'seats: while !self.participants.is_empty() {
+            let seat = self.participants.remove(0);
             seat.dismiss(step, effects)?;
         }
         effects.closes = true;
@@ -27,17 +31,17 @@ impl Room {
     /// The conference closes where its creator left.
     pub fn close_with(
         &mut self,
-        step: &Step<'_>,
+        step: &StepContext<'_>,
         number: u64,
         effects: &mut Effects,
     ) -> Result<(), NoMemory>
         ensures room { OnOk result (self.new
-            ≡ (closed_with step.now.setting step.now.at number (in_step self.old effects.old)).room) }
+            ≡ (after_close_with step.now.config step.now.at number (in_step self.old effects.old)).conference) }
         ensures effects { OnOk result (effects.new
-            ≡ (closed_with step.now.setting step.now.at number (in_step self.old effects.old)).effects) }
+            ≡ (after_close_with step.now.config step.now.at number (in_step self.old effects.old)).effects) }
     {
         if number == CREATOR {
-            return self.close_room(step, effects);
+            return self.close_conference(step, effects);
         }
         Ok(())
     }

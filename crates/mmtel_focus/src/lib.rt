@@ -2,29 +2,29 @@
 //! moved out of a call (RFC 3891).
 #![tactic(auto)]
 
-mod answers;
+mod conferences;
+mod departing;
+mod dispatch;
 mod entering;
 mod faults;
-mod finding;
+mod index_marks;
 mod inviting;
 mod joining;
 mod leaving;
 mod live;
-mod marks;
-mod moves;
-mod parting;
+mod notifying;
+mod queries;
 mod referrals;
 mod requests;
-mod rooms;
+mod responses;
 mod signals;
 mod tables;
-mod telling;
 mod texts;
 
+pub use conferences::Conference;
 pub use faults::RoomFault;
-pub use mmtel_seats::{Awaited, Effects, Invite, Party, Seat};
+pub use mmtel_participants::{Effects, Invite, ParticipantState, Party, PendingAck};
 pub use referrals::{Referral, Replaces, referral_of};
-pub use rooms::Room;
 pub use signals::{Joining, RoomSignal};
 pub use tables::Rooms;
-pub use texts::room_named;
+pub use texts::conference_named;

@@ -1,14 +1,14 @@
 //! What a REFER asks for.
 ghost use Rattle.std.specs.Prelude.{◌≡◌, IfOk, None, Some, find};
 ghost use Rattle.std.specs.Option.{option_copied, option_map};
-ghost use Rattle.mmtel_lex.specs.UriPlaces.{behind, is_named, parts};
+ghost use Rattle.mmtel_lex.specs.UriParts.{is_named, parts, text_after};
 ghost use Rattle.mmtel_focus.specs.Referrals.{asks_invite, is_invite, is_method, referral_in, referral_to, replaces_at, replaces_by, replaces_in, replaces_of, value_named};
 
-use mmtel_answers::Hearing;
-use mmtel_lex::{Param, Uri, cut, find_named, first_part, percent_decoded};
+use mmtel_base::{NoMemory, Text};
+use mmtel_compose::ReceivedMessage;
+use mmtel_lex::{Param, Uri, find_named, first_part, percent_decoded_text, split_around};
 use mmtel_message::line_texts;
-use mmtel_scan::{NoMemory, Text};
-use mmtel_seats::is_method;
+use mmtel_participants::is_method;
 use mmtel_trust::uri_in;
 use std::alloc::Global;
 
@@ -43,7 +43,7 @@ fn value_named(alloc: Global, byte: u8, name: &[u8], bytes: &[u8]) -> Result<Opt
     match find_named(byte, name, bytes) {
         None => Ok(None),
         Some(word) => {
-            let (_, value) = cut(b'=', word);
+            let (_, value) = split_around(b'=', word);
             Ok(Some(Text::of(alloc, value)?))
         }
     }
@@ -76,7 +76,7 @@ fn replaces_in(alloc: Global, value: &[u8]) -> Result<Replaces, NoMemory>
 fn replaces_at(alloc: Global, value: &[u8]) -> Result<Replaces, NoMemory>
     ensures { IfOk result (λ r. r ≡ replaces_at value.now) }
 {
-    match percent_decoded(alloc, value)? {
+    match percent_decoded_text(alloc, value)? {
         None => replaces_in(alloc, b""),
         Some(value) => replaces_in(alloc, value.bytes()),
     }
@@ -162,8 +162,8 @@ fn referral_to(alloc: Global, uri: Option<Uri>) -> Result<Referral, NoMemory>
 ///
 /// Out of memory only.
 #[tactic(auto, unfolding(crate::specs::Referrals::referral_in))]
-pub fn referral_of(alloc: Global, request: &Hearing) -> Result<Referral, NoMemory>
-    ensures referral { IfOk result (λ r. r ≡ referral_in request.now.heard.refer_to) }
+pub fn referral_of(alloc: Global, request: &ReceivedMessage) -> Result<Referral, NoMemory>
+    ensures referral { IfOk result (λ r. r ≡ referral_in request.now.parsed.refer_to) }
 {
     let values = line_texts(alloc, &request.message.lines(), b"Refer-To")?;
     match values.items() {

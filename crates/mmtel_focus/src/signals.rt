@@ -1,7 +1,7 @@
 //! What conferences and their participants receive.
 
-use mmtel_answers::Hearing;
-use mmtel_scan::Text;
+use mmtel_base::Text;
+use mmtel_compose::ReceivedMessage;
 use mmtel_transaction::{RoomWord, TKey};
 use mmtel_types::RoomNo;
 
@@ -13,18 +13,18 @@ pub enum RoomSignal {
         room: RoomNo,
         seat: u64,
         key: TKey,
-        request: Hearing,
+        request: ReceivedMessage,
     },
     /// An ACK of a participant, to a 2xx.
     Ack {
         room: RoomNo,
         seat: u64,
-        ack: Hearing,
+        ack: ReceivedMessage,
     },
     /// A response that this client transaction received; it is matched by the branch and the CSeq method of the request that it answers.
     Answer {
         key: TKey,
-        response: Hearing,
+        response: ReceivedMessage,
     },
     /// A request got no response at all and its client transaction timed out: its branch, with the magic cookie, and its method.
     Silent {
@@ -45,24 +45,39 @@ pub enum RoomSignal {
 
 /// What a participant receives; its messages are borrowed from the signal that the conferences receive.
 #[derive(Clone, Copy)]
-pub enum LentSignal<'a> {
+pub enum BorrowedSignal<'a> {
     /// A request of it, which opened this server transaction.
-    Request { key: TKey, request: &'a Hearing },
+    Request {
+        key: TKey,
+        request: &'a ReceivedMessage,
+    },
     /// An ACK of it.
-    Ack { ack: &'a Hearing },
+    Ack {
+        ack: &'a ReceivedMessage,
+    },
     /// A response to the server's INVITE to it, with the client transaction.
-    Answer { key: TKey, response: &'a Hearing },
+    Answer {
+        key: TKey,
+        response: &'a ReceivedMessage,
+    },
     /// The server's INVITE to it got no response at all and timed out.
     Silent,
     /// A timer of it fired.
-    Due { what: RoomWord },
+    Due {
+        what: RoomWord,
+    },
 }
 
 /// How a leg enters a conference.
 #[derive(Drop)]
 pub enum Joining<'a> {
     /// By this INVITE, which offers audio and opened this server transaction.
-    Invited { key: TKey, invite: &'a Hearing },
+    Invited {
+        key: TKey,
+        invite: &'a ReceivedMessage,
+    },
     /// Out of a call, by the REFER of the participant of this number.
-    Referred { by: u64 },
+    Referred {
+        by: u64,
+    },
 }

@@ -1,25 +1,25 @@
 //! The table of conferences.
 ghost use Rattle.std.specs.Prelude.{◌≡◌, ◌≤◌, ◌++◌, ◌∷◌, false, List, IfOk, OnOk, length};
-ghost use Rattle.mmtel_answers.specs.Answers.{no_further_methods};
+ghost use Rattle.mmtel_compose.specs.Responses.{no_further_methods};
 ghost use Rattle.mmtel_trust.specs.Peers.{Peers};
 ghost use Rattle.mmtel_trust.specs.declared.accounts.AccountIdentity.{AccountIdentity};
-ghost use Rattle.mmtel_focus.specs.Histories.{Deed, Drops, Stands, no_tokens, site_of, table_after};
-ghost use Rattle.mmtel_focus.specs.Names.{found, seats_taken};
-ghost use Rattle.mmtel_focus.specs.Table.{no_rooms};
+ghost use Rattle.mmtel_focus.specs.Operations.{Drops, Represents, TableOp, config_of, no_tokens, table_after};
+ghost use Rattle.mmtel_focus.specs.Queries.{participant_count, room_and_seat_with_dialog};
+ghost use Rattle.mmtel_focus.specs.Table.{empty_table};
 
-mod coming;
-mod hearing;
-mod parting;
+mod arriving;
+mod departing;
+mod receiving;
 
-use crate::finding;
-use crate::live::LiveRooms;
-use mmtel_answers::FurtherMethods;
+use crate::live::LiveConferences;
+use crate::queries;
+use mmtel_base::{List, NoMemory, Text};
 use mmtel_charging::{Row, drop_first};
-use mmtel_desk::Loose;
+use mmtel_compose::FurtherMethods;
 use mmtel_leg::DialogName;
-use mmtel_scan::{List, NoMemory, Text};
+use mmtel_output::AbandonedInvite;
+use mmtel_participants::{ConferenceConfig, Effects, StepContext};
 use mmtel_sdp::Mixer;
-use mmtel_seats::{Effects, Setting, Step};
 use mmtel_transaction::{Emits, Tokens};
 use mmtel_trust::{Accounts, PeerTable};
 use mmtel_types::{Addr, Moment, RoomNo};
@@ -32,14 +32,14 @@ pub struct Rooms {
     sip: Addr,
     mixer: Mixer,
     methods: FurtherMethods,
-    live: LiveRooms,
-    loose: List<Loose>,
+    live: LiveConferences,
+    abandoned: List<AbandonedInvite>,
     rows: List<Row>,
     has_failed: bool,
 }
 
 impl Model for Rooms {
-    ghost use Rattle.mmtel_focus.specs.Histories.{RoomsView};
+    ghost use Rattle.mmtel_focus.specs.Operations.{RoomsView};
 
     ghost Value = { RoomsView };
 
@@ -47,7 +47,7 @@ impl Model for Rooms {
       sip = r.sip;
       mixer = r.mixer;
       methods = r.methods;
-      table = record { live = r.live.items; opened = r.live.opened; loose = r.loose; rows = r.rows };
+      table = record { live = r.live.items; opened = r.live.opened; abandoned = r.abandoned; rows = r.rows };
       has_failed = r.has_failed;
     } };
 }
@@ -67,7 +67,7 @@ impl Rooms {
     /// Out of memory only.
     pub fn new(alloc: Global, mixer: Mixer, sip: Addr) -> Result<Rooms, NoMemory>
         ensures rooms { IfOk result (λ rooms. rooms
-            ≡ record { sip = sip; mixer = mixer; methods = no_further_methods; table = no_rooms; has_failed = false }) }
+            ≡ record { sip = sip; mixer = mixer; methods = no_further_methods; table = empty_table; has_failed = false }) }
     {
         Ok(Rooms {
             sip,
@@ -76,8 +76,8 @@ impl Rooms {
                 reliable: false,
                 mwi: false,
             },
-            live: LiveRooms::new(alloc),
-            loose: List::new(),
+            live: LiveConferences::new(alloc),
+            abandoned: List::new(),
             rows: List::new(),
             has_failed: false,
         })
@@ -99,26 +99,35 @@ impl Rooms {
         peers: &'a PeerTable,
         accounts: &'a Accounts,
         at: Moment,
-    ) -> Step<'a>
-        ensures setting { result.setting ≡ site_of self.now peers.now accounts.now }
+    ) -> StepContext<'a>
+        ensures setting { result.config ≡ config_of self.now peers.now accounts.now }
         ensures at { result.at ≡ at }
     {
-        let setting = Setting {
+        let setting = ConferenceConfig {
             sip: self.sip,
             mixer: self.mixer,
             methods: self.methods,
             peers,
             accounts,
         };
-        Step { alloc, setting, at }
+        StepContext {
+            alloc,
+            config: setting,
+            at,
+        }
     }
 
     /// Keeps the INVITEs that a step abandoned, and the CDRs that it closed until they are handed over.
-    fn keep(&mut self, alloc: Global, loose: List<Loose>, rows: List<Row>) -> Result<(), NoMemory>
+    fn keep(
+        &mut self,
+        alloc: Global,
+        abandoned: List<AbandonedInvite>,
+        rows: List<Row>,
+    ) -> Result<(), NoMemory>
         ensures { OnOk result (self.new
-            ≡ record self.old { table = record self.old.table { loose = self.old.table.loose ++ loose; rows = self.old.table.rows ++ rows } }) }
+            ≡ record self.old { table = record self.old.table { abandoned = self.old.table.abandoned ++ abandoned; rows = self.old.table.rows ++ rows } }) }
     {
-        if let Err((_, error)) = self.loose.extend(alloc, loose) {
+        if let Err((_, error)) = self.abandoned.extend(alloc, abandoned) {
             return Err(error);
         }
         match self.rows.extend(alloc, rows) {
@@ -131,13 +140,13 @@ impl Rooms {
     fn settle(&mut self, alloc: Global, effects: Effects) -> Result<Emits, NoMemory>
         ensures kept { OnOk result (self.new ≡ record self.old {
           table =
-              record self.old.table { loose = self.old.table.loose ++ effects.loose; rows = self.old.table.rows ++ effects.desk.rows };
+              record self.old.table { abandoned = self.old.table.abandoned ++ effects.abandoned; rows = self.old.table.rows ++ effects.output.rows };
         }) }
-        ensures emits { IfOk result (λ out. out ≡ effects.desk.out) }
+        ensures emits { IfOk result (λ out. out ≡ effects.output.out) }
     {
         let mut effects = effects;
-        let loose = mem::replace(&mut effects.loose, List::new());
-        let rows = mem::replace(&mut effects.desk.rows, List::new());
+        let loose = mem::replace(&mut effects.abandoned, List::new());
+        let rows = mem::replace(&mut effects.output.rows, List::new());
         let out = effects.into_emits();
         self.keep(alloc, loose, rows)?;
         Ok(out)
@@ -146,32 +155,32 @@ impl Rooms {
     /// The conference and the participant whose dialog has this Call-ID, this tag of the server and this tag of the other side (RFC 3261 §12.2.2); None exactly where no
     /// participant of a live conference has it.
     pub fn find(&self, call_id: &[u8], local: &[u8], remote: &[u8]) -> Option<(RoomNo, u64)>
-        ensures { (peers : Peers) (accounts : List AccountIdentity) (deeds : List Deed) →
-            Stands peers accounts self.now deeds →
-            result ≡ found call_id.now local.now remote.now (table_after (site_of self.now peers accounts) deeds).live }
+        ensures { (peers : Peers) (accounts : List AccountIdentity) (deeds : List TableOp) →
+            Represents peers accounts self.now deeds →
+            result ≡ room_and_seat_with_dialog call_id.now local.now remote.now (table_after (config_of self.now peers accounts) deeds).live }
     {
         let name = DialogName {
             call_id,
             local,
             remote,
         };
-        finding::find(&self.live, name)
+        queries::find(&self.live, name)
     }
 
     /// How many participants a conference has, pending invitations among them; 0 where it is not live.
     pub fn seats(&self, room: RoomNo) -> u32
-        ensures { (peers : Peers) (accounts : List AccountIdentity) (deeds : List Deed) →
-            Stands peers accounts self.now deeds →
-            result ≡ seats_taken room.0 (table_after (site_of self.now peers accounts) deeds).live }
+        ensures { (peers : Peers) (accounts : List AccountIdentity) (deeds : List TableOp) →
+            Represents peers accounts self.now deeds →
+            result ≡ participant_count room.0 (table_after (config_of self.now peers accounts) deeds).live }
     {
-        finding::seats_taken(&self.live, room)
+        queries::participant_count(&self.live, room)
     }
 
     /// The CDRs of participants that left by a signal, as far as they were not handed over, in the order in which they were closed.
     pub fn rows_waiting(&self) -> &[Row]
-        ensures rows { (peers : Peers) (accounts : List AccountIdentity) (deeds : List Deed) →
-            Stands peers accounts self.now deeds →
-            result.now ≡ (table_after (site_of self.now peers accounts) deeds).rows }
+        ensures rows { (peers : Peers) (accounts : List AccountIdentity) (deeds : List TableOp) →
+            Represents peers accounts self.now deeds →
+            result.now ≡ (table_after (config_of self.now peers accounts) deeds).rows }
         ensures kept { result.now ≡ self.now.table.rows }
     {
         self.rows.items()
@@ -180,11 +189,11 @@ impl Rooms {
     /// Removes the first CDRs, so many as were handed over.
     pub fn drop_rows(&mut self, count: usize)
         requires { count ≤ length self.old.table.rows }
-        ensures site { (peers : Peers) (accounts : List AccountIdentity) →
-            site_of self.new peers accounts ≡ site_of self.old peers accounts }
-        ensures done { (peers : Peers) (accounts : List AccountIdentity) (deeds : List Deed) →
-            Stands peers accounts self.old deeds →
-            Stands peers accounts self.new (Drops count ∷ deeds) }
+        ensures config { (peers : Peers) (accounts : List AccountIdentity) →
+            config_of self.new peers accounts ≡ config_of self.old peers accounts }
+        ensures done { (peers : Peers) (accounts : List AccountIdentity) (deeds : List TableOp) →
+            Represents peers accounts self.old deeds →
+            Represents peers accounts self.new (Drops count ∷ deeds) }
     {
         drop_first(&mut self.rows, count);
     }
@@ -196,7 +205,7 @@ impl Rooms {
             mixer: _,
             methods: _,
             live,
-            loose,
+            abandoned: loose,
             rows,
             has_failed: _,
         } = self;

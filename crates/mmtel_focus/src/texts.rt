@@ -1,11 +1,11 @@
 //! Which conference a URI names, and the texts that a conference sends beside its requests.
 ghost use Rattle.std.specs.Prelude.{◌≡◌, IfOk, true};
 ghost use Rattle.mmtel_sdp.specs.Offers.{offers_audio};
-ghost use Rattle.mmtel_focus.specs.Texts.{answer_in, is_port, own_status, room_by, room_in, status_line};
+ghost use Rattle.mmtel_focus.specs.Texts.{answer_in, conference_in, conference_number, is_port, own_status, status_line};
 
+use mmtel_base::{NoMemory, Text, add_number, plain_number, skip_text};
 use mmtel_lex::Uri;
 use mmtel_message::{ip_text, phrase_of};
-use mmtel_scan::{NoMemory, Text, add_number, plain_number, skip_text};
 use mmtel_sdp::{AnswerFault, Mixer, mixer_answer, view_of};
 use mmtel_types::Addr;
 use std::alloc::Global;
@@ -55,8 +55,8 @@ fn is_port(own: u16, port: Option<u16>) -> bool
 }
 
 /// The number of the conference that the user part of a URI names.
-fn room_by(user: &[u8]) -> Option<u64>
-    ensures { result ≡ room_by user.now }
+fn conference_number(user: &[u8]) -> Option<u64>
+    ensures { result ≡ conference_number user.now }
 {
     match skip_text(b"room-", user) {
         None => None,
@@ -70,8 +70,8 @@ fn room_by(user: &[u8]) -> Option<u64>
 /// # Errors
 ///
 /// Out of memory only.
-pub fn room_named(alloc: Global, sip: Addr, uri: &Uri) -> Result<Option<u64>, NoMemory>
-    ensures number { IfOk result (λ room. room ≡ room_in sip uri.now) }
+pub fn conference_named(alloc: Global, sip: Addr, uri: &Uri) -> Result<Option<u64>, NoMemory>
+    ensures number { IfOk result (λ room. room ≡ conference_in sip uri.now) }
 {
     match uri {
         Uri::Tel { .. } => Ok(None),
@@ -85,7 +85,7 @@ pub fn room_named(alloc: Global, sip: Addr, uri: &Uri) -> Result<Option<u64>, No
             Some(user) => {
                 let ip = ip_text(alloc, sip.ip)?;
                 if host.bytes() == ip.bytes() && is_port(sip.port, *port) {
-                    return Ok(room_by(user.bytes()));
+                    return Ok(conference_number(user.bytes()));
                 }
                 Ok(None)
             }

@@ -5,7 +5,7 @@ use Rattle.std.proofs.lemmas.List.{length-append, length-take, get_or-take, take
 use Rattle.std.proofs.lemmas.Grind.{flat_map-append}
 use Rattle.std.proofs.Math.Seq.{take-suc}
 use Rattle.std.proofs.lemmas.Bool.Decides.{nat_tests}
-use Rattle.mmtel_history.specs.HistoryInfo.{entry_of, entries_of, is_unreadable, reading}
+use Rattle.mmtel_history.specs.HistoryInfo.{entry_of, entries_of, is_unreadable, entries_result}
 use Rattle.mmtel_history.specs.declared.entries.Entry.{Entry}
 use Rattle.mmtel_history.proofs.Finding.{position_here, position_none}
 
@@ -32,14 +32,14 @@ goes_on vs i es e lt few read so_far =
       readable = below_more _ _ so_far.readable here;
     }
 
-same_place : (vs : List (List ℕ)) (k : ℕ) → k < 32 → get_or (take 32 vs) k [] ≡ get_or vs k []
-same_place vs k lt = get_or-take 32 vs k [] lt
+same_position : (vs : List (List ℕ)) (k : ℕ) → k < 32 → get_or (take 32 vs) k [] ≡ get_or vs k []
+same_position vs k lt = get_or-take 32 vs k [] lt
 
-pub stops : (vs : List (List ℕ)) (i : ℕ) (es : List Entry) → i < length vs → i < 32 → entry_of (get_or vs i []) ≡ None → ReadSoFar vs i es → reading vs ≡ Err i
-unfolding reading
+pub stops : (vs : List (List ℕ)) (i : ℕ) (es : List Entry) → i < length vs → i < 32 → entry_of (get_or vs i []) ≡ None → ReadSoFar vs i es → entries_result vs ≡ Err i
+unfolding entries_result
 stops vs i es lt few read so_far =
-    let here : is_unreadable (get_or (take 32 vs) i []) ≡ true = rw (same_place vs i few, read) refl in
-    let others : (k : ℕ) → k < i → is_unreadable (get_or (take 32 vs) k []) ≡ false = λ k l. let less : k < 32 = omega arith in rw (same_place vs k less) (so_far.readable k l) in
+    let here : is_unreadable (get_or (take 32 vs) i []) ≡ true = rw (same_position vs i few, read) refl in
+    let others : (k : ℕ) → k < i → is_unreadable (get_or (take 32 vs) k []) ≡ false = λ k l. let less : k < 32 = omega arith in rw (same_position vs k less) (so_far.readable k l) in
     let within : i < length (take 32 vs) = omega (arith, length-take 32 vs) in
     rw (position_here is_unreadable (take 32 vs) i [] within others here) refl
 
@@ -49,17 +49,17 @@ none_before vs i covers readable =
     (λ k l.
     let less : k < 32 = omega (arith, length-take 32 vs) in
     let below : k < i = elim covers [ inl c ↦ omega (arith, length-take 32 vs) | inr c ↦ omega arith ] in
-    rw (same_place vs k less) (readable k below))
+    rw (same_position vs k less) (readable k below))
 
-pub too_many : (vs : List (List ℕ)) (i : ℕ) (es : List Entry) → i < length vs → 32 ≤ i → ReadSoFar vs i es → reading vs ≡ Err 32
-unfolding reading
+pub too_many : (vs : List (List ℕ)) (i : ℕ) (es : List Entry) → i < length vs → 32 ≤ i → ReadSoFar vs i es → entries_result vs ≡ Err 32
+unfolding entries_result
 too_many vs i es lt many so_far =
     let last : i ≡ 32 = omega (arith, so_far.few) in
     let over : nat_lt 32 (length vs) ≡ true = grind (arith, nat_tests) in
     rw (none_before vs i (inr last) so_far.readable, over) refl
 
-pub all_read : (vs : List (List ℕ)) (i : ℕ) (es : List Entry) → length vs ≤ i → ReadSoFar vs i es → reading vs ≡ Ok es
-unfolding reading
+pub all_read : (vs : List (List ℕ)) (i : ℕ) (es : List Entry) → length vs ≤ i → ReadSoFar vs i es → entries_result vs ≡ Ok es
+unfolding entries_result
 all_read vs i es le so_far =
     let fits : nat_lt 32 (length vs) ≡ false = grind (arith, nat_tests, so_far.few) in
     let whole : es ≡ entries_of vs = so_far.are ∙ ap (λ (l : List (List ℕ)). entries_of l) (take_all i vs le) in

@@ -3,9 +3,9 @@ use Rattle.std.specs.Prelude.{ℕ, zero, suc, Bool, true, false, not, ◌&&◌, 
 use Rattle.std.specs.Prelude.{Option, Some, None, is_some, codes, decimal}
 use Rattle.std.specs.List.{list_any, find, slice_split, join_with_byte, onto_first, after_last, suffix_len}
 use Rattle.std.specs.Str.{str_eq_ignore_ascii_case}
-use Rattle.mmtel_scan.specs.Numbers.{number_of}
-use Rattle.mmtel_scan.specs.Scanning.{parted}
-use Rattle.mmtel_lex.specs.UriPlaces.{parts, behind, is_named, user_part, host_part, front_part, uri_params, header_parts}
+use Rattle.mmtel_base.specs.Numbers.{number_of}
+use Rattle.mmtel_base.specs.Scanning.{split_once_at}
+use Rattle.mmtel_lex.specs.UriParts.{parts, text_after, is_named, user_part, host_part, host_and_params, uri_params, header_parts}
 
 -- ---- the cause
 
@@ -19,7 +19,7 @@ cause_number digits = if length digits == 3 then from_hundred (number_of 699 dig
 
 abbrev pub cause_in : Option (List ℕ) → Option ℕ
 cause_in None = None
-cause_in (Some param) = cause_number (behind 61 param)
+cause_in (Some param) = cause_number (text_after 61 param)
 
 abbrev pub is_cause : List ℕ → Bool
 is_cause param = is_named (codes "cause") param
@@ -56,7 +56,7 @@ is_history word = str_eq_ignore_ascii_case word (codes "history")
 
 -- a Privacy part with the word `history`
 unfoldable pub hides : List ℕ → Bool
-hides part = is_named (codes "Privacy") part && list_any is_history (escaped_parts (behind 61 part))
+hides part = is_named (codes "Privacy") part && list_any is_history (escaped_parts (text_after 61 part))
 
 -- the header part of the URI requests that the entry be hidden
 unfoldable pub is_marked : List ℕ → Bool
@@ -65,7 +65,7 @@ is_marked uri = list_any hides (header_parts uri)
 -- ---- what is added to a URI
 
 abbrev pub has_headers : List ℕ → Bool
-has_headers uri = is_some (parted 63 (host_part uri))
+has_headers uri = is_some (split_once_at 63 (host_part uri))
 
 abbrev pub mark_text : Bool → List ℕ
 mark_text true = codes "&Privacy=history"
@@ -80,21 +80,21 @@ headers_from None = []
 headers_from (Some x) = 63 ∷ x.1
 
 -- the URI with this in place of what is between its last '@' and its '?'
-abbrev pub with_front : List ℕ → List ℕ → List ℕ
-with_front front uri = user_part uri ++ (front ++ headers_from (parted 63 (host_part uri)))
+abbrev pub with_host_part : List ℕ → List ℕ → List ℕ
+with_host_part front uri = user_part uri ++ (front ++ headers_from (split_once_at 63 (host_part uri)))
 
 -- a host and the parameters that are no causes
-abbrev pub but_causes : List (List ℕ) → List (List ℕ)
-but_causes [] = []
-but_causes (host ∷ params) = host ∷ filter (λ p. not (is_cause p)) params
+abbrev pub without_causes : List (List ℕ) → List (List ℕ)
+without_causes [] = []
+without_causes (host ∷ params) = host ∷ filter (λ p. not (is_cause p)) params
 
 -- the text of a host and parameters without the causes among them
-abbrev pub plain : List ℕ → List ℕ
-plain front = join_with_byte 59 (but_causes (parts 59 front))
+abbrev pub host_part_without_causes : List ℕ → List ℕ
+host_part_without_causes front = join_with_byte 59 (without_causes (parts 59 front))
 
 -- the URI without the causes among its parameters: each of that name is removed
 unfoldable pub without_cause : List ℕ → List ℕ
-without_cause uri = with_front (plain (front_part uri)) uri
+without_cause uri = with_host_part (host_part_without_causes (host_and_params uri)) uri
 
 -- the text of a cause, a ';' before it; nothing where there is none
 abbrev pub cause_text : Option ℕ → List ℕ
@@ -103,4 +103,4 @@ cause_text (Some cause) = codes ";cause=" ++ decimal cause
 
 -- the URI with this cause in place of its own, after its other parameters
 unfoldable pub with_cause : ℕ → List ℕ → List ℕ
-with_cause cause uri = with_front (plain (front_part uri) ++ cause_text (Some cause)) uri
+with_cause cause uri = with_host_part (host_part_without_causes (host_and_params uri) ++ cause_text (Some cause)) uri

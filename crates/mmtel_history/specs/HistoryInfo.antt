@@ -5,9 +5,9 @@ use Rattle.std.specs.Prelude.{Option, Some, None, is_some, is_none, option_to_li
 use Rattle.std.specs.List.{flat_map}
 use Rattle.std.specs.Option.{option_map_or, unwrap_or}
 use Rattle.std.specs.Str.{str_eq_ignore_ascii_case}
-use Rattle.mmtel_scan.specs.Chain.{◌>>=◌}
-use Rattle.mmtel_scan.specs.Classes.{IsOneOrMore}
-use Rattle.mmtel_scan.specs.declared.classes.Class.TheVariants.{UriByte}
+use Rattle.mmtel_base.specs.Chain.{◌>>=◌}
+use Rattle.mmtel_base.specs.Classes.{IsOneOrMore}
+use Rattle.mmtel_base.specs.declared.classes.Class.TheVariants.{UriByte}
 use Rattle.mmtel_lex.specs.Grammar.{params_text, AreParams}
 use Rattle.mmtel_lex.specs.Params.{param_value}
 use Rattle.mmtel_lex.specs.Reading.{name_addr_of}
@@ -30,9 +30,9 @@ abbrev pub index_of : List Param → List ℕ
 index_of ps = unwrap_or (param_value (codes "index") ps) []
 
 -- the parameters except the first index
-abbrev pub but_index : List Param → List Param
-but_index [] = []
-but_index (p ∷ ps) = if is_index p then ps else p ∷ but_index ps
+abbrev pub without_index : List Param → List Param
+without_index [] = []
+without_index (p ∷ ps) = if is_index p then ps else p ∷ without_index ps
 
 -- the entry of a URI, an index and further parameters
 abbrev pub entry_with : List ℕ → List ℕ → List ℕ → Entry
@@ -40,19 +40,19 @@ entry_with uri index rest = record { uri = uri; index = index; cause = cause_of 
 
 -- the entry of a name-addr, where its first index has dotted numbers
 abbrev pub entry_in : NameAddr → Option Entry
-entry_in n = if is_indexed (Some n) then Some (entry_with n.uri (index_of n.params) (params_text (but_index n.params))) else None
+entry_in n = if is_indexed (Some n) then Some (entry_with n.uri (index_of n.params) (params_text (without_index n.params))) else None
 
 -- the entry that a value writes: a name-addr with an index (RFC 7044 §5)
 unfoldable pub entry_of : List ℕ → Option Entry
 entry_of value = name_addr_of value >>= entry_in
 
 -- the URI of an entry as it is written: with its mark where it is hidden
-unfoldable pub shown_uri : Entry → List ℕ
-shown_uri e = if e.hidden then marked_uri e.uri else e.uri
+unfoldable pub written_uri : Entry → List ℕ
+written_uri e = if e.hidden then marked_uri e.uri else e.uri
 
 -- the value of an entry
 unfoldable pub entry_text : Entry → List ℕ
-entry_text e = 60 ∷ (shown_uri e ++ (codes ">;index=" ++ (e.index ++ e.rest)))
+entry_text e = 60 ∷ (written_uri e ++ (codes ">;index=" ++ (e.index ++ e.rest)))
 
 -- ---- values
 
@@ -62,22 +62,22 @@ is_unreadable value = is_none (entry_of value)
 abbrev pub entries_of : List (List ℕ) → List Entry
 entries_of values = flat_map (λ v. option_to_list (entry_of v)) values
 
-abbrev pub reading_from : Option ℕ → List (List ℕ) → Result (List Entry) ℕ
-reading_from (Some place) values = Err place
-reading_from None values = if nat_lt 32 (length values) then Err 32 else Ok (entries_of values)
+abbrev pub entries_result_from : Option ℕ → List (List ℕ) → Result (List Entry) ℕ
+entries_result_from (Some place) values = Err place
+entries_result_from None values = if nat_lt 32 (length values) then Err 32 else Ok (entries_of values)
 
 -- the entries of at most 32 values; or the place of the first unreadable one among the first 32, else 32
-unfoldable pub reading : List (List ℕ) → Result (List Entry) ℕ
-reading values = reading_from (position is_unreadable (take 32 values)) values
+unfoldable pub entries_result : List (List ℕ) → Result (List Entry) ℕ
+entries_result values = entries_result_from (position is_unreadable (take 32 values)) values
 
 abbrev pub IsRefused : HistoryFault → Result (List Entry) ℕ → Type 0
 IsRefused (faults.Malformed at) read = read ≡ Err at
 IsRefused faults.NoMemory read = Unit {0}
 
 -- what was returned is what reading gives, unless memory ran out
-abbrev pub IsReading : Result (List Entry) HistoryFault → Result (List Entry) ℕ → Type 0
-IsReading (Ok entries) read = read ≡ Ok entries
-IsReading (Err e) read = IsRefused e read
+abbrev pub IsEntriesResult : Result (List Entry) HistoryFault → Result (List Entry) ℕ → Type 0
+IsEntriesResult (Ok entries) read = read ≡ Ok entries
+IsEntriesResult (Err e) read = IsRefused e read
 
 -- ---- the list after a mark, after a diversion, and masked
 
@@ -85,22 +85,22 @@ abbrev pub hidden_entry : Entry → Entry
 hidden_entry e = record e { hidden = true }
 
 -- the entry at the place is hidden
-abbrev pub marked_at : ℕ → List Entry → List Entry
-marked_at n [] = []
-marked_at zero (e ∷ es) = hidden_entry e ∷ es
-marked_at (suc n) (e ∷ es) = e ∷ marked_at n es
+abbrev pub list_marked_at : ℕ → List Entry → List Entry
+list_marked_at n [] = []
+list_marked_at zero (e ∷ es) = hidden_entry e ∷ es
+list_marked_at (suc n) (e ∷ es) = e ∷ list_marked_at n es
 
 -- a list that is not empty, or one with the first URI as its first entry
-abbrev pub started : List ℕ → List Entry → List Entry
-started from [] = entry_with from (codes "1") [] ∷ []
-started from (e ∷ es) = e ∷ es
+abbrev pub with_first_entry : List ℕ → List Entry → List Entry
+with_first_entry from [] = entry_with from (codes "1") [] ∷ []
+with_first_entry from (e ∷ es) = e ∷ es
 
 abbrev pub last_index : List Entry → List ℕ
 last_index h = option_map_or (λ e. e.index) (slice_get h (length h - 1)) []
 
-abbrev pub hidden_if : Bool → ℕ → List Entry → List Entry
-hidden_if true place h = marked_at place h
-hidden_if false place h = h
+abbrev pub list_hidden_if : Bool → ℕ → List Entry → List Entry
+list_hidden_if true place h = list_marked_at place h
+list_hidden_if false place h = h
 
 -- the entry of a new target, below the entry of this index
 abbrev pub target_entry : List ℕ → List ℕ → ℕ → Entry
@@ -108,16 +108,16 @@ target_entry index target cause =
     record { uri = with_cause cause target; index = index ++ codes ".1"; cause = Some cause; hidden = is_marked (with_cause cause target); rest = [] }
 
 abbrev pub with_target : List Entry → List ℕ → ℕ → Bool → List Entry
-with_target h target cause hide_last = hidden_if hide_last (length h - 1) h ++ target_entry (last_index h) target cause ∷ []
+with_target h target cause hide_last = list_hidden_if hide_last (length h - 1) h ++ target_entry (last_index h) target cause ∷ []
 
 -- History after one more diversion
-unfoldable pub appended : List Entry → List ℕ → List ℕ → ℕ → Bool → List Entry
-appended h from target cause hide_last = with_target (started from h) target cause hide_last
+unfoldable pub list_after_diversion : List Entry → List ℕ → List ℕ → ℕ → Bool → List Entry
+list_after_diversion h from target cause hide_last = with_target (with_first_entry from h) target cause hide_last
 
 -- the list as the 181 about its last diversion shows it: the diverting entry, which is the last but one, and the target's, the last, are also hidden where requested; in a
 -- list of one entry both are that one (TS 24.604 §4.5.2.6)
-abbrev pub told_to_caller : Bool → Bool → List Entry → List Entry
-told_to_caller hide_diverting hide_target h = hidden_if hide_target (length h - 1) (hidden_if hide_diverting (length h - 2) h)
+abbrev pub history_for_caller : Bool → Bool → List Entry → List Entry
+history_for_caller hide_diverting hide_target h = list_hidden_if hide_target (length h - 1) (list_hidden_if hide_diverting (length h - 2) h)
 
 -- ---- counts
 
@@ -171,16 +171,16 @@ pub record IsTarget (target : List ℕ) (cause : ℕ) : Type 0 where
   pub high : cause ≤ 699
 
 -- the entry with its URI as it is written
-abbrev pub written : Entry → Entry
-written e = record e { uri = shown_uri e }
+abbrev pub written_entry : Entry → Entry
+written_entry e = record e { uri = written_uri e }
 
 -- an entry apart from its mark
-abbrev pub unmarked : Entry → Entry
-unmarked e = record e { hidden = false }
+abbrev pub unmarked_entry : Entry → Entry
+unmarked_entry e = record e { hidden = false }
 
 -- an entry that is also hidden if the flag says so
-abbrev pub also_hidden : Bool → Entry → Entry
-also_hidden hide e = record e { hidden = hide || e.hidden }
+abbrev pub hidden_entry_if : Bool → Entry → Entry
+hidden_entry_if hide e = record e { hidden = hide || e.hidden }
 
 -- an entry apart from its URI and its mark, where it is hidden or all are
 abbrev pub seen_entry : Bool → Entry → Entry
@@ -197,6 +197,6 @@ pub record Diversion : Type 0 where
   pub hide_last : Bool
 
 -- History after these diversions, the first one first
-abbrev pub after : List Entry → List ℕ → List Diversion → List Entry
-after h from [] = h
-after h from (d ∷ ds) = after (appended h from d.target d.cause d.hide_last) from ds
+abbrev pub list_after_diversions : List Entry → List ℕ → List Diversion → List Entry
+list_after_diversions h from [] = h
+list_after_diversions h from (d ∷ ds) = list_after_diversions (list_after_diversion h from d.target d.cause d.hide_last) from ds

@@ -1,15 +1,15 @@
 //! One entry: how a value is read and written.
 ghost use Rattle.std.specs.Prelude.{Some, ◌≡◌, ◌+◌, take, drop, ◌++◌, ◌∷◌, [], IfOk, MatchOption, length, ◌<◌, IfSome};
 ghost use Rattle.mmtel_lex.specs.Grammar.{params_text};
-ghost use Rattle.mmtel_lex.specs.Reading.{Gives};
+ghost use Rattle.mmtel_lex.specs.Reading.{IsResult};
 ghost use Rattle.mmtel_history.specs.EntryUri.{with_cause};
-ghost use Rattle.mmtel_history.specs.HistoryInfo.{is_index, but_index, entry_with, entry_in, entry_of, shown_uri, entry_text, target_entry, masked_uri, masked_entry};
-ghost use Rattle.mmtel_history.specs.HistoryInfo.{IsReadable, written};
+ghost use Rattle.mmtel_history.specs.HistoryInfo.{is_index, without_index, entry_with, entry_in, entry_of, written_uri, entry_text, target_entry, masked_uri, masked_entry};
+ghost use Rattle.mmtel_history.specs.HistoryInfo.{IsReadable, written_entry};
 
 use crate::uris::{add_marked, cause_of, is_marked, with_cause};
+use mmtel_base::{NoMemory, Text};
 use mmtel_lex::{LexFault, NameAddr, Param, add_params, param_value, read_name_addr};
-use mmtel_message::is_place;
-use mmtel_scan::{NoMemory, Text};
+use mmtel_message::is_index_value;
 use std::alloc::Global;
 
 /// The anonymous URI, which replaces a URI that is not shown (RFC 3323 §4.1.1.3).
@@ -60,8 +60,8 @@ fn is_index(param: &Param) -> bool
 }
 
 /// The place of the first index.
-fn index_place(params: &[Param]) -> Option<usize>
-    ensures others { MatchOption result (but_index params.now ≡ params.now) (λ n. but_index params.now ≡ take n params.now ++ drop (n + 1) params.now) }
+fn index_position(params: &[Param]) -> Option<usize>
+    ensures others { MatchOption result (without_index params.now ≡ params.now) (λ n. without_index params.now ≡ take n params.now ++ drop (n + 1) params.now) }
     ensures within { IfSome result (λ n. n < length params.now) }
 {
     for (i, param) in params.iter().enumerate() {
@@ -74,10 +74,10 @@ fn index_place(params: &[Param]) -> Option<usize>
 
 /// The text of the parameters except the first index.
 fn other_params(alloc: Global, params: &[Param]) -> Result<Text, NoMemory>
-    ensures { IfOk result (λ t. t ≡ params_text (but_index params.now)) }
+    ensures { IfOk result (λ t. t ≡ params_text (without_index params.now)) }
 {
     let mut out = Text::new();
-    match index_place(params) {
+    match index_position(params) {
         None => add_params(alloc, &mut out, params)?,
         Some(place) => {
             let (front, _) = params.split_at(place);
@@ -115,7 +115,7 @@ pub fn first_entry(alloc: Global, uri: &[u8]) -> Result<Entry, NoMemory>
 
 /// The entry of a name-addr whose first index is numbers separated by dots.
 fn entry_in(alloc: Global, name_addr: NameAddr) -> Result<Entry, LexFault>
-    ensures { Gives (λ x. x) result (entry_in name_addr) }
+    ensures { IsResult (λ x. x) result (entry_in name_addr) }
 {
     let NameAddr {
         display: _,
@@ -124,7 +124,7 @@ fn entry_in(alloc: Global, name_addr: NameAddr) -> Result<Entry, LexFault>
     } = name_addr;
     let params = params.items();
     let index = param_value(params, b"index");
-    if !is_place(index) {
+    if !is_index_value(index) {
         return Err(LexFault::Malformed);
     }
     let index = Text::of(alloc, index.unwrap_or(&[]))?;
@@ -135,13 +135,13 @@ fn entry_in(alloc: Global, name_addr: NameAddr) -> Result<Entry, LexFault>
 /// Reads a value of History-Info.
 #[tactic(auto, unfolding(crate::specs::HistoryInfo::entry_of))]
 pub fn read_entry(alloc: Global, value: &[u8]) -> Result<Entry, LexFault>
-    ensures { Gives (λ x. x) result (entry_of value.now) }
+    ensures { IsResult (λ x. x) result (entry_of value.now) }
 {
     let name_addr = read_name_addr(alloc, value)?;
     entry_in(alloc, name_addr)
 }
 
-#[tactic(auto, unfolding(crate::specs::HistoryInfo::shown_uri, crate::specs::HistoryInfo::entry_text))]
+#[tactic(auto, unfolding(crate::specs::HistoryInfo::written_uri, crate::specs::HistoryInfo::entry_text))]
 fn value_of(alloc: Global, entry: &Entry) -> Result<Text, NoMemory>
     ensures { IfOk result (λ t. t ≡ entry_text entry.now) }
 {
@@ -165,7 +165,7 @@ fn value_of(alloc: Global, entry: &Entry) -> Result<Text, NoMemory>
 pub fn write_entry(alloc: Global, entry: &Entry) -> Result<Text, NoMemory>
     ensures text { IfOk result (λ t. t ≡ entry_text entry.now) }
     // It is read again as the same entry, with its URI as it is written.
-    ensures reads_back { IsReadable entry.now → IfOk result (λ t. entry_of t ≡ Some (written entry.now)) }
+    ensures reads_back { IsReadable entry.now → IfOk result (λ t. entry_of t ≡ Some (written_entry entry.now)) }
 {
     value_of(alloc, entry)
 }

@@ -2,7 +2,7 @@
 ghost use Rattle.mmtel_history.specs.declared.faults.HistoryFault.TheVariants as faults;
 ghost use Rattle.std.specs.Prelude.{◌≡◌};
 
-use mmtel_scan::NoMemory;
+use mmtel_base::NoMemory;
 use std::alloc::AllocFailed;
 
 /// What is wrong with the values of History-Info.
@@ -16,7 +16,7 @@ pub enum HistoryFault {
 impl From<NoMemory> for HistoryFault {
     ghost from_gives = { λ _ e. e ≡ faults.NoMemory };
 
-    fn from(_e: NoMemory) -> HistoryFault {
+    fn from(_error: NoMemory) -> HistoryFault {
         HistoryFault::NoMemory
     }
 }
@@ -24,7 +24,7 @@ impl From<NoMemory> for HistoryFault {
 impl<T: Drop> From<AllocFailed<T>> for HistoryFault {
     ghost from_gives = { λ _ e. e ≡ faults.NoMemory };
 
-    fn from(_e: AllocFailed<T>) -> HistoryFault {
+    fn from(_error: AllocFailed<T>) -> HistoryFault {
         HistoryFault::NoMemory
     }
 }

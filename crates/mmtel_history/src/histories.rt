@@ -1,15 +1,15 @@
 //! The list of entries.
 ghost use Rattle.std.specs.Prelude.{if◌then◌else◌, ℕ, List, Bool, true, None, map, slice_set, ◌≡◌, ◌+◌, ◌++◌, ◌∷◌, ◌≤◌, ◌<◌, [], length, IfOk, IfErr, OnOk, OnErr, take};
-ghost use Rattle.mmtel_history.specs.HistoryInfo.{IsReading, reading, marked_at, hidden_if, last_index, with_target, appended, told_to_caller, after, Diversion};
-ghost use Rattle.mmtel_history.specs.HistoryInfo.{diversions_in, diversions_so_far, is_empty, masked_list, seen_entry, unmarked, also_hidden, AreReadable, IsUriText};
+ghost use Rattle.mmtel_history.specs.HistoryInfo.{IsEntriesResult, entries_result, list_marked_at, list_hidden_if, last_index, with_target, list_after_diversion, history_for_caller, list_after_diversions, Diversion};
+ghost use Rattle.mmtel_history.specs.HistoryInfo.{diversions_in, diversions_so_far, is_empty, masked_list, seen_entry, unmarked_entry, hidden_entry_if, AreReadable, IsUriText};
 ghost use Rattle.mmtel_history.specs.HistoryInfo.{IsTarget};
 ghost use Rattle.mmtel_history.specs.EntryUri.{cause_of};
 ghost use Rattle.mmtel_history.specs.declared.entries.Entry.{Entry};
 
 use crate::entries::{Entry, first_entry, masked_entry, read_entry, target_entry};
 use crate::faults::HistoryFault;
+use mmtel_base::{List, NoMemory, Text};
 use mmtel_lex::LexFault;
-use mmtel_scan::{List, NoMemory, Text};
 use std::alloc::Global;
 use std::marker::Model;
 
@@ -39,7 +39,7 @@ const MOST_VALUES: usize = 32;
 ///
 /// The place of the first value that is no entry, or 32 where there are more; and out of memory.
 pub fn read_values(alloc: Global, values: &List<Text>) -> Result<History, HistoryFault>
-    ensures exact { IsReading result (reading values.now) }
+    ensures exact { IsEntriesResult result (entries_result values.now) }
     ensures few { IfOk result (λ h. length h ≤ 32) }
     // What was read can be written, and is then read again.
     ensures readable { IfOk result (λ h. AreReadable h) }
@@ -59,12 +59,12 @@ pub fn read_values(alloc: Global, values: &List<Text>) -> Result<History, Histor
 }
 
 /// Hides the entry at this place, if requested.
-fn hide_if(entries: &mut Vec<Entry>, hide: bool, place: usize)
-    requires { place < length entries.old.items }
-    ensures { entries.new.items ≡ hidden_if hide place entries.old.items }
+fn hide_if(entries: &mut Vec<Entry>, hide: bool, index: usize)
+    requires { index < length entries.old.items }
+    ensures { entries.new.items ≡ list_hidden_if hide index entries.old.items }
 {
     if hide {
-        entries[place].hidden = true;
+        entries[index].hidden = true;
     }
 }
 
@@ -97,7 +97,7 @@ fn add_target(
 }
 
 /// Adds the first target and the one to which it is diverted.
-#[tactic(auto, unfolding(crate::specs::HistoryInfo::appended))]
+#[tactic(auto, unfolding(crate::specs::HistoryInfo::list_after_diversion))]
 fn add_first(
     entries: &mut Vec<Entry>,
     alloc: Global,
@@ -107,7 +107,7 @@ fn add_first(
     hide_last: bool,
 ) -> Result<(), NoMemory>
     requires { entries.old.items ≡ [] }
-    ensures ok { OnOk result (entries.new.items ≡ appended [] from.now target.now cause hide_last) }
+    ensures ok { OnOk result (entries.new.items ≡ list_after_diversion [] from.now target.now cause hide_last) }
     ensures err { OnErr result (entries.new.items ≡ []) }
     ensures few { length entries.new.items ≤ 2 }
 {
@@ -122,7 +122,7 @@ fn add_first(
 }
 
 /// Adds what one more diversion contributes.
-#[tactic(auto, unfolding(crate::specs::HistoryInfo::appended))]
+#[tactic(auto, unfolding(crate::specs::HistoryInfo::list_after_diversion))]
 fn extend(
     entries: &mut Vec<Entry>,
     alloc: Global,
@@ -131,7 +131,7 @@ fn extend(
     cause: u16,
     hide_last: bool,
 ) -> Result<(), NoMemory>
-    ensures ok { OnOk result (entries.new.items ≡ appended entries.old.items from.now target.now cause hide_last) }
+    ensures ok { OnOk result (entries.new.items ≡ list_after_diversion entries.old.items from.now target.now cause hide_last) }
     ensures err { OnErr result (entries.new.items ≡ entries.old.items) }
     ensures few { length entries.old.items ≤ 47 → length entries.new.items ≤ 48 }
 {
@@ -151,8 +151,8 @@ fn count_causes(entries: &[Entry]) -> u16
 }
 
 /// Hides the entries that a 181 is not to show: the last but one, and the last.
-fn hide_told(entries: &mut Vec<Entry>, hide_diverting: bool, hide_target: bool)
-    ensures { entries.new.items ≡ told_to_caller hide_diverting hide_target entries.old.items }
+fn hide_for_caller(entries: &mut Vec<Entry>, hide_diverting: bool, hide_target: bool)
+    ensures { entries.new.items ≡ history_for_caller hide_diverting hide_target entries.old.items }
 {
     let len = entries.len();
     if len == 0 {
@@ -215,24 +215,24 @@ impl History {
     }
 
     /// Hides the entry at this place: its URI is written with `Privacy=history` (RFC 7044 §10.1).
-    pub fn mark(&mut self, place: usize)
-        requires { place < length self.old }
-        ensures marked { self.new ≡ marked_at place self.old }
+    pub fn mark(&mut self, index: usize)
+        requires { index < length self.old }
+        ensures marked { self.new ≡ list_marked_at index self.old }
         ensures len { length self.new ≡ length self.old }
         // That entry is hidden, and no other entry is hidden or unhidden by it.
-        ensures alone { map (λ e. e.hidden) self.new ≡ slice_set (map (λ e. e.hidden) self.old) place true }
+        ensures alone { map (λ e. e.hidden) self.new ≡ slice_set (map (λ e. e.hidden) self.old) index true }
         // Nothing else that is read of the entries changes.
-        ensures keeps { map unmarked self.new ≡ map unmarked self.old }
+        ensures keeps { map unmarked_entry self.new ≡ map unmarked_entry self.old }
         // A second mark changes nothing.
-        ensures once { marked_at place self.new ≡ self.new }
+        ensures once { list_marked_at index self.new ≡ self.new }
         // No further diversion is counted.
         ensures counts { diversions_in self.new ≡ diversions_in self.old }
         ensures readable { AreReadable self.old → AreReadable self.new }
         // Lists with equal masked forms have equal masked forms after a mark.
         ensures masks_alike { (all : Bool) (other : List Entry) → masked_list all other ≡ masked_list all self.old →
-            masked_list all self.new ≡ masked_list all (marked_at place other) }
+            masked_list all self.new ≡ masked_list all (list_marked_at index other) }
     {
-        self.entries[place].hidden = true;
+        self.entries[index].hidden = true;
     }
 
     /// Adds what a diversion to the target, by this cause, contributes: an empty list first gets `from`, with index 1; then the last entry is hidden if `hide_last` says so, and
@@ -252,7 +252,7 @@ impl History {
         hide_last: bool,
     ) -> Result<(), NoMemory>
         requires { length self.old ≤ 47 }
-        ensures ok { OnOk result (self.new ≡ appended self.old from.now target.now cause hide_last) }
+        ensures ok { OnOk result (self.new ≡ list_after_diversion self.old from.now target.now cause hide_last) }
         ensures err { OnErr result (self.new ≡ self.old) }
         ensures len { OnOk result (length self.new ≡ (if is_empty self.old then 2 else length self.old + 1)) }
         // One diversion more is counted, where a first URI has no cause of its own.
@@ -261,7 +261,7 @@ impl History {
         ensures readable { AreReadable self.old → IsUriText from.now → IsTarget target.now cause → OnOk result (AreReadable self.new) }
         // Lists with equal masked forms have equal masked forms after one more diversion; so masking before it or after it is the same.
         ensures masks_alike { (all : Bool) (other : List Entry) → masked_list all other ≡ masked_list all self.old →
-            OnOk result (masked_list all self.new ≡ masked_list all (appended other from.now target.now cause hide_last)) }
+            OnOk result (masked_list all self.new ≡ masked_list all (list_after_diversion other from.now target.now cause hide_last)) }
     {
         let entries = &mut self.entries;
         extend(
@@ -280,25 +280,25 @@ impl History {
     /// # Errors
     ///
     /// Out of memory only.
-    pub fn told_to_caller(
+    pub fn history_for_caller(
         &self,
         alloc: Global,
         hide_diverting: bool,
         hide_target: bool,
     ) -> Result<History, NoMemory>
-        ensures told { IfOk result (λ h. h ≡ told_to_caller hide_diverting hide_target self.now) }
+        ensures reported { IfOk result (λ h. h ≡ history_for_caller hide_diverting hide_target self.now) }
         // Of the other entries nothing changes.
         ensures places { (front : List Entry) (diverting target : Entry) → self.now ≡ front ++ diverting ∷ target ∷ [] →
-            IfOk result (λ h. h ≡ front ++ also_hidden hide_diverting diverting ∷ also_hidden hide_target target ∷ []) }
-        ensures keeps { IfOk result (λ h. map unmarked h ≡ map unmarked self.now) }
+            IfOk result (λ h. h ≡ front ++ hidden_entry_if hide_diverting diverting ∷ hidden_entry_if hide_target target ∷ []) }
+        ensures keeps { IfOk result (λ h. map unmarked_entry h ≡ map unmarked_entry self.now) }
         ensures counts { IfOk result (λ h. diversions_in h ≡ diversions_in self.now) }
         ensures readable { AreReadable self.now → IfOk result (λ h. AreReadable h) }
         // Lists with equal masked forms are shown with equal masked forms.
         ensures masks_alike { (all : Bool) (other : List Entry) → masked_list all other ≡ masked_list all self.now →
-            IfOk result (λ h. masked_list all h ≡ masked_list all (told_to_caller hide_diverting hide_target other)) }
+            IfOk result (λ h. masked_list all h ≡ masked_list all (history_for_caller hide_diverting hide_target other)) }
     {
         let mut entries = copied_entries(alloc, self.entries.as_slice())?;
-        hide_told(&mut entries, hide_diverting, hide_target);
+        hide_for_caller(&mut entries, hide_diverting, hide_target);
         Ok(History { entries })
     }
 
@@ -307,7 +307,7 @@ impl History {
         ensures counted { result ≡ diversions_in self.now }
         ensures most { result ≤ length self.now }
         // After k diversions it is k more, where a first URI has no cause of its own.
-        ensures each { (h : List Entry) (from : List ℕ) (ds : List Diversion) → (is_empty h ≡ true → cause_of from ≡ None) → self.now ≡ after h from ds →
+        ensures each { (h : List Entry) (from : List ℕ) (ds : List Diversion) → (is_empty h ≡ true → cause_of from ≡ None) → self.now ≡ list_after_diversions h from ds →
             result ≡ diversions_so_far h (length ds) }
     {
         count_causes(self.entries.as_slice())

@@ -5,8 +5,8 @@
 mod entries;
 mod faults;
 mod histories;
-pub mod laws;
 mod parts;
+pub mod theorems;
 mod uris;
 
 pub use entries::{ANONYMOUS, Entry, write_entry};

@@ -1,13 +1,13 @@
 //! What an entry's URI says: its cause, and whether it requests to be hidden.
 ghost use Rattle.std.specs.Prelude.{◌≡◌, ◌∷◌, [], ◌++◌, ◌≤◌, ◌<◌, not, length, take, drop, filter, IfOk, IfSome, OnOk, Some, false};
 ghost use Rattle.std.specs.List.{list_any, flat_map};
-ghost use Rattle.mmtel_lex.specs.UriPlaces.{parts, front_part};
+ghost use Rattle.mmtel_lex.specs.UriParts.{parts, host_and_params};
 ghost use Rattle.mmtel_history.specs.EntryUri.{cause_number, is_cause, cause_of, causes_in, escaped_parts, is_history, hides, is_marked, has_headers, has_cause, mark_text};
-ghost use Rattle.mmtel_history.specs.EntryUri.{marked_uri, plain, with_front, cause_text, without_cause, with_cause};
+ghost use Rattle.mmtel_history.specs.EntryUri.{marked_uri, host_part_without_causes, with_host_part, cause_text, without_cause, with_cause};
 
 use crate::parts::first_escaped;
-use mmtel_lex::{cut, first_part, is_named, split_user, uri_param};
-use mmtel_scan::{NoMemory, Text, number_up_to, part};
+use mmtel_base::{NoMemory, Text, number_up_to, split_once_at};
+use mmtel_lex::{first_part, is_named, split_around, split_user, uri_param};
 use std::alloc::Global;
 
 /// The number of three digits from 100 to 699.
@@ -38,7 +38,7 @@ pub fn cause_of(uri: &[u8]) -> Option<u16>
     match uri_param(uri, b"cause") {
         None => None,
         Some(param) => {
-            let (_, digits) = cut(b'=', param);
+            let (_, digits) = split_around(b'=', param);
             cause_number(digits)
         }
     }
@@ -66,7 +66,7 @@ fn hides(header: &[u8]) -> bool
     if !is_named(b"Privacy", header) {
         return false;
     }
-    let (_, value) = cut(b'=', header);
+    let (_, value) = split_around(b'=', header);
     has_history(value)
 }
 
@@ -90,7 +90,7 @@ pub fn is_marked(uri: &[u8]) -> bool
     ensures { result ≡ is_marked uri.now }
 {
     let (_, host) = split_user(uri);
-    let (_, headers) = cut(b'?', host);
+    let (_, headers) = split_around(b'?', host);
     any_hides(headers)
 }
 
@@ -104,7 +104,7 @@ pub fn add_marked(alloc: Global, out: &mut Text, uri: &[u8]) -> Result<(), NoMem
         return Ok(());
     }
     let (_, host) = split_user(uri);
-    match part(b'?', host) {
+    match split_once_at(b'?', host) {
         None => out.push(alloc, b"?Privacy=history"),
         Some(_) => out.push(alloc, b"&Privacy=history"),
     }
@@ -134,11 +134,11 @@ fn add_other_params(alloc: Global, out: &mut Text, params: &[u8]) -> Result<(), 
 }
 
 /// Adds the host and the parameters that are no causes.
-fn add_plain(alloc: Global, out: &mut Text, front: &[u8]) -> Result<(), NoMemory>
-    ensures { OnOk result (out.new ≡ out.old ++ plain front.now) }
+fn add_without_causes(alloc: Global, out: &mut Text, host_part: &[u8]) -> Result<(), NoMemory>
+    ensures { OnOk result (out.new ≡ out.old ++ host_part_without_causes host_part.now) }
 {
-    match first_part(b';', front) {
-        None => out.push(alloc, front),
+    match first_part(b';', host_part) {
+        None => out.push(alloc, host_part),
         Some((host, params)) => {
             out.push(alloc, host)?;
             add_other_params(alloc, out, params)
@@ -161,18 +161,18 @@ fn add_cause(alloc: Global, out: &mut Text, cause: Option<u16>) -> Result<(), No
 }
 
 /// The URI with this cause, or with none, in place of its own.
-fn caused(alloc: Global, uri: &[u8], cause: Option<u16>) -> Result<Text, NoMemory>
-    ensures { IfOk result (λ t. t ≡ with_front (plain (front_part uri.now) ++ cause_text cause) uri.now) }
+fn uri_with_cause(alloc: Global, uri: &[u8], cause: Option<u16>) -> Result<Text, NoMemory>
+    ensures { IfOk result (λ t. t ≡ with_host_part (host_part_without_causes (host_and_params uri.now) ++ cause_text cause) uri.now) }
 {
     let (user, host) = split_user(uri);
     let mut out = Text::of(alloc, user)?;
-    match part(b'?', host) {
+    match split_once_at(b'?', host) {
         None => {
-            add_plain(alloc, &mut out, host)?;
+            add_without_causes(alloc, &mut out, host)?;
             add_cause(alloc, &mut out, cause)?;
         }
         Some((front, headers)) => {
-            add_plain(alloc, &mut out, front)?;
+            add_without_causes(alloc, &mut out, front)?;
             add_cause(alloc, &mut out, cause)?;
             out.push(alloc, b"?")?;
             out.push(alloc, headers)?;
@@ -193,7 +193,7 @@ pub fn without_cause(alloc: Global, uri: &[u8]) -> Result<Text, NoMemory>
     // The mark is as it was.
     ensures mark { IfOk result (λ t. is_marked t ≡ is_marked uri.now) }
 {
-    caused(alloc, uri, None)
+    uri_with_cause(alloc, uri, None)
 }
 
 /// The URI with `;cause=` and the cause after its parameters, before its header part (RFC 4458 §2). A cause that it already has is removed first.
@@ -210,5 +210,5 @@ pub fn with_cause(alloc: Global, uri: &[u8], cause: u16) -> Result<Text, NoMemor
     // The mark is as it was.
     ensures mark { IfOk result (λ t. is_marked t ≡ is_marked uri.now) }
 {
-    caused(alloc, uri, Some(cause))
+    uri_with_cause(alloc, uri, Some(cause))
 }

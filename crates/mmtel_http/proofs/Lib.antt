@@ -1,7 +1,7 @@
-pub mod HeadLaws
-pub mod LineLaws
-pub mod MethodLaws
-pub mod PathLaws
-pub mod RequestLaws
+pub mod HeadTheorems
+pub mod LineTheorems
+pub mod MethodTheorems
+pub mod PathTheorems
+pub mod RequestTheorems
 pub mod Routing
-pub mod Standing
+pub mod Completeness

@@ -8,8 +8,8 @@ use Rattle.matchit.specs.Rows.{RowsOf}
 use Rattle.matchit.specs.Seek.{seek, param_step}
 use Rattle.matchit.specs.Seek as seek_words
 use Rattle.matchit.specs.Router.{RouteOf}
-use Rattle.mmtel_scan.specs.Scanning.{after_text}
-use Rattle.mmtel_http.specs.Places.{has_slash, numbered_route, route_of, segment_route}
+use Rattle.mmtel_base.specs.Scanning.{after_text}
+use Rattle.mmtel_http.specs.Resources.{has_slash, numbered_route, route_of, segment_route}
 use Rattle.mmtel_http.specs.declared.routes.Route.{Route}
 use Rattle.mmtel_http.specs.declared.routes.Route.TheVariants as route
 
@@ -290,22 +290,22 @@ route_named (sheet n) = Some route.Sheet
 route_named (mailbox n) = Some route.Mailbox
 route_named nothing = None
 
-segment_alike : (which : Route) (kind : List ℕ → Named) → ((n : List ℕ) → route_named (kind n) ≡ Some which) → (o : Option (List ℕ))
+segment_same : (which : Route) (kind : List ℕ → Named) → ((n : List ℕ) → route_named (kind n) ≡ Some which) → (o : Option (List ℕ))
     → route_named (segment_or_nothing kind o) ≡ segment_route which o
-segment_alike which kind is None = refl
-segment_alike which kind is (Some []) = refl
-segment_alike which kind is (Some (b ∷ n)) = by (has_slash (b ∷ n))
+segment_same which kind is None = refl
+segment_same which kind is (Some []) = refl
+segment_same which kind is (Some (b ∷ n)) = by (has_slash (b ∷ n))
   where
     by : (c : Bool) → route_named (cond c nothing (kind (b ∷ n))) ≡ cond c None (Some which)
     by true = refl
     by false = is (b ∷ n)
 
-numbered_alike : (o p : Option (List ℕ)) → route_named (sheet_or o (segment_or_nothing mailbox p)) ≡ numbered_route o p
-numbered_alike None p = segment_alike route.Mailbox mailbox (λ n. refl) p
-numbered_alike (Some n) p = segment_alike route.Sheet sheet (λ n. refl) (Some n)
+numbered_same : (o p : Option (List ℕ)) → route_named (sheet_or o (segment_or_nothing mailbox p)) ≡ numbered_route o p
+numbered_same None p = segment_same route.Mailbox mailbox (λ n. refl) p
+numbered_same (Some n) p = segment_same route.Sheet sheet (λ n. refl) (Some n)
 
-alike : (path : List ℕ) → route_named (named path) ≡ route_of path
-alike path =
+routes_same : (path : List ℕ) → route_named (named path) ≡ route_of path
+routes_same path =
     ap (λ (n : Named). route_named n)
     (sym (whole (codes "/charges") path (sheet_or (after (codes "/simservs/") path) (segment_or_nothing mailbox (after (codes "/mailbox/") path)))))
     ∙ by (bytes_eq path (codes "/charges"))
@@ -315,12 +315,12 @@ alike path =
     by : (c : Bool) → route_named (cond c charges (sheet_or (after (codes "/simservs/") path) (segment_or_nothing mailbox (after (codes "/mailbox/") path))))
         ≡ cond c (Some route.Charges) (numbered_route (after (codes "/simservs/") path) (after (codes "/mailbox/") path))
     by true = refl
-    by false = numbered_alike (after (codes "/simservs/") path) (after (codes "/mailbox/") path)
+    by false = numbered_same (after (codes "/simservs/") path) (after (codes "/mailbox/") path)
 
 -- what is matched is the route of the definition
-pub answer : (k l m : RouteOf Route) (path : List ℕ) (r : Option Route) → ((i : ℕ) → get_or path i 0 < 256) → k.value ≡ route.Charges → l.value ≡ route.Sheet → m.value ≡ route.Mailbox
+pub router_finds_route : (k l m : RouteOf Route) (path : List ℕ) (r : Option Route) → ((i : ℕ) → get_or path i 0 < 256) → k.value ≡ route.Charges → l.value ≡ route.Sheet → m.value ≡ route.Mailbox
     → MatchOption (seek 0 ((codes "/charges", k) ∷ (codes "/mailbox/" ++ 256 ∷ [], m) ∷ (codes "/simservs/" ++ 256 ∷ [], l) ∷ []) path) (r ≡ None) (λ found. r ≡ Some found.value) → r ≡ route_of path
-answer k l m path r small one two three h = by (named path) (rw (three-routes k l m path small) at h) ∙ alike path
+router_finds_route k l m path r small one two three h = by (named path) (rw (three-routes k l m path small) at h) ∙ routes_same path
   where
     by : (n : Named) → MatchOption (by_name k l m n) (r ≡ None) (λ found. r ≡ Some found.value) → r ≡ route_named n
     by charges e = e ∙ ap (λ (v : Route). Some v) one

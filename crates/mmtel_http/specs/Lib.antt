@@ -2,9 +2,9 @@
 pub mod Heads
 pub mod Requests
 pub mod Expectations
-pub mod Seen
+pub mod Views
 pub mod Replies
-pub mod Places
-pub mod Standing
+pub mod Resources
+pub mod Completeness
 
 -- Definitions that only private functions cite: none.

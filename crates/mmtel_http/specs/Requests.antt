@@ -6,16 +6,16 @@ use Rattle.std.specs.Str.{str_eq_ignore_ascii_case}
 use Rattle.std.specs.Option.{option_map, option_map_or}
 use Rattle.httparse.specs.Grammar.{RequestHead}
 use Rattle.httparse.specs.Spans.{name_and_value}
-use Rattle.mmtel_scan.specs.Classes.{in_class}
-use Rattle.mmtel_scan.specs.declared.classes.Class.TheVariants.{Digit}
-use Rattle.mmtel_scan.specs.Numbers.{number_of}
+use Rattle.mmtel_base.specs.Classes.{in_class}
+use Rattle.mmtel_base.specs.declared.classes.Class.TheVariants.{Digit}
+use Rattle.mmtel_base.specs.Numbers.{number_of}
 use Rattle.mmtel_http.specs.Heads.{head_of}
 use Rattle.mmtel_http.specs.declared.wholes.Whole.{Whole}
 use Rattle.mmtel_http.specs.declared.wholes.Whole.TheVariants.{More, Done, Bad, Large}
 
 -- a request: the method, the target, the one value of the field of the asserted identity (3GPP TS 24.109 §6) and of Content-Type where there is exactly one, the body, and its
 -- length in bytes
-pub record Asking : Type 0 where
+pub record HttpRequestView : Type 0 where
   pub method : List ℕ
   pub target : List ℕ
   pub identity : Option (List ℕ)
@@ -23,11 +23,11 @@ pub record Asking : Type 0 where
   pub body : List ℕ
   pub len : ℕ
 
-pub data Request : Type 0 where
-  unfinished : Request
-  bad : Request
-  large : Request
-  asked : Asking → Request
+pub data ParsedRequestView : Type 0 where
+  unfinished : ParsedRequestView
+  bad : ParsedRequestView
+  large : ParsedRequestView
+  parsed : HttpRequestView → ParsedRequestView
 
 -- ---- the end of a head
 
@@ -76,73 +76,73 @@ values_named name (f ∷ rest) =
     else values_named name rest
 
 -- the one value
-abbrev pub sole : List (List ℕ) → Option (List ℕ)
-sole [] = None
-sole (v ∷ []) = Some v
-sole (v ∷ w ∷ rest) = None
+abbrev pub sole_value : List (List ℕ) → Option (List ℕ)
+sole_value [] = None
+sole_value (v ∷ []) = Some v
+sole_value (v ∷ w ∷ rest) = None
 
 -- digits only, one or more
-abbrev pub is_number : List ℕ → Bool
-is_number v = nat_lt 0 (length v) && list_all (in_class Digit) v
+abbrev pub is_decimal_number : List ℕ → Bool
+is_decimal_number v = nat_lt 0 (length v) && list_all (in_class Digit) v
 
 -- the maximum length of a body
-abbrev pub greatest : ℕ
-greatest = 65536
+abbrev pub max_body : ℕ
+max_body = 65536
 
 -- with a body of so many bytes
-abbrev pub with_body : Asking → ℕ → Request
+abbrev pub with_body : HttpRequestView → ℕ → ParsedRequestView
 with_body a size =
-    if nat_le size (length a.body) then asked (record a { body = take size a.body; len = a.len + size }) else unfinished
+    if nat_le size (length a.body) then parsed (record a { body = take size a.body; len = a.len + size }) else unfinished
 
 -- with a body of so many bytes, where they are not too many
-abbrev pub with_size : Asking → Option ℕ → Request
+abbrev pub with_size : HttpRequestView → Option ℕ → ParsedRequestView
 with_size a None = large
 with_size a (Some size) = with_body a size
 
 -- by the values of Content-Length
-abbrev pub by_lengths : Asking → List (List ℕ) → Request
-by_lengths a [] = with_body a 0
-by_lengths a (v ∷ []) = if is_number v then with_size a (number_of greatest v) else bad
-by_lengths a (v ∷ w ∷ rest) = bad
+abbrev pub request_by_lengths : HttpRequestView → List (List ℕ) → ParsedRequestView
+request_by_lengths a [] = with_body a 0
+request_by_lengths a (v ∷ []) = if is_decimal_number v then with_size a (number_of max_body v) else bad
+request_by_lengths a (v ∷ w ∷ rest) = bad
 
 -- by the values of Transfer-Encoding
-abbrev pub by_codings : Asking → List (List ℕ) → List (List ℕ) → Request
-by_codings a [] lengths = by_lengths a lengths
-by_codings a (v ∷ rest) lengths = bad
+abbrev pub request_by_codings : HttpRequestView → List (List ℕ) → List (List ℕ) → ParsedRequestView
+request_by_codings a [] lengths = request_by_lengths a lengths
+request_by_codings a (v ∷ rest) lengths = bad
 
 -- a head with these parts, and what follows it
-abbrev pub by_fields : List ℕ → List ℕ → List (List ℕ × List ℕ) → ℕ → List ℕ → Request
-by_fields method target fields len rest =
-    by_codings (record {
+abbrev pub request_by_fields : List ℕ → List ℕ → List (List ℕ × List ℕ) → ℕ → List ℕ → ParsedRequestView
+request_by_fields method target fields len rest =
+    request_by_codings (record {
       method = method;
       target = target;
-      identity = sole (values_named (codes "x-3gpp-asserted-identity") fields);
-      kind = sole (values_named (codes "content-type") fields);
+      identity = sole_value (values_named (codes "x-3gpp-asserted-identity") fields);
+      kind = sole_value (values_named (codes "content-type") fields);
       body = rest;
       len = len;
     }) (values_named (codes "transfer-encoding") fields) (values_named (codes "content-length") fields)
 
 -- ---- the whole
 
-abbrev pub by_head : Option RequestHead → ℕ → List ℕ → Request
-by_head None len rest = bad
-by_head (Some h) len rest = by_fields h.method h.target (map name_and_value h.fields) len rest
+abbrev pub request_by_head : Option RequestHead → ℕ → List ℕ → ParsedRequestView
+request_by_head None len rest = bad
+request_by_head (Some h) len rest = request_by_fields h.method h.target (map name_and_value h.fields) len rest
 
 -- the bytes within which a head has to end
-abbrev pub window : ℕ
-window = 8192
+abbrev pub head_window : ℕ
+head_window = 8192
 
-abbrev pub by_end : List ℕ → Option ℕ → Request
-by_end bytes None = if nat_lt window (length bytes) then bad else unfinished
-by_end bytes (Some n) = by_head (head_of (take n bytes)) n (drop n bytes)
+abbrev pub request_by_end : List ℕ → Option ℕ → ParsedRequestView
+request_by_end bytes None = if nat_lt head_window (length bytes) then bad else unfinished
+request_by_end bytes (Some n) = request_by_head (head_of (take n bytes)) n (drop n bytes)
 
 -- the request that the bytes contain
-unfoldable pub request_of : List ℕ → Request
-request_of bytes = by_end bytes (head_end (take window bytes))
+unfoldable pub request_of : List ℕ → ParsedRequestView
+request_of bytes = request_by_end bytes (head_end (take head_window bytes))
 
 -- whether they are a whole request
-abbrev pub whole_of : Request → Whole
+abbrev pub whole_of : ParsedRequestView → Whole
 whole_of unfinished = More
 whole_of bad = Bad
 whole_of large = Large
-whole_of (asked a) = Done a.len
+whole_of (parsed a) = Done a.len

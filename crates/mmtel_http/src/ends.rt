@@ -2,13 +2,13 @@
 ghost use Rattle.std.specs.Prelude.{◌≡◌, ◌≤◌, ◌∷◌, [], length, IfSome, MatchOption};
 ghost use Rattle.mmtel_http.specs.Requests.{IsFirstLine, head_end, is_empty_line, lines_of, seen_after};
 
-use mmtel_scan::part;
+use mmtel_base::split_once_at;
 
 /// The first line, without its LF, and what follows it; None where no LF ends one.
 fn first_line(bytes: &[u8]) -> Option<(&[u8], &[u8])>
     ensures { MatchOption result (lines_of bytes.now ≡ bytes.now ∷ []) (λ x. IsFirstLine bytes.now x.0.now x.1.now) }
 {
-    part(b'\n', bytes)
+    split_once_at(b'\n', bytes)
 }
 
 /// Whether the line has nothing, or a CR alone, before its LF.
@@ -36,7 +36,7 @@ fn seen_after(seen: bool, line: &[u8]) -> Option<bool>
 }
 
 /// The length of the head at the beginning of the bytes, where they have its end.
-#[tactic(auto, using(crate::proofs::LineLaws::begins, crate::proofs::LineLaws::ends, crate::proofs::LineLaws::goes_on, crate::proofs::LineLaws::never))]
+#[tactic(auto, using(crate::proofs::LineTheorems::begins, crate::proofs::LineTheorems::ends, crate::proofs::LineTheorems::goes_on, crate::proofs::LineTheorems::never))]
 pub fn head_end(bytes: &[u8]) -> Option<usize>
     ensures value { result ≡ head_end bytes.now }
     ensures within { IfSome result (λ n. n ≤ length bytes.now) }

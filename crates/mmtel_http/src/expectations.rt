@@ -2,7 +2,7 @@
 ghost use Rattle.std.specs.Prelude.{◌≡◌, length, map, All};
 ghost use Rattle.std.specs.List.{list_any};
 ghost use Rattle.httparse.specs.Spans.{header_bytes, IsHeaderWithin};
-ghost use Rattle.mmtel_http.specs.Expectations.{expects, is_expectation, waits_to_go_on};
+ghost use Rattle.mmtel_http.specs.Expectations.{expects_continue, is_expectation, waits_for_continue};
 ghost use Rattle.mmtel_http.specs.Heads.{head_of};
 
 use crate::heads::{end, spans_of};
@@ -31,8 +31,8 @@ fn has_expectation(head: &[u8], spans: &[HeaderSpan]) -> bool
 }
 
 /// Whether a head says so: one of HTTP/1.1 alone may.
-fn expects(head: &[u8]) -> bool
-    ensures { result ≡ expects (head_of head.now) }
+fn expects_continue(head: &[u8]) -> bool
+    ensures { result ≡ expects_continue (head_of head.now) }
 {
     let mut spans = [EMPTY_HEADER_SPAN; 64];
     match spans_of(head, &mut spans) {
@@ -44,11 +44,11 @@ fn expects(head: &[u8]) -> bool
 /// Whether the bytes of a connection are a head alone whose client waits for 100 (Continue) before it sends its body (RFC 9110 §10.1.1). It allocates nothing.
 ///
 /// Whether a body is to follow is not checked here: `whole` says whether more bytes are needed.
-pub fn waits_to_go_on(bytes: &[u8]) -> bool
-    ensures exact { result ≡ waits_to_go_on bytes.now }
+pub fn waits_for_continue(bytes: &[u8]) -> bool
+    ensures exact { result ≡ waits_for_continue bytes.now }
 {
     match end(bytes) {
-        Some(len) => len == bytes.len() && expects(bytes),
+        Some(len) => len == bytes.len() && expects_continue(bytes),
         None => false,
     }
 }

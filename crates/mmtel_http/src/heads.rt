@@ -2,8 +2,8 @@
 ghost use Rattle.std.specs.Prelude.{◌≡◌, ◌≤◌, length, take, None, IfSome, MatchOption};
 ghost use Rattle.httparse.specs.Spans.{IsRequestWithin};
 ghost use Rattle.mmtel_http.specs.Heads.{head_of};
-ghost use Rattle.mmtel_http.specs.Requests.{head_end, window};
-ghost use Rattle.mmtel_http.specs.Seen.{IsHeadAt};
+ghost use Rattle.mmtel_http.specs.Requests.{head_end, head_window};
+ghost use Rattle.mmtel_http.specs.Views.{IsHeadAt};
 
 use crate::ends::head_end;
 use httparse::Status;
@@ -11,8 +11,8 @@ use httparse::spans::{HeaderSpan, RequestSpans, parse_request};
 use mmtel_types::limits::WEB_HEAD_BYTES;
 
 /// The bytes within which a head has to end.
-fn window(bytes: &[u8]) -> &[u8]
-    ensures front { result.now ≡ take window bytes.now }
+fn head_window(bytes: &[u8]) -> &[u8]
+    ensures front { result.now ≡ take head_window bytes.now }
     ensures within { length result.now ≤ length bytes.now }
 {
     if bytes.len() > WEB_HEAD_BYTES {
@@ -24,10 +24,10 @@ fn window(bytes: &[u8]) -> &[u8]
 
 /// The length of the head, where it ends within the window.
 pub fn end(bytes: &[u8]) -> Option<usize>
-    ensures value { result ≡ head_end (take window bytes.now) }
+    ensures value { result ≡ head_end (take head_window bytes.now) }
     ensures within { IfSome result (λ n. n ≤ length bytes.now) }
 {
-    head_end(window(bytes))
+    head_end(head_window(bytes))
 }
 
 /// Where the parts of a head are, those of its fields in `spans`; None where the bytes are no head.

@@ -1,10 +1,10 @@
 //! The routes of the server.
 ghost use Rattle.std.specs.Prelude.{◌≡◌, MatchOption, IfOk, Some, None};
 ghost use Rattle.matchit.specs.Seek.{first};
-ghost use Rattle.mmtel_http.specs.Places.{route_of};
+ghost use Rattle.mmtel_http.specs.Resources.{route_of};
 
 use matchit::{InsertError, Router};
-use mmtel_scan::NoMemory;
+use mmtel_base::NoMemory;
 use std::alloc::Global;
 
 /// A route of the server.
@@ -19,7 +19,7 @@ pub enum Route {
 }
 
 /// The route that a router returns for a path.
-fn matched(router: &Router<Route>, path: &str) -> Option<Route>
+fn matched_route(router: &Router<Route>, path: &str) -> Option<Route>
     ensures { MatchOption (first router.now path.now) (result ≡ None) (λ route. result ≡ Some route.value) }
 {
     match router.at(path) {
@@ -29,14 +29,14 @@ fn matched(router: &Router<Route>, path: &str) -> Option<Route>
 }
 
 /// The route of a path, by a router of all routes.
-fn routed(alloc: Global, path: &str) -> Result<Option<Route>, InsertError>
+fn find_route(alloc: Global, path: &str) -> Result<Option<Route>, InsertError>
     ensures { IfOk result (λ route. route ≡ route_of path.now) }
 {
     let mut router = Router::new(alloc);
     router.insert("/charges", Route::Charges)?;
     router.insert("/simservs/{account}", Route::Sheet)?;
     router.insert("/mailbox/{account}", Route::Mailbox)?;
-    Ok(matched(&router, path))
+    Ok(matched_route(&router, path))
 }
 
 /// The route of a path.
@@ -47,7 +47,7 @@ fn routed(alloc: Global, path: &str) -> Result<Option<Route>, InsertError>
 pub fn route_of(alloc: Global, path: &str) -> Result<Option<Route>, NoMemory>
     ensures { IfOk result (λ route. route ≡ route_of path.now) }
 {
-    match routed(alloc, path) {
+    match find_route(alloc, path) {
         Ok(route) => Ok(route),
         Err(_) => Err(NoMemory),
     }

@@ -1,5 +1,5 @@
 -- Definitions that public contracts cite: a user of the crate has to trust them.
-pub mod Laws
+pub mod Theorems
 pub mod Restriction
 pub mod TrustDomain
 

@@ -8,8 +8,8 @@ use Rattle.mmtel_sheet_values.specs.declared.values.Restriction.{Restriction}
 use Rattle.mmtel_sheet_values.specs.declared.values.Sheet.{Sheet}
 
 -- a word requests that the identity is hidden
-abbrev pub hides_itself : PrivacySet → Bool
-hides_itself words = words.id || words.user || words.header
+abbrev pub asks_for_privacy : PrivacySet → Bool
+asks_for_privacy words = words.id || words.user || words.header
 
 -- the service restricts: always in its permanent mode, and in its temporary mode where it restricts by default and Privacy does not have the word `none`
 abbrev pub service_restricts : PrivacySet → Restriction → Bool
@@ -17,16 +17,16 @@ service_restricts words service = service.active && (service.permanent || (servi
 
 -- the words or the service restrict
 abbrev pub is_restricted : PrivacySet → Restriction → Bool
-is_restricted words service = hides_itself words || service_restricts words service
+is_restricted words service = asks_for_privacy words || service_restricts words service
 
 -- the caller is restricted, by the sheet of the account that is served as the caller, if one is
 abbrev pub is_caller_restricted : PrivacySet → Option Sheet → Bool
-is_caller_restricted words None = hides_itself words
+is_caller_restricted words None = asks_for_privacy words
 is_caller_restricted words (Some sheet) = is_restricted words sheet.oir
 
 -- a message of the called party is restricted, by the sheet of the account that is served as the called party, if one is
 abbrev pub is_callee_restricted : PrivacySet → Option Sheet → Bool
-is_callee_restricted words None = hides_itself words
+is_callee_restricted words None = asks_for_privacy words
 is_callee_restricted words (Some sheet) = is_restricted words sheet.tir
 
 -- the identity of the other side is presented to the party of the sheet, which is on this side of the call

@@ -2,13 +2,13 @@
 //! values (RFC 3325).
 #![tactic(auto)]
 
-mod laws;
 mod restriction;
+mod theorems;
 mod trust_domain;
 
-pub use laws::{
-    nothing_asked_is_not_restricted, permanent_mode_restricts, privacy_words_restrict,
-    restriction_has_three_grounds,
-};
 pub use restriction::{callee_restricted, caller_restricted, present_to};
+pub use theorems::{
+    permanent_mode_restricts, privacy_words_restrict, restriction_has_three_grounds,
+    unrequested_is_unrestricted,
+};
 pub use trust_domain::{if_trusted, is_in_trust_domain, shows_identity, unless_restricted};

@@ -12,13 +12,13 @@ pub fn is_in_trust_domain(known: Peer, trusted: bool, peer: Peer) -> bool
 }
 
 /// What a peer asserts of a user, which is accepted from a trusted peer alone (RFC 3324 §2.3, RFC 5502 §7.2).
-pub fn if_trusted<T: Drop>(trusted: bool, said: Option<T>) -> Option<T>
-    ensures exact { result ≡ if_trusted trusted said }
+pub fn if_trusted<T: Drop>(trusted: bool, value: Option<T>) -> Option<T>
+    ensures exact { result ≡ if_trusted trusted value }
 {
     if !trusted {
         return None;
     }
-    said
+    value
 }
 
 /// Whether the asserted identities of a message are passed on (RFC 3325 §5 and §7): those from a trusted peer, where the identity of the sender is presented to the other side,

@@ -6,7 +6,7 @@ use Rattle.std.specs.Int.{Width, w16, w32, w64, from_be_bytes, to_be_bytes}
 use Rattle.std.proofs.lemmas.Bool.{cases_Bool, ltb-false, le-ltb, eqb-true, eq-eqb}
 use Rattle.std.proofs.lemmas.List.{take_at, drop_at, take-append-drop, length-take}
 use Rattle.std.proofs.lemmas.Nat.{be_bytes_2, be_bytes_4, be_bytes_8, from_be_bytes-to_be_bytes_2, from_be_bytes-to_be_bytes_4, from_be_bytes-to_be_bytes_8}
-use Rattle.mmtel_scan.proofs.Runs.{and_true}
+use Rattle.mmtel_base.proofs.Runs.{and_true}
 use Rattle.mmtel_types.specs.Moments.{last_moment}
 use Rattle.mmtel_types.specs.declared.numbers.Account.{Account}
 use Rattle.mmtel_types.specs.declared.numbers.CallNo.{CallNo}
@@ -17,10 +17,10 @@ use Rattle.mmtel_types.specs.declared.causes.Cause.TheVariants.{Ended, Unacknowl
 use Rattle.mmtel_charging.specs.declared.rows.Kind.{Kind}
 use Rattle.mmtel_charging.specs.declared.rows.Kind.TheVariants.{Origin, Terminating, Diversion, Participant}
 use Rattle.mmtel_charging.specs.declared.rows.Row.{Row}
-use Rattle.mmtel_journal.specs.Payloads.{IsSheet, IsRow, kind_of, cause_of, cause_bytes, answered_of, begin_of, row_of, rows_of, sheet_of, sheets_of}
-use Rattle.mmtel_journal.specs.Fields.{byte_at, sized_at, moment_of, moment_at, kind_by, told_kind, kind_at, cause_by, told_cause, cause_at, told_answer, answered_at, account_at}
+use Rattle.mmtel_journal.specs.Payloads.{IsSheet, IsRow, kind_number, cause_numbers, cause_bytes, answered_bytes, begin_bytes, row_bytes, rows_bytes, sheet_bytes, sheets_bytes}
+use Rattle.mmtel_journal.specs.Fields.{byte_at, sized_at, moment_of, moment_at, kind_by, known_kind, kind_at, cause_by, known_cause, cause_at, known_answer_time, answered_at, account_at}
 use Rattle.mmtel_journal.specs.Fields.{call_at, pair_at, head_at, tail_at, row_from, row_at, text_at, sheet_at, then_read}
-use Rattle.mmtel_journal.proofs.Read.{IsBytes, IsBytes-take, guard_some}
+use Rattle.mmtel_journal.proofs.ReadRecords.{IsBytes, IsBytes-take, guard_some}
 use Rattle.mmtel_journal.proofs.Readers.{Reads, then_is, some_same, rest_bytes, pair_reads, made_reads, turned_reads, other_reads, text_reads, spelled_all}
 
 -- a test that a value passes
@@ -81,35 +81,35 @@ moment_given y le = (omega (arith, le), rw (le-ltb last_moment y le) refl)
 pub moment_reads : Reads (λ n. n ≤ last_moment) (to_be_bytes w64) moment_at
 moment_reads = made_reads (λ n. n < 2 ^ 64) (λ n. n ≤ last_moment) (to_be_bytes w64) (sized_at w64 8) moment_of (λ n. n) moment_made moment_given reads_64
 
-kind_made : (x : ℕ) (y : Kind) → x < 256 → told_kind x ≡ Some y → Unit {0} × (x ≡ kind_of y)
+kind_made : (x : ℕ) (y : Kind) → x < 256 → known_kind x ≡ Some y → Unit {0} × (x ≡ kind_number y)
 kind_made x y lt e =
-    let g = let_through (kind_of (kind_by x) == x) (kind_by x) y e in
-    (tt, sym (eqb-true _ _ g.0) ∙ ap kind_of g.1)
+    let g = let_through (kind_number (kind_by x) == x) (kind_by x) y e in
+    (tt, sym (eqb-true _ _ g.0) ∙ ap kind_number g.1)
 
-kind_given : (y : Kind) → Unit {0} → (kind_of y < 256) × (told_kind (kind_of y) ≡ Some y)
+kind_given : (y : Kind) → Unit {0} → (kind_number y < 256) × (known_kind (kind_number y) ≡ Some y)
 kind_given Origin q = (omega arith, refl)
 kind_given Terminating q = (omega arith, refl)
 kind_given Diversion q = (omega arith, refl)
 kind_given Participant q = (omega arith, refl)
 
-pub kind_reads : Reads (λ (k : Kind). Unit {0}) (λ k. kind_of k ∷ []) kind_at
-kind_reads = made_reads (λ n. n < 256) (λ (k : Kind). Unit {0}) (λ n. n ∷ []) byte_at told_kind kind_of kind_made kind_given byte_reads
+pub kind_reads : Reads (λ (k : Kind). Unit {0}) (λ k. kind_number k ∷ []) kind_at
+kind_reads = made_reads (λ n. n < 256) (λ (k : Kind). Unit {0}) (λ n. n ∷ []) byte_at known_kind kind_number kind_made kind_given byte_reads
 
 same_code : (n : ℕ) → (n == n) ≡ true
 same_code n = eq-eqb n n refl
 
-cause_made : (x : ℕ × ℕ) (y : Cause) → (x.0 < 256) × (x.1 < 2 ^ 16) → told_cause x.0 x.1 ≡ Some y → ((cause_of y).1 < 2 ^ 16) × (x ≡ cause_of y)
+cause_made : (x : ℕ × ℕ) (y : Cause) → (x.0 < 256) × (x.1 < 2 ^ 16) → known_cause x.0 x.1 ≡ Some y → ((cause_numbers y).1 < 2 ^ 16) × (x ≡ cause_numbers y)
 cause_made x y lt e =
     let cause = cause_by x.0 x.1 in
-    let g = let_through (((cause_of cause).0 == x.0) && ((cause_of cause).1 == x.1)) cause y e in
-    let both = and_true ((cause_of cause).0 == x.0) ((cause_of cause).1 == x.1) g.0 in
-    let place : (cause_of cause).0 ≡ x.0 = eqb-true _ _ both.0 in
-    let code : (cause_of cause).1 ≡ x.1 = eqb-true _ _ both.1 in
-    let whole : x ≡ cause_of cause = λ i. (sym place i, sym code i) in
-    let its : x ≡ cause_of y = whole ∙ ap cause_of g.1 in
+    let g = let_through (((cause_numbers cause).0 == x.0) && ((cause_numbers cause).1 == x.1)) cause y e in
+    let both = and_true ((cause_numbers cause).0 == x.0) ((cause_numbers cause).1 == x.1) g.0 in
+    let place : (cause_numbers cause).0 ≡ x.0 = eqb-true _ _ both.0 in
+    let code : (cause_numbers cause).1 ≡ x.1 = eqb-true _ _ both.1 in
+    let whole : x ≡ cause_numbers cause = λ i. (sym place i, sym code i) in
+    let its : x ≡ cause_numbers y = whole ∙ ap cause_numbers g.1 in
     (subst (λ (n : ℕ × ℕ). n.1 < 2 ^ 16) its lt.1, its)
 
-cause_given : (y : Cause) → (cause_of y).1 < 2 ^ 16 → (((cause_of y).0 < 256) × ((cause_of y).1 < 2 ^ 16)) × (told_cause (cause_of y).0 (cause_of y).1 ≡ Some y)
+cause_given : (y : Cause) → (cause_numbers y).1 < 2 ^ 16 → (((cause_numbers y).0 < 256) × ((cause_numbers y).1 < 2 ^ 16)) × (known_cause (cause_numbers y).0 (cause_numbers y).1 ≡ Some y)
 cause_given OutgoingBarred q = ((omega arith, q), refl)
 cause_given IncomingBarred q = ((omega arith, q), refl)
 cause_given AnonymousRejected q = ((omega arith, q), refl)
@@ -132,10 +132,10 @@ cause_given Full q = ((omega arith, q), refl)
 cause_given Ended q = ((omega arith, q), refl)
 cause_given Unacknowledged q = ((omega arith, q), refl)
 
-pub cause_reads : Reads (λ c. (cause_of c).1 < 2 ^ 16) cause_bytes cause_at
+pub cause_reads : Reads (λ c. (cause_numbers c).1 < 2 ^ 16) cause_bytes cause_at
 cause_reads =
-    made_reads (λ (n : ℕ × ℕ). (n.0 < 256) × (n.1 < 2 ^ 16)) (λ c. (cause_of c).1 < 2 ^ 16) (λ n. (n.0 ∷ []) ++ to_be_bytes w16 n.1) (pair_at byte_at (sized_at w16 2))
-    (λ n. told_cause n.0 n.1) cause_of
+    made_reads (λ (n : ℕ × ℕ). (n.0 < 256) × (n.1 < 2 ^ 16)) (λ c. (cause_numbers c).1 < 2 ^ 16) (λ n. (n.0 ∷ []) ++ to_be_bytes w16 n.1) (pair_at byte_at (sized_at w16 2))
+    (λ n. known_cause n.0 n.1) cause_numbers
     cause_made cause_given (pair_reads (λ n. n < 256) (λ n. n < 2 ^ 16) (λ n. n ∷ []) (to_be_bytes w16) byte_at (sized_at w16 2) byte_reads reads_16)
 
 -- the flag and the moment of the answer time
@@ -143,37 +143,37 @@ abbrev flags : Option ℕ → ℕ × ℕ
 flags None = (0, 0)
 flags (Some moment) = (1, moment)
 
-abbrev IsAnswer : Option ℕ → Type 0
-IsAnswer answer = IfSome answer (λ moment. moment ≤ last_moment)
+abbrev IsAnswerTime : Option ℕ → Type 0
+IsAnswerTime answer = IfSome answer (λ moment. moment ≤ last_moment)
 
 pair_same : (x : ℕ × ℕ) (a b : ℕ) → x.0 ≡ a → x.1 ≡ b → x ≡ (a, b)
 pair_same x a b first second = λ i. (first i, second i)
 
-answer_made : (x : ℕ × ℕ) (y : Option ℕ) → (x.0 < 256) × (x.1 ≤ last_moment) → told_answer x.0 x.1 ≡ Some y → IsAnswer y × (x ≡ flags y)
-answer_made x y p e =
+answer_time_made : (x : ℕ × ℕ) (y : Option ℕ) → (x.0 < 256) × (x.1 ≤ last_moment) → known_answer_time x.0 x.1 ≡ Some y → IsAnswerTime y × (x ≡ flags y)
+answer_time_made x y p e =
     elim (cases_Bool (x.0 == 1)) [
       | inl one ↦
           let same : Some x.1 ≡ y = some_same (Some x.1) y (rw one at e) in
-          subst (λ (o : Option ℕ). IsAnswer o × (x ≡ flags o)) same (p.1, pair_same x 1 x.1 (eqb-true x.0 1 one) refl)
+          subst (λ (o : Option ℕ). IsAnswerTime o × (x ≡ flags o)) same (p.1, pair_same x 1 x.1 (eqb-true x.0 1 one) refl)
       | inr other ↦
           let g = let_through ((x.0 == 0) && (x.1 == 0)) None y (rw other at e) in
           let both = and_true (x.0 == 0) (x.1 == 0) g.0 in
-          subst (λ (o : Option ℕ). IsAnswer o × (x ≡ flags o)) g.1 (tt, pair_same x 0 0 (eqb-true x.0 0 both.0) (eqb-true x.1 0 both.1))
+          subst (λ (o : Option ℕ). IsAnswerTime o × (x ≡ flags o)) g.1 (tt, pair_same x 0 0 (eqb-true x.0 0 both.0) (eqb-true x.1 0 both.1))
     ]
 
-answer_given : (y : Option ℕ) → IsAnswer y → (((flags y).0 < 256) × ((flags y).1 ≤ last_moment)) × (told_answer (flags y).0 (flags y).1 ≡ Some y)
-answer_given None q = ((omega arith, omega arith), refl)
-answer_given (Some moment) q = ((omega arith, q), refl)
+answer_time_given : (y : Option ℕ) → IsAnswerTime y → (((flags y).0 < 256) × ((flags y).1 ≤ last_moment)) × (known_answer_time (flags y).0 (flags y).1 ≡ Some y)
+answer_time_given None q = ((omega arith, omega arith), refl)
+answer_time_given (Some moment) q = ((omega arith, q), refl)
 
-answer_spelled : (y : Option ℕ) → ((flags y).0 ∷ []) ++ to_be_bytes w64 (flags y).1 ≡ answered_of y
-answer_spelled None = refl
-answer_spelled (Some moment) = refl
+answer_time_encoded : (y : Option ℕ) → ((flags y).0 ∷ []) ++ to_be_bytes w64 (flags y).1 ≡ answered_bytes y
+answer_time_encoded None = refl
+answer_time_encoded (Some moment) = refl
 
-pub answered_reads : Reads IsAnswer answered_of answered_at
+pub answered_reads : Reads IsAnswerTime answered_bytes answered_at
 answered_reads =
-    other_reads IsAnswer IsAnswer (λ y. ((flags y).0 ∷ []) ++ to_be_bytes w64 (flags y).1) answered_of answered_at (λ y q. q) (λ y q. q) answer_spelled
-    (made_reads (λ (n : ℕ × ℕ). (n.0 < 256) × (n.1 ≤ last_moment)) IsAnswer (λ n. (n.0 ∷ []) ++ to_be_bytes w64 n.1) (pair_at byte_at moment_at) (λ n. told_answer n.0 n.1) flags
-    answer_made answer_given (pair_reads (λ n. n < 256) (λ n. n ≤ last_moment) (λ n. n ∷ []) (to_be_bytes w64) byte_at moment_at byte_reads moment_reads))
+    other_reads IsAnswerTime IsAnswerTime (λ y. ((flags y).0 ∷ []) ++ to_be_bytes w64 (flags y).1) answered_bytes answered_at (λ y q. q) (λ y q. q) answer_time_encoded
+    (made_reads (λ (n : ℕ × ℕ). (n.0 < 256) × (n.1 ≤ last_moment)) IsAnswerTime (λ n. (n.0 ∷ []) ++ to_be_bytes w64 n.1) (pair_at byte_at moment_at) (λ n. known_answer_time n.0 n.1) flags
+    answer_time_made answer_time_given (pair_reads (λ n. n < 256) (λ n. n ≤ last_moment) (λ n. n ∷ []) (to_be_bytes w64) byte_at moment_at byte_reads moment_reads))
 
 pub account_reads : Reads (λ (a : Account). a.0 < 2 ^ 32) (λ a. to_be_bytes w32 a.0) account_at
 account_reads =
@@ -213,13 +213,13 @@ abbrev IsEnd : End → Type 0
 IsEnd e = (e.0 ≤ last_moment) × (e.1 < 2 ^ 32)
 
 abbrev IsTail : Tail → Type 0
-IsTail t = IsEnd t.0 × ((cause_of t.1).1 < 2 ^ 16)
+IsTail t = IsEnd t.0 × ((cause_numbers t.1).1 < 2 ^ 16)
 
 abbrev IsParts : Parts → Type 0
-IsParts p = (IsPart p.0.0 × IsBegin p.0.1) × (IsAnswer p.1.0 × IsTail p.1.1)
+IsParts p = (IsPart p.0.0 × IsBegin p.0.1) × (IsAnswerTime p.1.0 × IsTail p.1.1)
 
 abbrev part_spelled : Part → List ℕ
-part_spelled p = (kind_of p.0 ∷ []) ++ to_be_bytes w32 p.1.0
+part_spelled p = (kind_number p.0 ∷ []) ++ to_be_bytes w32 p.1.0
 
 abbrev begin_spelled : Begin → List ℕ
 begin_spelled b = to_be_bytes w64 b.0.0 ++ to_be_bytes w64 b.1
@@ -234,13 +234,13 @@ abbrev tail_spelled : Tail → List ℕ
 tail_spelled t = end_spelled t.0 ++ cause_bytes t.1
 
 abbrev middle_spelled : Option ℕ × Tail → List ℕ
-middle_spelled m = answered_of m.0 ++ tail_spelled m.1
+middle_spelled m = answered_bytes m.0 ++ tail_spelled m.1
 
 abbrev parts_spelled : Parts → List ℕ
 parts_spelled p = head_spelled p.0 ++ middle_spelled p.1
 
 part_reads : Reads IsPart part_spelled (pair_at kind_at account_at)
-part_reads = pair_reads (λ k. Unit {0}) (λ a. a.0 < 2 ^ 32) (λ k. kind_of k ∷ []) (λ a. to_be_bytes w32 a.0) kind_at account_at kind_reads account_reads
+part_reads = pair_reads (λ k. Unit {0}) (λ a. a.0 < 2 ^ 32) (λ k. kind_number k ∷ []) (λ a. to_be_bytes w32 a.0) kind_at account_at kind_reads account_reads
 
 begin_reads : Reads IsBegin begin_spelled (pair_at call_at moment_at)
 begin_reads = pair_reads (λ c. c.0 < 2 ^ 64) (λ n. n ≤ last_moment) (λ c. to_be_bytes w64 c.0) (to_be_bytes w64) call_at moment_at call_reads moment_reads
@@ -249,13 +249,13 @@ end_reads : Reads IsEnd end_spelled (pair_at moment_at (sized_at w32 4))
 end_reads = pair_reads (λ n. n ≤ last_moment) (λ n. n < 2 ^ 32) (to_be_bytes w64) (to_be_bytes w32) moment_at (sized_at w32 4) moment_reads reads_32
 
 tail_reads : Reads IsTail tail_spelled tail_at
-tail_reads = pair_reads IsEnd (λ c. (cause_of c).1 < 2 ^ 16) end_spelled cause_bytes (pair_at moment_at (sized_at w32 4)) cause_at end_reads cause_reads
+tail_reads = pair_reads IsEnd (λ c. (cause_numbers c).1 < 2 ^ 16) end_spelled cause_bytes (pair_at moment_at (sized_at w32 4)) cause_at end_reads cause_reads
 
 parts_reads : Reads IsParts parts_spelled (pair_at head_at (pair_at answered_at tail_at))
 parts_reads =
-    pair_reads (λ (h : Head). IsPart h.0 × IsBegin h.1) (λ (m : Option ℕ × Tail). IsAnswer m.0 × IsTail m.1) head_spelled middle_spelled head_at (pair_at answered_at tail_at)
+    pair_reads (λ (h : Head). IsPart h.0 × IsBegin h.1) (λ (m : Option ℕ × Tail). IsAnswerTime m.0 × IsTail m.1) head_spelled middle_spelled head_at (pair_at answered_at tail_at)
     (pair_reads IsPart IsBegin part_spelled begin_spelled (pair_at kind_at account_at) (pair_at call_at moment_at) part_reads begin_reads)
-    (pair_reads IsAnswer IsTail answered_of tail_spelled answered_at tail_at answered_reads tail_reads)
+    (pair_reads IsAnswerTime IsTail answered_bytes tail_spelled answered_at tail_at answered_reads tail_reads)
 
 abbrev parts_of : Row → Parts
 parts_of row = (((row.kind, row.account), (row.call, row.began)), (row.answered, ((row.ended, row.holds), row.cause)))
@@ -282,12 +282,12 @@ joined a b c d e =
     ap (λ (l : List ℕ). a ++ l) (ap (λ (l : List ℕ). b ++ l) (append_assoc c d e) ∙ sym (append_assoc b c (d ++ e)) ∙ sym (append_assoc (b ++ c) d e))
     ∙ sym (append_assoc a (b ++ c ++ d) e) ∙ ap (λ (l : List ℕ). l ++ e) (sym (append_assoc a (b ++ c) d) ∙ ap (λ (l : List ℕ). l ++ d) (sym (append_assoc a b c)))
 
-row_spelled : (row : Row) → parts_spelled (parts_of row) ≡ row_of row
-row_spelled row = joined (begin_of row) (answered_of row.answered) (to_be_bytes w64 row.ended) (to_be_bytes w32 row.holds) (cause_bytes row.cause)
+row_spelled : (row : Row) → parts_spelled (parts_of row) ≡ row_bytes row
+row_spelled row = joined (begin_bytes row) (answered_bytes row.answered) (to_be_bytes w64 row.ended) (to_be_bytes w32 row.holds) (cause_bytes row.cause)
 
-pub row_reads : Reads IsRow row_of row_at
+pub row_reads : Reads IsRow row_bytes row_at
 row_reads =
-    other_reads IsRow IsRow (λ row. parts_spelled (parts_of row)) row_of row_at (λ row is. is) (λ row is. is) row_spelled
+    other_reads IsRow IsRow (λ row. parts_spelled (parts_of row)) row_bytes row_at (λ row is. is) (λ row is. is) row_spelled
     (turned_reads IsParts IsRow parts_spelled (pair_at head_at (pair_at answered_at tail_at)) row_from parts_of row_made row_given parts_reads)
 
 -- a text after its length
@@ -310,19 +310,19 @@ long_reads = record {
       ∙ (text_reads (length text)).again text rest refl;
 }
 
-sheet_spelled : (sheet : Account × List ℕ) → to_be_bytes w32 sheet.0.0 ++ long_spelled sheet.1 ≡ sheet_of sheet
+sheet_spelled : (sheet : Account × List ℕ) → to_be_bytes w32 sheet.0.0 ++ long_spelled sheet.1 ≡ sheet_bytes sheet
 sheet_spelled sheet = sym (append_assoc (to_be_bytes w32 sheet.0.0) (to_be_bytes w64 (length sheet.1)) sheet.1)
 
-pub sheet_reads : Reads IsSheet sheet_of sheet_at
+pub sheet_reads : Reads IsSheet sheet_bytes sheet_at
 sheet_reads =
-    other_reads IsSheet IsSheet (λ sheet. to_be_bytes w32 sheet.0.0 ++ long_spelled sheet.1) sheet_of sheet_at (λ s is. is) (λ s is. is) sheet_spelled
+    other_reads IsSheet IsSheet (λ sheet. to_be_bytes w32 sheet.0.0 ++ long_spelled sheet.1) sheet_bytes sheet_at (λ s is. is) (λ s is. is) sheet_spelled
     (pair_reads (λ a. a.0 < 2 ^ 32) (λ text. length text < 2 ^ 64) (λ a. to_be_bytes w32 a.0) long_spelled account_at
     (λ bytes. then_read (sized_at w64 8 bytes) text_at) account_reads long_reads)
 
-pub all_rows : (rows : List Row) → spelled_all row_of rows ≡ rows_of rows
+pub all_rows : (rows : List Row) → spelled_all row_bytes rows ≡ rows_bytes rows
 all_rows [] = refl
-all_rows (row ∷ rows) = ap (λ (l : List ℕ). row_of row ++ l) (all_rows rows)
+all_rows (row ∷ rows) = ap (λ (l : List ℕ). row_bytes row ++ l) (all_rows rows)
 
-pub all_sheets : (sheets : List (Account × List ℕ)) → spelled_all sheet_of sheets ≡ sheets_of sheets
+pub all_sheets : (sheets : List (Account × List ℕ)) → spelled_all sheet_bytes sheets ≡ sheets_bytes sheets
 all_sheets [] = refl
-all_sheets (sheet ∷ sheets) = ap (λ (l : List ℕ). sheet_of sheet ++ l) (all_sheets sheets)
+all_sheets (sheet ∷ sheets) = ap (λ (l : List ℕ). sheet_bytes sheet ++ l) (all_sheets sheets)

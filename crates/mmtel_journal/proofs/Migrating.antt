@@ -10,8 +10,8 @@ use Rattle.mmtel_types.specs.declared.numbers.Account.{Account}
 use Rattle.mmtel_sheet_grammar.specs.Texts.{old_sheet}
 use Rattle.mmtel_sheet_values.specs.declared.values.Sheet.{Sheet}
 use Rattle.mmtel_sheet_texts.specs.Texts.{put, set_text}
-use Rattle.mmtel_keeper.specs.Migration.{AreMigrated, IsMigrated, is_old, old_ones}
-use Rattle.mmtel_journal.specs.Migrating.{set_all, sheets_in, AreReplacements, AreWithin}
+use Rattle.mmtel_keeper.specs.Migration.{AreMigrated, IsMigrated, first_version_count, is_first_version}
+use Rattle.mmtel_journal.specs.Migrating.{set_all, sheets_in, AreReplacements, AreInRange}
 use Rattle.mmtel_journal.specs.Payloads.{put_sheets, NoneOf, EachOnce}
 
 abbrev Sheet_ : Type 0
@@ -34,8 +34,8 @@ GivenWay (suc k) (x ∷ xs) (y ∷ ys) = (y.0 ≡ x.0) × IsMigrated x.1 y.1 × 
 -- the records found so far, each with its index
 pub record AreFound (k : ℕ) (sheets : Sheets) (found : List New) : Type 0 where
   pub given : GivenWay k sheets (set_all found sheets)
-  pub many : length found ≡ count_by is_old (take k sheets)
-  pub within : AreWithin k found
+  pub many : length found ≡ count_by is_first_version (take k sheets)
+  pub within : AreInRange k found
   pub puts : EachOnce sheets → put_sheets (sheets_in found) sheets ≡ set_all found sheets
 
 none_given : (sheets : Sheets) → GivenWay zero sheets sheets
@@ -85,13 +85,13 @@ put_last [] new sheets = refl
 put_last (first ∷ found) new sheets = ap (λ (l : Sheets). set_text l first.0 first.1.1) (put_last found new sheets)
 
 put_behind : (found : List New) (k : ℕ) (text : List ℕ) (sheets : Sheets)
-    → AreWithin k found → set_all found (set_text sheets k text) ≡ set_text (set_all found sheets) k text
+    → AreInRange k found → set_all found (set_text sheets k text) ≡ set_text (set_all found sheets) k text
 put_behind [] k text sheets within = refl
 put_behind (new ∷ found) k text sheets within =
     ap (λ (l : Sheets). set_text l new.0 new.1.1) (put_behind found k text sheets (All-tail (λ (n : New). n.0 < k) new found within))
     ∙ apart (set_all found sheets) new.0 k new.1.1 text (All-head (λ (n : New). n.0 < k) new found within)
 
-further : (k : ℕ) (found : List New) → AreWithin k found → AreWithin (k + 1) found
+further : (k : ℕ) (found : List New) → AreInRange k found → AreInRange (k + 1) found
 further k found within = All-weaker (λ (n : New). n.0 < k) (λ (n : New). n.0 < k + 1) (λ n lt. omega arith) found within
 
 -- ---- by account, instead of by index
@@ -149,7 +149,7 @@ begun sheets = record { given = none_given sheets; many = refl; within = search 
 pub ended : (sheets : Sheets) (found : List New) → AreFound (length sheets) sheets found → AreReplacements sheets found
 ended sheets found are = record {
   migrated = all_given sheets (set_all found sheets) are.given;
-  many = are.many ∙ ap (λ (l : Sheets). old_ones l) (take_all (length sheets) sheets (omega arith));
+  many = are.many ∙ ap (λ (l : Sheets). first_version_count l) (take_all (length sheets) sheets (omega arith));
   within = are.within;
   puts = are.puts;
 }
@@ -172,7 +172,7 @@ passed sheets found k x within at none are =
     record {
       given = subst (λ (n : ℕ). GivenWay n sheets (set_all found sheets)) (next k)
           (kept k sheets (set_all found sheets) x within (not_old (get_or sheets k x).1 there) are.given);
-      many = are.many ∙ sym (count_by_more_no is_old sheets k x within there);
+      many = are.many ∙ sym (count_by_more_no is_first_version sheets k x within there);
       within = further k found are.within;
       puts = are.puts;
     }
@@ -192,7 +192,7 @@ added sheets found k x text within at some is are =
     let long : k < length (set_all found sheets) = omega (arith, within, length_given k sheets (set_all found sheets) are.given) in
     record {
       given = subst (λ (l : Sheets). GivenWay (k + 1) sheets l) (sym whole) put_there;
-      many = omega (arith, length-append found (new ∷ []), are.many, count_by_more_yes is_old sheets k x within there);
+      many = omega (arith, length-append found (new ∷ []), are.many, count_by_more_yes is_first_version sheets k x within there);
       within = All-push (λ (n : New). n.0 < k + 1) found new (further k found are.within) (omega arith);
       puts = λ once. sheets_push found new sheets ∙ ap (put x.0 text) (are.puts once)
           ∙ put_is_set (set_all found sheets) k x.0 text x long its (once_all found sheets once) ∙ sym whole;

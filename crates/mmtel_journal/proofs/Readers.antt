@@ -5,8 +5,8 @@ use Rattle.std.specs.Prelude.{All}
 use Rattle.std.proofs.lemmas.Bool.{ltb-false, le-ltb}
 use Rattle.std.proofs.lemmas.List.{take_at, drop_at, take-append-drop, length-take, get_or-append_right}
 use Rattle.std.proofs.lemmas.List.Elements.{All-nil, All-cons, All-head, All-tail}
-use Rattle.mmtel_journal.specs.Fields.{then_read, pair_at, made_of, text_at, many_at}
-use Rattle.mmtel_journal.proofs.Read.{IsBytes, guard_some}
+use Rattle.mmtel_journal.specs.Fields.{then_read, pair_at, parsed_value, text_at, many_at}
+use Rattle.mmtel_journal.proofs.ReadRecords.{IsBytes, guard_some}
 
 pub record Reads {X : Type 0} (P : X → Type 0) (spell : X → List ℕ) (read : List ℕ → Option (X × List ℕ)) : Type 0 where
   pub takes : (bytes : List ℕ) (found : X × List ℕ) → IsBytes bytes → read bytes ≡ Some found → P found.0 × (bytes ≡ spell found.0 ++ found.1)
@@ -26,7 +26,7 @@ then_is (Some x) next found e = record { read = x; is = refl; then = e }
 pub some_same : {X : Type 0} (x y : X) → Some x ≡ Some y → x ≡ y
 some_same x y e = cc
 
-pub made_is : {Y : Type 0} (made : Option Y) (rest : List ℕ) (found : Y × List ℕ) → made_of made rest ≡ Some found → (made ≡ Some found.0) × (rest ≡ found.1)
+pub made_is : {Y : Type 0} (made : Option Y) (rest : List ℕ) (found : Y × List ℕ) → parsed_value made rest ≡ Some found → (made ≡ Some found.0) × (rest ≡ found.1)
 made_is None rest found e = absurd cc
 made_is (Some y) rest found e =
     let same = some_same (y, rest) found e in
@@ -65,7 +65,7 @@ pair_reads P Q spell_x spell_y first second reads_x reads_y = record {
 -- a value that is made of what was read, where there is one
 pub made_reads : {X Y : Type 0} (P : X → Type 0) (Q : Y → Type 0) (spell : X → List ℕ) (read : List ℕ → Option (X × List ℕ)) (make : X → Option Y) (back : Y → X)
     → ((x : X) (y : Y) → P x → make x ≡ Some y → Q y × (x ≡ back y)) → ((y : Y) → Q y → P (back y) × (make (back y) ≡ Some y))
-    → Reads P spell read → Reads Q (λ y. spell (back y)) (λ bytes. then_read (read bytes) (λ x rest. made_of (make x) rest))
+    → Reads P spell read → Reads Q (λ y. spell (back y)) (λ bytes. then_read (read bytes) (λ x rest. parsed_value (make x) rest))
 made_reads P Q spell read make back made given reads = record {
   takes = λ bytes found small e.
       let a = then_is (read bytes) _ found e in
@@ -76,8 +76,8 @@ made_reads P Q spell read make back made given reads = record {
       (y.0, front.1 ∙ ap (λ l. spell x.0 ++ l) b.1 ∙ ap (λ z. spell z ++ found.1) y.1);
   again = λ y rest q.
       let g = given y q in
-      ap (λ r. then_read r (λ x more. made_of (make x) more)) (reads.again (back y) rest g.0)
-      ∙ ap (λ o. made_of o rest) g.1;
+      ap (λ r. then_read r (λ x more. parsed_value (make x) more)) (reads.again (back y) rest g.0)
+      ∙ ap (λ o. parsed_value o rest) g.1;
 }
 
 -- a value that can always be built of what was read
@@ -130,12 +130,12 @@ module _ {X : Type 0} (P : X → Type 0) (spell : X → List ℕ) (read : List �
   pub record Many (count : ℕ) (bytes : List ℕ) (found : List X × List ℕ) : Type 0 where
     pub many : length found.0 ≡ count
     pub each : All P found.0
-    pub spelled : bytes ≡ spelled_all spell found.0 ++ found.1
+    pub encoded : bytes ≡ spelled_all spell found.0 ++ found.1
 
   pub many_takes : (count : ℕ) (bytes : List ℕ) (found : List X × List ℕ) → IsBytes bytes → many_at read count bytes ≡ Some found → Many count bytes found
   many_takes zero bytes found small e =
       let same : ([], bytes) ≡ found = some_same ([], bytes) found e in
-      subst (Many 0 bytes) same (record { many = refl; each = All-nil P; spelled = refl })
+      subst (Many 0 bytes) same (record { many = refl; each = All-nil P; encoded = refl })
   many_takes (suc count) bytes found small e =
       let a = then_is (read bytes) _ found e in
       let x = a.read in
@@ -147,7 +147,7 @@ module _ {X : Type 0} (P : X → Type 0) (spell : X → List ℕ) (read : List �
       subst (Many (suc count) bytes) same (record {
         many = ap (λ (n : ℕ). suc n) back.many;
         each = All-cons P x.0 xs.0 front.0 back.each;
-        spelled = front.1 ∙ ap (λ l. spell x.0 ++ l) back.spelled ∙ sym (append_assoc (spell x.0) (spelled_all spell xs.0) xs.1);
+        encoded = front.1 ∙ ap (λ l. spell x.0 ++ l) back.encoded ∙ sym (append_assoc (spell x.0) (spelled_all spell xs.0) xs.1);
       })
 
   pub many_again : (xs : List X) (rest : List ℕ) → All P xs → many_at read (length xs) (spelled_all spell xs ++ rest) ≡ Some (xs, rest)

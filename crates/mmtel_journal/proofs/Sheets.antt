@@ -5,18 +5,18 @@ use Rattle.std.proofs.lemmas.List.Elements.{All-push}
 use Rattle.std.proofs.lemmas.List.{append-nil, take_more}
 use Rattle.mmtel_types.specs.declared.numbers.Account.{Account}
 use Rattle.mmtel_journal.specs.Migrating.{sheets_in}
-use Rattle.mmtel_journal.specs.Payloads.{IsSheet, sheet_of, sheets_of}
+use Rattle.mmtel_journal.specs.Payloads.{IsSheet, sheet_bytes, sheets_bytes}
 
-sheets_push : (found : List (ℕ × (Account × List ℕ))) (new : ℕ × (Account × List ℕ)) → sheets_of (sheets_in (found ++ new ∷ [])) ≡ sheets_of (sheets_in found) ++ sheet_of new.1
-sheets_push [] new = append-nil (sheet_of new.1)
+sheets_push : (found : List (ℕ × (Account × List ℕ))) (new : ℕ × (Account × List ℕ)) → sheets_bytes (sheets_in (found ++ new ∷ [])) ≡ sheets_bytes (sheets_in found) ++ sheet_bytes new.1
+sheets_push [] new = append-nil (sheet_bytes new.1)
 sheets_push (first ∷ found) new =
-    ap (λ (l : List ℕ). sheet_of first.1 ++ l) (sheets_push found new) ∙ sym (append_assoc (sheet_of first.1) (sheets_of (sheets_in found)) (sheet_of new.1))
+    ap (λ (l : List ℕ). sheet_bytes first.1 ++ l) (sheets_push found new) ∙ sym (append_assoc (sheet_bytes first.1) (sheets_bytes (sheets_in found)) (sheet_bytes new.1))
 
 pub sheets_more : (found : List (ℕ × (Account × List ℕ))) (i : ℕ) (new : ℕ × (Account × List ℕ)) → i < length found → new ≡ get_or found i new
-    → sheets_of (sheets_in (take (i + 1) found)) ≡ sheets_of (sheets_in (take i found)) ++ sheet_of new.1
+    → sheets_bytes (sheets_in (take (i + 1) found)) ≡ sheets_bytes (sheets_in (take i found)) ++ sheet_bytes new.1
 sheets_more found i new lt is =
-    ap (λ (l : List (ℕ × (Account × List ℕ))). sheets_of (sheets_in l)) (take_more found i new lt) ∙ sheets_push (take i found) (get_or found i new)
-    ∙ ap (λ (n : ℕ × (Account × List ℕ)). sheets_of (sheets_in (take i found)) ++ sheet_of n.1) (sym is)
+    ap (λ (l : List (ℕ × (Account × List ℕ))). sheets_bytes (sheets_in l)) (take_more found i new lt) ∙ sheets_push (take i found) (get_or found i new)
+    ∙ ap (λ (n : ℕ × (Account × List ℕ)). sheets_bytes (sheets_in (take i found)) ++ sheet_bytes n.1) (sym is)
 
 -- the sheets of so many, and one more
 in_push : (found : List (ℕ × (Account × List ℕ))) (new : ℕ × (Account × List ℕ)) → sheets_in (found ++ new ∷ []) ≡ sheets_in found ++ new.1 ∷ []

@@ -1,7 +1,7 @@
 -- The count of a disk's faults after a call, by its result, and which fault of a keeper a fault of its disk is.
 use Rattle.std.specs.Prelude.{◌≡◌, ℕ, Ok, Err}
 use Rattle.std.specs.declared.result.Result.{Result}
-use Rattle.mmtel_outside.specs.Counts.{HasFaultCause}
+use Rattle.mmtel_environment.specs.Counts.{HasFaultCause}
 use Rattle.mmtel_journal.specs.declared.disks.DiskFault.{DiskFault}
 use Rattle.mmtel_journal.specs.declared.disks.DiskFault.TheVariants.{Failed, NoMemory}
 use Rattle.mmtel_journal.specs.declared.opening.JournalFault.{JournalFault}

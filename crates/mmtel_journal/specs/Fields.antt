@@ -11,7 +11,7 @@ use Rattle.mmtel_types.specs.declared.causes.Cause.TheVariants.{Ended, Unacknowl
 use Rattle.mmtel_charging.specs.declared.rows.Kind.{Kind}
 use Rattle.mmtel_charging.specs.declared.rows.Kind.TheVariants.{Origin, Terminating, Diversion, Participant}
 use Rattle.mmtel_charging.specs.declared.rows.Row.{Row}
-use Rattle.mmtel_journal.specs.Payloads.{kind_of, cause_of}
+use Rattle.mmtel_journal.specs.Payloads.{kind_number, cause_numbers}
 
 -- what is read after what was read before it
 abbrev pub then_read : {X Y : Type 0} → Option (X × List ℕ) → (X → List ℕ → Option (Y × List ℕ)) → Option (Y × List ℕ)
@@ -23,9 +23,9 @@ abbrev pub pair_at : {X Y : Type 0} → (List ℕ → Option (X × List ℕ)) �
 pair_at first second bytes = then_read (first bytes) (λ x behind. then_read (second behind) (λ y rest. Some ((x, y), rest)))
 
 -- a value that is built of what was read, where there is one
-abbrev pub made_of : {Y : Type 0} → Option Y → List ℕ → Option (Y × List ℕ)
-made_of None rest = None
-made_of (Some value) rest = Some (value, rest)
+abbrev pub parsed_value : {Y : Type 0} → Option Y → List ℕ → Option (Y × List ℕ)
+parsed_value None rest = None
+parsed_value (Some value) rest = Some (value, rest)
 
 abbrev pub byte_at : List ℕ → Option (ℕ × List ℕ)
 byte_at [] = None
@@ -39,7 +39,7 @@ abbrev pub moment_of : ℕ → Option ℕ
 moment_of number = if nat_lt last_moment number then None else Some number
 
 abbrev pub moment_at : List ℕ → Option (ℕ × List ℕ)
-moment_at bytes = then_read (sized_at w64 8 bytes) (λ number rest. made_of (moment_of number) rest)
+moment_at bytes = then_read (sized_at w64 8 bytes) (λ number rest. parsed_value (moment_of number) rest)
 
 -- the kind of this number, if any has it
 abbrev pub kind_by : ℕ → Kind
@@ -49,11 +49,11 @@ kind_by number =
     else if number == 2 then Diversion
     else Participant
 
-abbrev pub told_kind : ℕ → Option Kind
-told_kind number = if kind_of (kind_by number) == number then Some (kind_by number) else None
+abbrev pub known_kind : ℕ → Option Kind
+known_kind number = if kind_number (kind_by number) == number then Some (kind_by number) else None
 
 abbrev pub kind_at : List ℕ → Option (Kind × List ℕ)
-kind_at bytes = then_read (byte_at bytes) (λ number rest. made_of (told_kind number) rest)
+kind_at bytes = then_read (byte_at bytes) (λ number rest. parsed_value (known_kind number) rest)
 
 -- the cause of this position in the table and this code, if any has them
 abbrev pub cause_by : ℕ → ℕ → Cause
@@ -79,19 +79,19 @@ cause_by place code =
     else if place == 19 then Ended
     else Unacknowledged
 
-abbrev pub told_cause : ℕ → ℕ → Option Cause
-told_cause place code =
-    if ((cause_of (cause_by place code)).0 == place) && ((cause_of (cause_by place code)).1 == code) then Some (cause_by place code) else None
+abbrev pub known_cause : ℕ → ℕ → Option Cause
+known_cause place code =
+    if ((cause_numbers (cause_by place code)).0 == place) && ((cause_numbers (cause_by place code)).1 == code) then Some (cause_by place code) else None
 
 abbrev pub cause_at : List ℕ → Option (Cause × List ℕ)
-cause_at bytes = then_read (pair_at byte_at (sized_at w16 2) bytes) (λ numbers rest. made_of (told_cause numbers.0 numbers.1) rest)
+cause_at bytes = then_read (pair_at byte_at (sized_at w16 2) bytes) (λ numbers rest. parsed_value (known_cause numbers.0 numbers.1) rest)
 
 -- a flag, and a moment that is 0 after the flag 0
-abbrev pub told_answer : ℕ → ℕ → Option (Option ℕ)
-told_answer flag moment = if flag == 1 then Some (Some moment) else if (flag == 0) && (moment == 0) then Some None else None
+abbrev pub known_answer_time : ℕ → ℕ → Option (Option ℕ)
+known_answer_time flag moment = if flag == 1 then Some (Some moment) else if (flag == 0) && (moment == 0) then Some None else None
 
 abbrev pub answered_at : List ℕ → Option (Option ℕ × List ℕ)
-answered_at bytes = then_read (pair_at byte_at moment_at bytes) (λ told rest. made_of (told_answer told.0 told.1) rest)
+answered_at bytes = then_read (pair_at byte_at moment_at bytes) (λ told rest. parsed_value (known_answer_time told.0 told.1) rest)
 
 abbrev pub account_at : List ℕ → Option (Account × List ℕ)
 account_at bytes = then_read (sized_at w32 4 bytes) (λ number rest. Some (record { 0 = number }, rest))

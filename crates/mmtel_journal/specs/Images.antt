@@ -2,15 +2,15 @@
 use Rattle.std.proofs.Common.{◌≡◌, inl, inr, ℕ, ◌+◌, ◌-◌, ◌≤◌, List, [], ◌∷◌, ◌++◌, length, get_or, take, drop, refl, sym, ◌∙◌, ap, subst, arith, length-append, length-drop}
 use Rattle.std.proofs.lemmas.List.{length-take, take_all, get_or_append_left, get_or-append_right, get_or-take, get_or-drop}
 use Rattle.mmtel_journal.specs.Disks.{Torn}
-use Rattle.mmtel_journal.specs.Memory.{written, shown_after, AfterWrite, images, image_of, LeftSince}
-use Rattle.mmtel_journal.specs.declared.memory.Done.{Done}
-use Rattle.mmtel_journal.specs.declared.memory.Done.TheVariants.{Wrote, Tore, Synced, Kept}
+use Rattle.mmtel_journal.specs.Memory.{with_write, bytes_after_ops, AfterWrite, crash_images_after, crash_image_of, CrashImageSince}
+use Rattle.mmtel_journal.specs.declared.memory.DiskOp.{DiskOp}
+use Rattle.mmtel_journal.specs.declared.memory.DiskOp.TheVariants.{Wrote, Tore, Synced, Unchanged}
 
 pub torn_same : (at n : ℕ) (d : List ℕ) → Torn at n d d
 torn_same at n d = record { no_shorter = omega arith; stays = λ i lt out. refl }
 
 -- the completed write is one of the outcomes of a write that a stop interrupts
-pub torn_written : (at : ℕ) (new d : List ℕ) → Torn at (length new) d (written d at new)
+pub torn_written : (at : ℕ) (new d : List ℕ) → Torn at (length new) d (with_write d at new)
 torn_written at new d =
     let n = length new in
     let front : List ℕ = take at d ++ new in
@@ -29,20 +29,20 @@ torn_written at new d =
       ];
     }
 
-among : (calls : List Done) (bytes : List ℕ) (P : List ℕ → Type 0) → P bytes → images bytes P calls (shown_after bytes calls)
-among [] bytes P has = has
-among (Wrote at new ∷ calls) bytes P has = among calls (written bytes at new.items) (AfterWrite at new.items P) (bytes, has, torn_written at new.items bytes)
-among (Tore at new ∷ calls) bytes P has = among calls bytes (AfterWrite at new.items P) (bytes, has, torn_same at (length new.items) bytes)
-among (Synced ∷ calls) bytes P has = among calls bytes (λ d. d ≡ bytes) refl
-among (Kept ∷ calls) bytes P has = among calls bytes P has
+contents_are_possible : (calls : List DiskOp) (bytes : List ℕ) (P : List ℕ → Type 0) → P bytes → crash_images_after bytes P calls (bytes_after_ops bytes calls)
+contents_are_possible [] bytes P has = has
+contents_are_possible (Wrote at new ∷ calls) bytes P has = contents_are_possible calls (with_write bytes at new.items) (AfterWrite at new.items P) (bytes, has, torn_written at new.items bytes)
+contents_are_possible (Tore at new ∷ calls) bytes P has = contents_are_possible calls bytes (AfterWrite at new.items P) (bytes, has, torn_same at (length new.items) bytes)
+contents_are_possible (Synced ∷ calls) bytes P has = contents_are_possible calls bytes (λ d. d ≡ bytes) refl
+contents_are_possible (Unchanged ∷ calls) bytes P has = contents_are_possible calls bytes P has
 
-pub among_images : (first : List ℕ) (calls : List Done) → image_of first calls (shown_after first calls)
-among_images first calls = among calls first (λ d. d ≡ first) refl
+pub contents_are_an_image : (first : List ℕ) (calls : List DiskOp) → crash_image_of first calls (bytes_after_ops first calls)
+contents_are_an_image first calls = contents_are_possible calls first (λ d. d ≡ first) refl
 
-pub counts : (first : List ℕ) (calls : List Done) (t : ℕ) (c : List ℕ) → t ≤ length calls → image_of first calls c → LeftSince first calls t c
-counts first calls t c le left =
+pub images_are_since : (first : List ℕ) (calls : List DiskOp) (t : ℕ) (c : List ℕ) → t ≤ length calls → crash_image_of first calls c → CrashImageSince first calls t c
+images_are_since first calls t c le left =
     let all : take (length calls) calls ≡ calls = take_all (length calls) calls (omega arith) in
-    (length calls, le, omega arith, subst (λ (l : List Done). image_of first l c) (sym all) left)
+    (length calls, le, omega arith, subst (λ (l : List DiskOp). crash_image_of first l c) (sym all) left)
 
-pub only_since : (first : List ℕ) (calls : List Done) (c : List ℕ) → LeftSince first calls (length calls) c → image_of first calls c
-only_since first calls c since = subst (λ (l : List Done). image_of first l c) (take_all since.0 calls (omega (arith, since.1))) since.3
+pub since_last_is_image : (first : List ℕ) (calls : List DiskOp) (c : List ℕ) → CrashImageSince first calls (length calls) c → crash_image_of first calls c
+since_last_is_image first calls c since = subst (λ (l : List DiskOp). crash_image_of first l c) (take_all since.0 calls (omega (arith, since.1))) since.3

@@ -2,17 +2,17 @@
 pub mod Disks
 pub mod Faults
 pub mod Journal
-pub mod History
+pub mod JournalCalls
 pub mod Payloads
 pub mod Keepers
-pub mod Found
-pub mod Kept
+pub mod JournalContents
+pub mod KeeperCalls
 pub mod Opening
 pub mod Memory
 pub mod Files
 pub mod Images
 pub mod Reading
-pub mod Walks
+pub mod ReadLogs
 -- Definitions that only private functions cite.
 pub mod Gates
 pub mod Logs

@@ -2,7 +2,7 @@
 use Rattle.std.specs.Prelude.{◌≡◌, ◌<◌, ℕ, List, [], ◌∷◌, All, length}
 use Rattle.mmtel_types.specs.declared.numbers.Account.{Account}
 use Rattle.mmtel_sheet_texts.specs.Texts.{set_text}
-use Rattle.mmtel_keeper.specs.Migration.{AreMigrated, old_ones}
+use Rattle.mmtel_keeper.specs.Migration.{AreMigrated, first_version_count}
 use Rattle.mmtel_journal.specs.Payloads.{put_sheets, EachOnce}
 
 -- the sheets with these texts at their indices, from the last text to the first
@@ -16,12 +16,12 @@ sheets_in [] = []
 sheets_in (new ∷ more) = new.1 ∷ sheets_in more
 
 -- each of these has its index among so many sheets
-abbrev pub AreWithin : ℕ → List (ℕ × (Account × List ℕ)) → Type 0
-AreWithin many found = All (λ new. new.0 < many) found
+abbrev pub AreInRange : ℕ → List (ℕ × (Account × List ℕ)) → Type 0
+AreInRange many found = All (λ new. new.0 < many) found
 
 -- one for each record of the first version, which it replaces; put over the sheets of their accounts they give the same sheets
 pub record AreReplacements (sheets : List (Account × List ℕ)) (found : List (ℕ × (Account × List ℕ))) : Type 0 where
   pub migrated : AreMigrated sheets (set_all found sheets)
-  pub many : length found ≡ old_ones sheets
-  pub within : AreWithin (length sheets) found
+  pub many : length found ≡ first_version_count sheets
+  pub within : AreInRange (length sheets) found
   pub puts : EachOnce sheets → put_sheets (sheets_in found) sheets ≡ set_all found sheets

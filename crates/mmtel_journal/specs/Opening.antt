@@ -1,9 +1,9 @@
 -- The results of creating and opening a journal.
 use Rattle.std.specs.Prelude.{◌≡◌, ◌≢◌, ◌⊎◌, ℕ, List, Ok, Err}
 use Rattle.std.specs.declared.result.Result.{Result}
-use Rattle.mmtel_keeper.specs.Kept.{Held}
-use Rattle.mmtel_journal.specs.Found.{Finds}
-use Rattle.mmtel_journal.specs.Keepers.{held_of}
+use Rattle.mmtel_keeper.specs.Contents.{KeeperContents}
+use Rattle.mmtel_journal.specs.JournalContents.{IsJournalOf}
+use Rattle.mmtel_journal.specs.Keepers.{contents_of}
 use Rattle.mmtel_journal.specs.declared.disks.DiskFault.{DiskFault}
 use Rattle.mmtel_journal.specs.declared.disks.DiskFault.TheVariants as disk
 use Rattle.mmtel_journal.specs.declared.opening.JournalFault.{JournalFault}
@@ -29,10 +29,10 @@ OnBrokenAt P (NotEmpty len) = ⊥
 OnBrokenAt P NoMemory = Unit {0}
 
 -- the contents have P, unless the disk failed or memory ran out
-abbrev pub OpensAs : {D : Type 0} → (Held → Type 0) → Result (JournalKeeper D) (D × JournalFault) → Type 0
-OpensAs P (Ok k) = P (held_of k)
+abbrev pub OpensAs : {D : Type 0} → (KeeperContents → Type 0) → Result (JournalKeeper D) (D × JournalFault) → Type 0
+OpensAs P (Ok k) = P (contents_of k)
 OpensAs P (Err e) = (e.1 ≡ Failed) ⊎ (e.1 ≡ NoMemory)
 
 -- the bytes were opened: the result has their contents
 abbrev pub IsOpening : {D : Type 0} → List ℕ → Result (JournalKeeper D) (D × JournalFault) → Type 0
-IsOpening c result = (held : Held) → Finds held c → OpensAs (λ h. h ≡ held) result
+IsOpening c result = (held : KeeperContents) → IsJournalOf held c → OpensAs (λ h. h ≡ held) result

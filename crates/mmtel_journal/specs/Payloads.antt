@@ -11,78 +11,78 @@ use Rattle.mmtel_charging.specs.declared.rows.Kind.{Kind}
 use Rattle.mmtel_charging.specs.declared.rows.Kind.TheVariants.{Origin, Terminating, Diversion, Participant}
 use Rattle.mmtel_charging.specs.declared.rows.Row.{Row}
 use Rattle.mmtel_sheet_texts.specs.Texts.{put}
-use Rattle.mmtel_keeper.specs.Kept.{Held, with_rows}
+use Rattle.mmtel_keeper.specs.Contents.{KeeperContents, with_rows}
 
 -- the account, the length of its text, and the text
-abbrev pub sheet_of : Account × List ℕ → List ℕ
-sheet_of sheet = to_be_bytes w32 sheet.0.0 ++ to_be_bytes w64 (length sheet.1) ++ sheet.1
+abbrev pub sheet_bytes : Account × List ℕ → List ℕ
+sheet_bytes sheet = to_be_bytes w32 sheet.0.0 ++ to_be_bytes w64 (length sheet.1) ++ sheet.1
 
-abbrev pub sheets_of : List (Account × List ℕ) → List ℕ
-sheets_of [] = []
-sheets_of (sheet ∷ sheets) = sheet_of sheet ++ sheets_of sheets
+abbrev pub sheets_bytes : List (Account × List ℕ) → List ℕ
+sheets_bytes [] = []
+sheets_bytes (sheet ∷ sheets) = sheet_bytes sheet ++ sheets_bytes sheets
 
-abbrev pub kind_of : Kind → ℕ
-kind_of Origin = 0
-kind_of Terminating = 1
-kind_of Diversion = 2
-kind_of Participant = 3
+abbrev pub kind_number : Kind → ℕ
+kind_number Origin = 0
+kind_number Terminating = 1
+kind_number Diversion = 2
+kind_number Participant = 3
 
 -- a flag, and the moment, which is 0 where there is none
-abbrev pub answered_of : Option ℕ → List ℕ
-answered_of None = 0 ∷ to_be_bytes w64 0
-answered_of (Some moment) = 1 ∷ to_be_bytes w64 moment
+abbrev pub answered_bytes : Option ℕ → List ℕ
+answered_bytes None = 0 ∷ to_be_bytes w64 0
+answered_bytes (Some moment) = 1 ∷ to_be_bytes w64 moment
 
 -- the position of a cause in the table of causes, from 1, and its code
-abbrev pub cause_of : Cause → ℕ × ℕ
-cause_of OutgoingBarred = (1, 0)
-cause_of IncomingBarred = (2, 0)
-cause_of AnonymousRejected = (3, 0)
-cause_of NotRegistered = (4, 0)
-cause_of NetworkBusy = (5, 0)
-cause_of NoReply = (6, 0)
-cause_of (TooManyDiversions busy) = (7, if busy then 1 else 0)
-cause_of (Unreachable code) = (8, code)
-cause_of (Relayed code) = (9, code)
-cause_of Cancelled = (10, 0)
-cause_of NoAccount = (11, 0)
-cause_of NoRoute = (12, 0)
-cause_of BadScheme = (13, 0)
-cause_of Hops = (14, 0)
-cause_of Extension = (15, 0)
-cause_of Critical = (16, 0)
-cause_of Merged = (17, 0)
-cause_of Full = (18, 0)
-cause_of Ended = (19, 0)
-cause_of Unacknowledged = (20, 0)
+abbrev pub cause_numbers : Cause → ℕ × ℕ
+cause_numbers OutgoingBarred = (1, 0)
+cause_numbers IncomingBarred = (2, 0)
+cause_numbers AnonymousRejected = (3, 0)
+cause_numbers NotRegistered = (4, 0)
+cause_numbers NetworkBusy = (5, 0)
+cause_numbers NoReply = (6, 0)
+cause_numbers (TooManyDiversions busy) = (7, if busy then 1 else 0)
+cause_numbers (Unreachable code) = (8, code)
+cause_numbers (Relayed code) = (9, code)
+cause_numbers Cancelled = (10, 0)
+cause_numbers NoAccount = (11, 0)
+cause_numbers NoRoute = (12, 0)
+cause_numbers BadScheme = (13, 0)
+cause_numbers Hops = (14, 0)
+cause_numbers Extension = (15, 0)
+cause_numbers Critical = (16, 0)
+cause_numbers Merged = (17, 0)
+cause_numbers Full = (18, 0)
+cause_numbers Ended = (19, 0)
+cause_numbers Unacknowledged = (20, 0)
 
 abbrev pub cause_bytes : Cause → List ℕ
-cause_bytes cause = (cause_of cause).0 ∷ to_be_bytes w16 (cause_of cause).1
+cause_bytes cause = (cause_numbers cause).0 ∷ to_be_bytes w16 (cause_numbers cause).1
 
 -- whose part of which call it is, and when it began
-abbrev pub begin_of : Row → List ℕ
-begin_of row = kind_of row.kind ∷ (to_be_bytes w32 row.account.0 ++ to_be_bytes w64 row.call.0 ++ to_be_bytes w64 row.began)
+abbrev pub begin_bytes : Row → List ℕ
+begin_bytes row = kind_number row.kind ∷ (to_be_bytes w32 row.account.0 ++ to_be_bytes w64 row.call.0 ++ to_be_bytes w64 row.began)
 
 -- forty-five bytes
-abbrev pub row_of : Row → List ℕ
-row_of row = begin_of row ++ answered_of row.answered ++ to_be_bytes w64 row.ended ++ to_be_bytes w32 row.holds ++ cause_bytes row.cause
+abbrev pub row_bytes : Row → List ℕ
+row_bytes row = begin_bytes row ++ answered_bytes row.answered ++ to_be_bytes w64 row.ended ++ to_be_bytes w32 row.holds ++ cause_bytes row.cause
 
-abbrev pub rows_of : List Row → List ℕ
-rows_of [] = []
-rows_of (row ∷ rows) = row_of row ++ rows_of rows
+abbrev pub rows_bytes : List Row → List ℕ
+rows_bytes [] = []
+rows_bytes (row ∷ rows) = row_bytes row ++ rows_bytes rows
 
 -- the payload of sheets, and that of rows
 abbrev pub payload_of_sheets : List (Account × List ℕ) → List ℕ
-payload_of_sheets sheets = 1 ∷ (to_be_bytes w64 (length sheets) ++ sheets_of sheets)
+payload_of_sheets sheets = 1 ∷ (to_be_bytes w64 (length sheets) ++ sheets_bytes sheets)
 
 abbrev pub payload_of_rows : List Row → List ℕ
-payload_of_rows rows = 2 ∷ (to_be_bytes w64 (length rows) ++ rows_of rows)
+payload_of_rows rows = 2 ∷ (to_be_bytes w64 (length rows) ++ rows_bytes rows)
 
 -- sheets put over those of their accounts, in order
 abbrev pub put_sheets : List (Account × List ℕ) → List (Account × List ℕ) → List (Account × List ℕ)
 put_sheets [] held = held
 put_sheets (sheet ∷ sheets) held = put_sheets sheets (put sheet.0 sheet.1 held)
 
-abbrev pub with_sheets : List (Account × List ℕ) → Held → Held
+abbrev pub with_sheets : List (Account × List ℕ) → KeeperContents → KeeperContents
 with_sheets sheets held = record held { sheets = put_sheets sheets held.sheets }
 
 -- none of these is a sheet of the account
@@ -106,29 +106,29 @@ pub record IsRow (row : Row) : Type 0 where
   pub answered : IfSome row.answered (λ moment. moment ≤ last_moment)
   pub ended : row.ended ≤ last_moment
   pub holds : row.holds < 2 ^ 32
-  pub cause : (cause_of row.cause).1 < 2 ^ 16
+  pub cause : (cause_numbers row.cause).1 < 2 ^ 16
 
 -- the payload is that of sheets, or of rows
 pub record AreSheets (payload : List ℕ) (sheets : List (Account × List ℕ)) : Type 0 where
   pub many : length sheets < 2 ^ 64
   pub each : All IsSheet sheets
-  pub spelled : payload ≡ payload_of_sheets sheets
+  pub encoded : payload ≡ payload_of_sheets sheets
 
 pub record AreRows (payload : List ℕ) (rows : List Row) : Type 0 where
   pub many : length rows < 2 ^ 64
   pub each : All IsRow rows
-  pub spelled : payload ≡ payload_of_rows rows
+  pub encoded : payload ≡ payload_of_rows rows
 
 abbrev pub IsPayload : List ℕ → Type 0
 IsPayload payload = ((sheets : List (Account × List ℕ)) × AreSheets payload sheets) ⊎ ((rows : List Row) × AreRows payload rows)
 
 -- the contents after a payload
-abbrev pub Adds : List ℕ → Held → Held → Type 0
+abbrev pub Adds : List ℕ → KeeperContents → KeeperContents → Type 0
 Adds payload before after =
     ((sheets : List (Account × List ℕ)) × AreSheets payload sheets × (after ≡ with_sheets sheets before))
     ⊎ ((rows : List Row) × AreRows payload rows × (after ≡ with_rows rows before))
 
 -- the contents after payloads, in order
-abbrev pub AddsAll : List (List ℕ) → Held → Held → Type 0
+abbrev pub AddsAll : List (List ℕ) → KeeperContents → KeeperContents → Type 0
 AddsAll [] before after = after ≡ before
-AddsAll (payload ∷ payloads) before after = (mid : Held) × Adds payload before mid × AddsAll payloads mid after
+AddsAll (payload ∷ payloads) before after = (mid : KeeperContents) × Adds payload before mid × AddsAll payloads mid after

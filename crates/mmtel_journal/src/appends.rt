@@ -50,7 +50,7 @@ pub fn set_gate<D: Disk>(disk: &mut D, gate: u64, value: u8) -> Result<(), DiskF
 pub fn start<D: Disk>(disk: &mut D) -> Result<(), DiskFault>
     ensures cause { HasDiskCause (D.faults disk.old) (D.faults disk.new) result }
     ensures honest { D.honest disk.old ↔ D.honest disk.new }
-    ensures made { D.honest disk.old → D.shown disk.old ≡ []
+    ensures made { D.honest disk.old → D.contents disk.old ≡ []
         → OnOk result (Leaves (D.may_leave disk.new) (IsJournal [])) }
 {
     disk.write_at(0, &[0])?;

@@ -3,7 +3,7 @@ ghost use Rattle.std.specs.Prelude.{◌≡◌, ◌≤◌, ◌<◌, ◌↔◌, Li
 ghost use Rattle.mmtel_journal.specs.Disks.{Only, Leaves, Follows, Torn, Holds, Elapses};
 ghost use Rattle.mmtel_journal.specs.Faults.{HasDiskCause};
 
-use mmtel_scan::NoMemory;
+use mmtel_base::NoMemory;
 use std::alloc::AllocError;
 
 /// Why a call of a disk failed.
@@ -18,7 +18,7 @@ pub enum DiskFault {
 /// A disk, with a count of faults.
 pub trait Disk {
     /// What a read returns.
-    ghost shown: { Self → List ℕ };
+    ghost contents: { Self → List ℕ };
 
     /// What a stop now may leave.
     ghost may_leave: { Self → List ℕ → Type 0 };
@@ -38,8 +38,8 @@ pub trait Disk {
     /// How many bytes there are.
     fn len(&mut self) -> Result<u64, DiskFault>
         ensures honest { honest self.old ↔ honest self.new }
-        ensures told { honest self.old → IfOk result (λ len. len ≡ length (shown self.old)) }
-        ensures shown { honest self.old → shown self.new ≡ shown self.old }
+        ensures reported { honest self.old → IfOk result (λ len. len ≡ length (contents self.old)) }
+        ensures shown { honest self.old → contents self.new ≡ contents self.old }
         ensures stop { honest self.old → Leaves (may_leave self.new) (may_leave self.old) }
         ensures time { honest self.old
             → Elapses (clock self.old) (clock self.new) (left_since self.old) (left_since self.new)
@@ -52,9 +52,9 @@ pub trait Disk {
         ensures honest { honest self.old ↔ honest self.new }
         ensures within { IfOk result (λ count. count ≤ length buf.new) }
         ensures given { honest self.old
-            → IfOk result (λ count. take count buf.new ≡ take count (drop at (shown self.old))) }
-        ensures some { honest self.old → at < length (shown self.old) → IfOk result (λ count. 0 < count) }
-        ensures shown { honest self.old → shown self.new ≡ shown self.old }
+            → IfOk result (λ count. take count buf.new ≡ take count (drop at (contents self.old))) }
+        ensures some { honest self.old → at < length (contents self.old) → IfOk result (λ count. 0 < count) }
+        ensures shown { honest self.old → contents self.new ≡ contents self.old }
         ensures stop { honest self.old → Leaves (may_leave self.new) (may_leave self.old) }
         ensures time { honest self.old
             → Elapses (clock self.old) (clock self.new) (left_since self.old) (left_since self.new)
@@ -69,7 +69,7 @@ pub trait Disk {
     fn write_at(&mut self, at: u64, bytes: &[u8]) -> Result<(), DiskFault>
         ensures honest { honest self.old ↔ honest self.new }
         ensures written { honest self.old
-            → OnOk result (at ≤ length (shown self.old) → Holds (shown self.old) at bytes.now (shown self.new)) }
+            → OnOk result (at ≤ length (contents self.old) → Holds (contents self.old) at bytes.now (contents self.new)) }
         ensures stop { honest self.old
             → Follows (Torn at (length bytes.now)) (may_leave self.old) (may_leave self.new) }
         ensures time { honest self.old
@@ -80,8 +80,8 @@ pub trait Disk {
     /// After it, a stop leaves what a read returns.
     fn sync(&mut self) -> Result<(), DiskFault>
         ensures honest { honest self.old ↔ honest self.new }
-        ensures shown { honest self.old → OnOk result (shown self.new ≡ shown self.old) }
-        ensures durable { honest self.old → OnOk result (Only (shown self.old) (may_leave self.new)) }
+        ensures shown { honest self.old → OnOk result (contents self.new ≡ contents self.old) }
+        ensures durable { honest self.old → OnOk result (Only (contents self.old) (may_leave self.new)) }
         ensures stop { honest self.old → Leaves (may_leave self.new) (may_leave self.old) }
         ensures time { honest self.old
             → Elapses (clock self.old) (clock self.new) (left_since self.old) (left_since self.new)
@@ -89,7 +89,7 @@ pub trait Disk {
         ensures cause { HasDiskCause (faults self.old) (faults self.new) result };
 
     /// What a read returns is an image.
-    ghost among: { (d : Self) → honest d → may_leave d (shown d) };
+    ghost among: { (d : Self) → honest d → may_leave d (contents d) };
 
     /// What a stop may leave now is among what it might have left since an earlier moment.
     ghost counts_now: { (d : Self) (t : ℕ) (c : List ℕ) → honest d → t ≤ clock d → may_leave d c → left_since d t c };

@@ -5,7 +5,7 @@ ghost use Rattle.std.specs.Prelude.{◌≡◌};
 ghost use Rattle.std.specs.Int.{w16, w32, w64};
 ghost use Rattle.mmtel_journal.specs.Fields.{byte_at, sized_at, moment_at, kind_by, kind_at, cause_by, cause_at, answered_at};
 ghost use Rattle.mmtel_journal.specs.Fields.{account_at, call_at, pair_at, head_at, tail_at, row_at, text_at, sheet_at, then_read};
-ghost use Rattle.mmtel_journal.specs.Reading.{Gives};
+ghost use Rattle.mmtel_journal.specs.Reading.{IsReadValue};
 
 use crate::writing::{cause_numbers, kind_number};
 use mmtel_charging::{Kind, Row};
@@ -13,7 +13,7 @@ use mmtel_types::{Account, CallNo, Cause, Moment};
 
 /// A byte.
 fn u8_at(bytes: &[u8]) -> Option<(u8, &[u8])>
-    ensures { Gives (λ x. (x.0, x.1.now)) result (byte_at bytes.now) }
+    ensures { IsReadValue (λ x. (x.0, x.1.now)) result (byte_at bytes.now) }
 {
     match bytes {
         [byte, rest @ ..] => Some((*byte, rest)),
@@ -23,7 +23,7 @@ fn u8_at(bytes: &[u8]) -> Option<(u8, &[u8])>
 
 /// A number of two bytes.
 fn u16_at(bytes: &[u8]) -> Option<(u16, &[u8])>
-    ensures { Gives (λ x. (x.0, x.1.now)) result (sized_at w16 2 bytes.now) }
+    ensures { IsReadValue (λ x. (x.0, x.1.now)) result (sized_at w16 2 bytes.now) }
 {
     if bytes.len() < 2 {
         return None;
@@ -34,7 +34,7 @@ fn u16_at(bytes: &[u8]) -> Option<(u16, &[u8])>
 
 /// A number of four bytes.
 fn u32_at(bytes: &[u8]) -> Option<(u32, &[u8])>
-    ensures { Gives (λ x. (x.0, x.1.now)) result (sized_at w32 4 bytes.now) }
+    ensures { IsReadValue (λ x. (x.0, x.1.now)) result (sized_at w32 4 bytes.now) }
 {
     if bytes.len() < 4 {
         return None;
@@ -46,7 +46,7 @@ fn u32_at(bytes: &[u8]) -> Option<(u32, &[u8])>
 
 /// A number of eight bytes.
 pub fn u64_at(bytes: &[u8]) -> Option<(u64, &[u8])>
-    ensures { Gives (λ x. (x.0, x.1.now)) result (sized_at w64 8 bytes.now) }
+    ensures { IsReadValue (λ x. (x.0, x.1.now)) result (sized_at w64 8 bytes.now) }
 {
     if bytes.len() < 8 {
         return None;
@@ -60,7 +60,7 @@ pub fn u64_at(bytes: &[u8]) -> Option<(u64, &[u8])>
 
 /// So many bytes.
 fn text_at(size: u64, bytes: &[u8]) -> Option<(&[u8], &[u8])>
-    ensures { Gives (λ x. (x.0.now, x.1.now)) result (text_at size bytes.now) }
+    ensures { IsReadValue (λ x. (x.0.now, x.1.now)) result (text_at size bytes.now) }
 {
     if (bytes.len() as u64) < size {
         return None;
@@ -70,7 +70,7 @@ fn text_at(size: u64, bytes: &[u8]) -> Option<(&[u8], &[u8])>
 
 /// A moment.
 fn moment_at(bytes: &[u8]) -> Option<(Moment, &[u8])>
-    ensures { Gives (λ x. (x.0, x.1.now)) result (moment_at bytes.now) }
+    ensures { IsReadValue (λ x. (x.0, x.1.now)) result (moment_at bytes.now) }
 {
     let (number, rest) = u64_at(bytes)?;
     let moment = Moment::new(number)?;
@@ -91,7 +91,7 @@ fn kind_by(number: u8) -> Kind
 
 /// A kind.
 fn kind_at(bytes: &[u8]) -> Option<(Kind, &[u8])>
-    ensures { Gives (λ x. (x.0, x.1.now)) result (kind_at bytes.now) }
+    ensures { IsReadValue (λ x. (x.0, x.1.now)) result (kind_at bytes.now) }
 {
     let (number, rest) = u8_at(bytes)?;
     let kind = kind_by(number);
@@ -102,10 +102,10 @@ fn kind_at(bytes: &[u8]) -> Option<(Kind, &[u8])>
 }
 
 /// The cause of this position and code, if any has them.
-fn cause_by(place: u8, code: u16) -> Cause
-    ensures { result ≡ cause_by place code }
+fn cause_by(number: u8, code: u16) -> Cause
+    ensures { result ≡ cause_by number code }
 {
-    match place {
+    match number {
         1 => Cause::OutgoingBarred,
         2 => Cause::IncomingBarred,
         3 => Cause::AnonymousRejected,
@@ -130,8 +130,8 @@ fn cause_by(place: u8, code: u16) -> Cause
 }
 
 /// The position of a cause and its code.
-fn place_at(bytes: &[u8]) -> Option<((u8, u16), &[u8])>
-    ensures { Gives (λ x. (x.0, x.1.now)) result (pair_at byte_at (sized_at w16 2) bytes.now) }
+fn cause_numbers_at(bytes: &[u8]) -> Option<((u8, u16), &[u8])>
+    ensures { IsReadValue (λ x. (x.0, x.1.now)) result (pair_at byte_at (sized_at w16 2) bytes.now) }
 {
     let (place, behind) = u8_at(bytes)?;
     let (code, rest) = u16_at(behind)?;
@@ -140,9 +140,9 @@ fn place_at(bytes: &[u8]) -> Option<((u8, u16), &[u8])>
 
 /// A cause.
 fn cause_at(bytes: &[u8]) -> Option<(Cause, &[u8])>
-    ensures { Gives (λ x. (x.0, x.1.now)) result (cause_at bytes.now) }
+    ensures { IsReadValue (λ x. (x.0, x.1.now)) result (cause_at bytes.now) }
 {
-    let ((place, code), rest) = place_at(bytes)?;
+    let ((place, code), rest) = cause_numbers_at(bytes)?;
     let cause = cause_by(place, code);
     let told = cause_numbers(&cause);
     if told.0 != place || told.1 != code {
@@ -153,7 +153,7 @@ fn cause_at(bytes: &[u8]) -> Option<(Cause, &[u8])>
 
 /// A flag and a moment.
 fn flag_at(bytes: &[u8]) -> Option<((u8, Moment), &[u8])>
-    ensures { Gives (λ x. (x.0, x.1.now)) result (pair_at byte_at moment_at bytes.now) }
+    ensures { IsReadValue (λ x. (x.0, x.1.now)) result (pair_at byte_at moment_at bytes.now) }
 {
     let (flag, behind) = u8_at(bytes)?;
     let Some((moment, rest)) = moment_at(behind) else {
@@ -164,7 +164,7 @@ fn flag_at(bytes: &[u8]) -> Option<((u8, Moment), &[u8])>
 
 /// When a call was answered, if it was: the moment is 0 after the flag 0.
 fn answered_at(bytes: &[u8]) -> Option<(Option<Moment>, &[u8])>
-    ensures { Gives (λ x. (x.0, x.1.now)) result (answered_at bytes.now) }
+    ensures { IsReadValue (λ x. (x.0, x.1.now)) result (answered_at bytes.now) }
 {
     let Some(((flag, moment), rest)) = flag_at(bytes) else {
         return None;
@@ -178,7 +178,7 @@ fn answered_at(bytes: &[u8]) -> Option<(Option<Moment>, &[u8])>
 
 /// An account.
 fn account_at(bytes: &[u8]) -> Option<(Account, &[u8])>
-    ensures { Gives (λ x. (x.0, x.1.now)) result (account_at bytes.now) }
+    ensures { IsReadValue (λ x. (x.0, x.1.now)) result (account_at bytes.now) }
 {
     let (number, rest) = u32_at(bytes)?;
     Some((Account(number), rest))
@@ -186,7 +186,7 @@ fn account_at(bytes: &[u8]) -> Option<(Account, &[u8])>
 
 /// The number of a call.
 fn call_at(bytes: &[u8]) -> Option<(CallNo, &[u8])>
-    ensures { Gives (λ x. (x.0, x.1.now)) result (call_at bytes.now) }
+    ensures { IsReadValue (λ x. (x.0, x.1.now)) result (call_at bytes.now) }
 {
     let (number, rest) = u64_at(bytes)?;
     Some((CallNo(number), rest))
@@ -194,7 +194,7 @@ fn call_at(bytes: &[u8]) -> Option<(CallNo, &[u8])>
 
 /// For which part an account is charged.
 fn part_at(bytes: &[u8]) -> Option<((Kind, Account), &[u8])>
-    ensures { Gives (λ x. (x.0, x.1.now)) result (pair_at kind_at account_at bytes.now) }
+    ensures { IsReadValue (λ x. (x.0, x.1.now)) result (pair_at kind_at account_at bytes.now) }
 {
     let (kind, behind) = kind_at(bytes)?;
     let (account, rest) = account_at(behind)?;
@@ -203,7 +203,7 @@ fn part_at(bytes: &[u8]) -> Option<((Kind, Account), &[u8])>
 
 /// In which call, and when the part began.
 fn begin_at(bytes: &[u8]) -> Option<((CallNo, Moment), &[u8])>
-    ensures { Gives (λ x. (x.0, x.1.now)) result (pair_at call_at moment_at bytes.now) }
+    ensures { IsReadValue (λ x. (x.0, x.1.now)) result (pair_at call_at moment_at bytes.now) }
 {
     let (call, behind) = call_at(bytes)?;
     let Some((began, rest)) = moment_at(behind) else {
@@ -214,7 +214,7 @@ fn begin_at(bytes: &[u8]) -> Option<((CallNo, Moment), &[u8])>
 
 /// What precedes the answer time.
 fn head_at(bytes: &[u8]) -> Option<(((Kind, Account), (CallNo, Moment)), &[u8])>
-    ensures { Gives (λ x. (x.0, x.1.now)) result (head_at bytes.now) }
+    ensures { IsReadValue (λ x. (x.0, x.1.now)) result (head_at bytes.now) }
 {
     let (part, behind) = part_at(bytes)?;
     let Some((begin, rest)) = begin_at(behind) else {
@@ -225,7 +225,7 @@ fn head_at(bytes: &[u8]) -> Option<(((Kind, Account), (CallNo, Moment)), &[u8])>
 
 /// When the part ended, and how many times the call was held.
 fn end_at(bytes: &[u8]) -> Option<((Moment, u32), &[u8])>
-    ensures { Gives (λ x. (x.0, x.1.now)) result (pair_at moment_at (sized_at w32 4) bytes.now) }
+    ensures { IsReadValue (λ x. (x.0, x.1.now)) result (pair_at moment_at (sized_at w32 4) bytes.now) }
 {
     let Some((ended, behind)) = moment_at(bytes) else {
         return None;
@@ -236,7 +236,7 @@ fn end_at(bytes: &[u8]) -> Option<((Moment, u32), &[u8])>
 
 /// What follows the answer time.
 fn tail_at(bytes: &[u8]) -> Option<(((Moment, u32), Cause), &[u8])>
-    ensures { Gives (λ x. (x.0, x.1.now)) result (tail_at bytes.now) }
+    ensures { IsReadValue (λ x. (x.0, x.1.now)) result (tail_at bytes.now) }
 {
     let Some((end, behind)) = end_at(bytes) else {
         return None;
@@ -247,7 +247,7 @@ fn tail_at(bytes: &[u8]) -> Option<(((Moment, u32), Cause), &[u8])>
 
 /// A row.
 pub fn row_at(bytes: &[u8]) -> Option<(Row, &[u8])>
-    ensures { Gives (λ x. (x.0, x.1.now)) result (row_at bytes.now) }
+    ensures { IsReadValue (λ x. (x.0, x.1.now)) result (row_at bytes.now) }
 {
     let Some((((kind, account), (call, began)), behind)) = head_at(bytes) else {
         return None;
@@ -273,7 +273,7 @@ pub fn row_at(bytes: &[u8]) -> Option<(Row, &[u8])>
 
 /// The text of a sheet after its length.
 pub fn long_text_at(bytes: &[u8]) -> Option<(&[u8], &[u8])>
-    ensures { Gives (λ x. (x.0.now, x.1.now)) result (then_read (sized_at w64 8 bytes.now) text_at) }
+    ensures { IsReadValue (λ x. (x.0.now, x.1.now)) result (then_read (sized_at w64 8 bytes.now) text_at) }
 {
     let (size, behind) = u64_at(bytes)?;
     text_at(size, behind)
@@ -281,7 +281,7 @@ pub fn long_text_at(bytes: &[u8]) -> Option<(&[u8], &[u8])>
 
 /// A sheet: its account and its text.
 pub fn sheet_at(bytes: &[u8]) -> Option<((Account, &[u8]), &[u8])>
-    ensures { Gives (λ x. ((x.0.0, x.0.1.now), x.1.now)) result (sheet_at bytes.now) }
+    ensures { IsReadValue (λ x. ((x.0.0, x.0.1.now), x.1.now)) result (sheet_at bytes.now) }
 {
     let (account, behind) = account_at(bytes)?;
     let (text, rest) = long_text_at(behind)?;

@@ -124,7 +124,7 @@ impl FileDisk {
 }
 
 impl Disk for FileDisk {
-    ghost shown = { λ _. [] };
+    ghost contents = { λ _. [] };
 
     ghost may_leave = { λ _ _. ⊥ };
 

@@ -1,32 +1,32 @@
 //! The allocations of a call of a keeper, before its first call of the disk.
 ghost use Rattle.std.specs.Prelude.{◌≡◌, ◌++◌, ◌+◌, ◌∷◌, [], ◌≤◌, ◌<◌, length, All, IfOk, OnOk};
 ghost use Rattle.std.specs.Vec.{vec_capacity, vec_len};
-ghost use Rattle.mmtel_journal.specs.Logs.{body_of};
+ghost use Rattle.mmtel_journal.specs.Logs.{body_bytes};
 ghost use Rattle.mmtel_journal.specs.Payloads.{IsSheet, IsRow, payload_of_sheets, payload_of_rows};
 
 use crate::writing::{rows_body, sheet_body};
+use mmtel_base::{List, NoMemory, Text};
 use mmtel_charging::Row;
-use mmtel_scan::{List, NoMemory, Text};
 use mmtel_sheet_texts::SheetTexts;
 use mmtel_types::Account;
 use std::alloc::Global;
 
 /// Reserves space for more rows.
-fn make_room(kept: &mut Vec<Row>, more: usize) -> Result<(), NoMemory>
-    ensures same { kept.new.items ≡ kept.old.items }
-    ensures room { OnOk result (vec_len kept.new + more ≤ vec_capacity kept.new) }
+fn reserve_rows(row_list: &mut Vec<Row>, more: usize) -> Result<(), NoMemory>
+    ensures same { row_list.new.items ≡ row_list.old.items }
+    ensures room { OnOk result (vec_len row_list.new + more ≤ vec_capacity row_list.new) }
 {
-    kept.reserve(more)?;
+    row_list.reserve(more)?;
     Ok(())
 }
 
 /// Adds rows for which space is reserved.
-pub fn add_reserved(kept: &mut Vec<Row>, rows: &[Row])
-    requires { vec_len kept.old + length rows.now ≤ vec_capacity kept.old }
-    ensures added { kept.new.items ≡ kept.old.items ++ rows.now }
+pub fn add_reserved(row_list: &mut Vec<Row>, rows: &[Row])
+    requires { vec_len row_list.old + length rows.now ≤ vec_capacity row_list.old }
+    ensures added { row_list.new.items ≡ row_list.old.items ++ rows.now }
 {
     for row in rows {
-        kept.push_reserved(*row);
+        row_list.push_reserved(*row);
     }
 }
 
@@ -64,10 +64,10 @@ pub fn grow_sheets(
     text: &[u8],
 ) -> Result<(Text, Vec<u8>), NoMemory>
     ensures same { sheets.new.texts ≡ sheets.old.texts }
-    ensures room { OnOk result (0 < sheets.new.room) }
+    ensures room { OnOk result (0 < sheets.new.space) }
     ensures text { IfOk result (λ grown. grown.0 ≡ text.now) }
     ensures fits { OnOk result (IsSheet (account, text.now)) }
-    ensures body { IfOk result (λ grown. grown.1.items ≡ body_of (payload_of_sheets ((account, text.now) ∷ []))) }
+    ensures body { IfOk result (λ grown. grown.1.items ≡ body_bytes (payload_of_sheets ((account, text.now) ∷ []))) }
 {
     let kept = Text::of(alloc, text)?;
     let body = sheet_body(alloc, account, text)?;
@@ -76,13 +76,13 @@ pub fn grow_sheets(
 }
 
 /// Makes all allocations for rows that are added.
-pub fn grow_rows(alloc: Global, kept: &mut Vec<Row>, rows: &[Row]) -> Result<Vec<u8>, NoMemory>
-    ensures same { kept.new.items ≡ kept.old.items }
-    ensures room { OnOk result (vec_len kept.new + length rows.now ≤ vec_capacity kept.new) }
+pub fn grow_rows(alloc: Global, row_list: &mut Vec<Row>, rows: &[Row]) -> Result<Vec<u8>, NoMemory>
+    ensures same { row_list.new.items ≡ row_list.old.items }
+    ensures room { OnOk result (vec_len row_list.new + length rows.now ≤ vec_capacity row_list.new) }
     ensures fits { OnOk result (All IsRow rows.now) }
-    ensures body { IfOk result (λ body. body.items ≡ body_of (payload_of_rows rows.now)) }
+    ensures body { IfOk result (λ body. body.items ≡ body_bytes (payload_of_rows rows.now)) }
 {
     let body = rows_body(alloc, rows)?;
-    make_room(kept, rows.len())?;
+    reserve_rows(row_list, rows.len())?;
     Ok(body)
 }

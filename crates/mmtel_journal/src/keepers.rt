@@ -1,19 +1,19 @@
 //! A keeper over a journal.
 ghost use Rattle.std.specs.Prelude.{◌≡◌, ◌∷◌, [], true, false, Some, None, OnOk, OnErr, Option, List, ℕ};
-ghost use Rattle.mmtel_keeper.specs.Kept.{IsCall as IsCounted, Becomes, Tells, with_sheet, with_rows};
+ghost use Rattle.mmtel_keeper.specs.Contents.{IsCountedCall as IsCounted, Becomes, ReturnsPart, with_sheet, with_rows};
 ghost use Rattle.mmtel_keeper.specs.Causes.{HasKeepCause};
 ghost use Rattle.mmtel_keeper.specs.Migration.{Migrates};
-ghost use Rattle.mmtel_journal.specs.Keepers.{held_of};
-ghost use Rattle.mmtel_journal.specs.Kept.{IsKept, IsNoneOr};
+ghost use Rattle.mmtel_journal.specs.Keepers.{contents_of};
+ghost use Rattle.mmtel_journal.specs.KeeperCalls.{IsKeeperCall, IsNoneOr};
 ghost use Rattle.mmtel_journal.specs.Payloads.{payload_of_sheets, payload_of_rows};
 
 use crate::disks::{Disk, DiskFault};
 use crate::growing::{add_reserved, copy_rows, copy_sheets, grow_rows, grow_sheets};
 use crate::logs::Log;
 use crate::migration::{put_all, replaced_body, replacements};
+use mmtel_base::{List, Text};
 use mmtel_charging::Row;
 use mmtel_keeper::{KeepFault, Keeper};
-use mmtel_scan::{List, Text};
 use mmtel_sheet_texts::SheetTexts;
 use mmtel_types::Account;
 use std::alloc::Global;
@@ -42,7 +42,7 @@ impl From<DiskFault> for KeepFault {
 }
 
 impl<D: Disk> Keeper for JournalKeeper<D> {
-    ghost held = { λ k. Some (held_of k) };
+    ghost contents = { λ k. Some (contents_of k) };
 
     ghost calls = { λ _. None };
 
@@ -53,20 +53,20 @@ impl<D: Disk> Keeper for JournalKeeper<D> {
     }
 
     fn migrate(&mut self, alloc: Global) -> Result<u64, KeepFault>
-        ensures migrated { Migrates (Some (held_of self.old)) (Some (held_of self.new)) result }
+        ensures migrated { Migrates (Some (contents_of self.old)) (Some (contents_of self.new)) result }
         ensures calls { IsCounted None None result }
         ensures cause { HasKeepCause (D.faults self.old.log.disk) (D.faults self.new.log.disk) result }
         ensures done { OnOk result
             ((payload : Option (List ℕ))
-            × IsKept D.honest D.may_leave D.clock D.left_since self.old (record { payload = payload; ok = true })
+            × IsKeeperCall D.honest D.may_leave D.clock D.left_since self.old (record { payload = payload; ok = true })
             self.new) }
         ensures refused { OnErr result
-            ((payload : Option (List ℕ)) × IsKept D.honest D.may_leave D.clock D.left_since self.old (record { payload = payload; ok = false }) self.new) }
+            ((payload : Option (List ℕ)) × IsKeeperCall D.honest D.may_leave D.clock D.left_since self.old (record { payload = payload; ok = false }) self.new) }
     {
         let found = replacements(alloc, self.sheets.items())?;
         let count = found.items().len();
         if count == 0 {
-            self.log.rest()?;
+            self.log.add_nothing()?;
             return Ok(0);
         }
         let body = replaced_body(alloc, found.items())?;
@@ -76,31 +76,31 @@ impl<D: Disk> Keeper for JournalKeeper<D> {
     }
 
     fn load(&mut self, alloc: Global) -> Result<List<(Account, Text)>, KeepFault>
-        ensures same { Some (held_of self.new) ≡ Some (held_of self.old) }
-        ensures told { Tells (Some (held_of self.old)) (λ h. h.sheets) result }
+        ensures same { Some (contents_of self.new) ≡ Some (contents_of self.old) }
+        ensures reported { ReturnsPart (Some (contents_of self.old)) (λ h. h.sheets) result }
         ensures calls { IsCounted None None result }
         ensures cause { HasKeepCause (D.faults self.old.log.disk) (D.faults self.new.log.disk) result }
         ensures done { OnOk result
-            (IsKept D.honest D.may_leave D.clock D.left_since self.old (record { payload = None; ok = true })
+            (IsKeeperCall D.honest D.may_leave D.clock D.left_since self.old (record { payload = None; ok = true })
             self.new) }
         ensures refused { OnErr result
-            (IsKept D.honest D.may_leave D.clock D.left_since self.old (record { payload = None; ok = false })
+            (IsKeeperCall D.honest D.may_leave D.clock D.left_since self.old (record { payload = None; ok = false })
             self.new) }
     {
         let sheets = copy_sheets(alloc, self.sheets.items())?;
-        self.log.rest()?;
+        self.log.add_nothing()?;
         Ok(sheets)
     }
 
     fn store(&mut self, alloc: Global, account: Account, text: &[u8]) -> Result<(), KeepFault>
-        ensures changed { Becomes (Some (held_of self.old)) (Some (held_of self.new)) (with_sheet account text.now)
+        ensures changed { Becomes (Some (contents_of self.old)) (Some (contents_of self.new)) (with_sheet account text.now)
             result }
         ensures calls { IsCounted None None result }
         ensures cause { HasKeepCause (D.faults self.old.log.disk) (D.faults self.new.log.disk) result }
         ensures done { OnOk result
-            (IsKept D.honest D.may_leave D.clock D.left_since self.old (record { payload = Some (payload_of_sheets ((account, text.now) ∷ [])); ok = true }) self.new) }
+            (IsKeeperCall D.honest D.may_leave D.clock D.left_since self.old (record { payload = Some (payload_of_sheets ((account, text.now) ∷ [])); ok = true }) self.new) }
         ensures refused { OnErr result
-            ((tried : Option (List ℕ)) × IsNoneOr (payload_of_sheets ((account, text.now) ∷ [])) tried × IsKept D.honest D.may_leave D.clock D.left_since self.old
+            ((tried : Option (List ℕ)) × IsNoneOr (payload_of_sheets ((account, text.now) ∷ [])) tried × IsKeeperCall D.honest D.may_leave D.clock D.left_since self.old
             (record { payload = tried; ok = false }) self.new) }
     {
         let (kept, body) = grow_sheets(alloc, &mut self.sheets, account, text)?;
@@ -110,14 +110,14 @@ impl<D: Disk> Keeper for JournalKeeper<D> {
     }
 
     fn add_rows(&mut self, alloc: Global, rows: &[Row]) -> Result<(), KeepFault>
-        ensures changed { Becomes (Some (held_of self.old)) (Some (held_of self.new)) (with_rows rows.now) result }
+        ensures changed { Becomes (Some (contents_of self.old)) (Some (contents_of self.new)) (with_rows rows.now) result }
         ensures calls { IsCounted None None result }
         ensures cause { HasKeepCause (D.faults self.old.log.disk) (D.faults self.new.log.disk) result }
         ensures done { OnOk result
-            (IsKept D.honest D.may_leave D.clock D.left_since self.old
+            (IsKeeperCall D.honest D.may_leave D.clock D.left_since self.old
             (record { payload = Some (payload_of_rows rows.now); ok = true }) self.new) }
         ensures refused { OnErr result
-            ((tried : Option (List ℕ)) × IsNoneOr (payload_of_rows rows.now) tried × IsKept D.honest D.may_leave D.clock D.left_since self.old
+            ((tried : Option (List ℕ)) × IsNoneOr (payload_of_rows rows.now) tried × IsKeeperCall D.honest D.may_leave D.clock D.left_since self.old
             (record { payload = tried; ok = false }) self.new) }
     {
         let body = grow_rows(alloc, &mut self.rows, rows)?;
@@ -127,19 +127,19 @@ impl<D: Disk> Keeper for JournalKeeper<D> {
     }
 
     fn rows(&mut self, alloc: Global) -> Result<List<Row>, KeepFault>
-        ensures same { Some (held_of self.new) ≡ Some (held_of self.old) }
-        ensures told { Tells (Some (held_of self.old)) (λ h. h.rows) result }
+        ensures same { Some (contents_of self.new) ≡ Some (contents_of self.old) }
+        ensures reported { ReturnsPart (Some (contents_of self.old)) (λ h. h.rows) result }
         ensures calls { IsCounted None None result }
         ensures cause { HasKeepCause (D.faults self.old.log.disk) (D.faults self.new.log.disk) result }
         ensures done { OnOk result
-            (IsKept D.honest D.may_leave D.clock D.left_since self.old (record { payload = None; ok = true })
+            (IsKeeperCall D.honest D.may_leave D.clock D.left_since self.old (record { payload = None; ok = true })
             self.new) }
         ensures refused { OnErr result
-            (IsKept D.honest D.may_leave D.clock D.left_since self.old (record { payload = None; ok = false })
+            (IsKeeperCall D.honest D.may_leave D.clock D.left_since self.old (record { payload = None; ok = false })
             self.new) }
     {
         let rows = copy_rows(alloc, self.rows.as_slice())?;
-        self.log.rest()?;
+        self.log.add_nothing()?;
         Ok(rows)
     }
 }

@@ -2,12 +2,11 @@
 #![tactic(auto)]
 
 mod appends;
+pub mod crash_theorems;
 mod disks;
 mod fields;
 mod files;
-pub mod found;
 mod growing;
-pub mod history;
 mod keepers;
 mod logs;
 mod memory;
@@ -15,6 +14,7 @@ mod migration;
 mod opening;
 mod payloads;
 mod reading;
+pub mod recovery;
 mod writing;
 
 pub use disks::{Disk, DiskFault};

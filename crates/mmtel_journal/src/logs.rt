@@ -2,9 +2,9 @@
 ghost use Rattle.std.specs.Prelude.{◌≡◌, ◌<◌, ◌++◌, ◌∷◌, [], ◌↔◌, List, ℕ, length, true, false, Some, None, OnOk, OnErr};
 ghost use Rattle.mmtel_journal.specs.Disks.{LeavesOnly};
 ghost use Rattle.mmtel_journal.specs.Faults.{HasDiskCause};
-ghost use Rattle.mmtel_journal.specs.History.{IsCall};
+ghost use Rattle.mmtel_journal.specs.JournalCalls.{IsJournalCall};
 ghost use Rattle.mmtel_journal.specs.Journal.{IsJournalOrMore};
-ghost use Rattle.mmtel_journal.specs.Logs.{Stands, body_of};
+ghost use Rattle.mmtel_journal.specs.Logs.{LogRepresents, body_bytes};
 
 use crate::appends::{set_gate, stage};
 use crate::disks::{Disk, DiskFault};
@@ -26,13 +26,13 @@ impl<D: Disk> Log<D> {
         ensures honest { D.honest self.old.disk ↔ D.honest self.new.disk }
         ensures closed { OnOk result (self.new.pending ≡ false) }
         ensures ok { (payloads others : List (List ℕ)) → D.honest self.old.disk
-            → Stands D.may_leave payloads others self.old
-            → OnOk result (Stands D.may_leave payloads [] self.new) }
+            → LogRepresents D.may_leave payloads others self.old
+            → OnOk result (LogRepresents D.may_leave payloads [] self.new) }
         ensures err { (payloads others : List (List ℕ)) → D.honest self.old.disk
-            → Stands D.may_leave payloads others self.old
-            → OnErr result (Stands D.may_leave payloads others self.new) }
+            → LogRepresents D.may_leave payloads others self.old
+            → OnErr result (LogRepresents D.may_leave payloads others self.new) }
         ensures any_moment { (payloads others : List (List ℕ)) → D.honest self.old.disk
-            → Stands D.may_leave payloads others self.old
+            → LogRepresents D.may_leave payloads others self.old
             → LeavesOnly D.clock D.left_since self.old.disk self.new.disk (IsJournalOrMore payloads others) }
     {
         if self.pending {
@@ -49,16 +49,16 @@ impl<D: Disk> Log<D> {
         ensures cause { HasDiskCause (D.faults self.old.disk) (D.faults self.new.disk) result }
         ensures honest { D.honest self.old.disk ↔ D.honest self.new.disk }
         ensures ok { (payloads : List (List ℕ)) (more : List ℕ) → D.honest self.old.disk → self.old.pending ≡ false
-            → body.now ≡ body_of more
-            → Stands D.may_leave payloads [] self.old
-            → OnOk result (Stands D.may_leave (payloads ++ more ∷ []) [] self.new) }
+            → body.now ≡ body_bytes more
+            → LogRepresents D.may_leave payloads [] self.old
+            → OnOk result (LogRepresents D.may_leave (payloads ++ more ∷ []) [] self.new) }
         ensures err { (payloads : List (List ℕ)) (more : List ℕ) → D.honest self.old.disk → self.old.pending ≡ false
-            → body.now ≡ body_of more
-            → Stands D.may_leave payloads [] self.old
-            → OnErr result (Stands D.may_leave payloads (more ∷ []) self.new) }
+            → body.now ≡ body_bytes more
+            → LogRepresents D.may_leave payloads [] self.old
+            → OnErr result (LogRepresents D.may_leave payloads (more ∷ []) self.new) }
         ensures any_moment { (payloads : List (List ℕ)) (more : List ℕ) → D.honest self.old.disk
-            → self.old.pending ≡ false → body.now ≡ body_of more
-            → Stands D.may_leave payloads [] self.old
+            → self.old.pending ≡ false → body.now ≡ body_bytes more
+            → LogRepresents D.may_leave payloads [] self.old
             → LeavesOnly D.clock D.left_since self.old.disk self.new.disk (IsJournalOrMore payloads (more ∷ [])) }
     {
         let len = body.len() as u64;
@@ -80,13 +80,13 @@ impl<D: Disk> Log<D> {
         ensures cause { HasDiskCause (D.faults self.old.disk) (D.faults self.new.disk) result }
         ensures honest { D.honest self.old.disk ↔ D.honest self.new.disk }
         ensures ok { (payloads others : List (List ℕ)) (more : List ℕ) → D.honest self.old.disk
-            → body.now ≡ body_of more → Stands D.may_leave payloads others self.old
-            → OnOk result (Stands D.may_leave (payloads ++ more ∷ []) [] self.new) }
+            → body.now ≡ body_bytes more → LogRepresents D.may_leave payloads others self.old
+            → OnOk result (LogRepresents D.may_leave (payloads ++ more ∷ []) [] self.new) }
         ensures err { (payloads others : List (List ℕ)) (more : List ℕ) → D.honest self.old.disk
-            → body.now ≡ body_of more → Stands D.may_leave payloads others self.old
-            → OnErr result (Stands D.may_leave payloads (others ++ more ∷ []) self.new) }
+            → body.now ≡ body_bytes more → LogRepresents D.may_leave payloads others self.old
+            → OnErr result (LogRepresents D.may_leave payloads (others ++ more ∷ []) self.new) }
         ensures any_moment { (payloads others : List (List ℕ)) (more : List ℕ) → D.honest self.old.disk
-            → body.now ≡ body_of more → Stands D.may_leave payloads others self.old
+            → body.now ≡ body_bytes more → LogRepresents D.may_leave payloads others self.old
             → LeavesOnly D.clock D.left_since self.old.disk self.new.disk
             (IsJournalOrMore payloads (others ++ more ∷ [])) }
     {
@@ -99,24 +99,24 @@ impl<D: Disk> Log<D> {
     pub fn add(&mut self, body: &[u8]) -> Result<(), DiskFault>
         requires { 0 < length body.now }
         ensures cause { HasDiskCause (D.faults self.old.disk) (D.faults self.new.disk) result }
-        ensures done { (more : List ℕ) → body.now ≡ body_of more
-            → OnOk result (IsCall D.honest D.may_leave D.clock D.left_since self.old
+        ensures done { (more : List ℕ) → body.now ≡ body_bytes more
+            → OnOk result (IsJournalCall D.honest D.may_leave D.clock D.left_since self.old
             (record { payload = Some more; ok = true }) self.new) }
-        ensures refused { (more : List ℕ) → body.now ≡ body_of more
-            → OnErr result (IsCall D.honest D.may_leave D.clock D.left_since self.old
+        ensures refused { (more : List ℕ) → body.now ≡ body_bytes more
+            → OnErr result (IsJournalCall D.honest D.may_leave D.clock D.left_since self.old
             (record { payload = Some more; ok = false }) self.new) }
     {
         self.write(body)
     }
 
     /// A call that adds none.
-    pub fn rest(&mut self) -> Result<(), DiskFault>
+    pub fn add_nothing(&mut self) -> Result<(), DiskFault>
         ensures cause { HasDiskCause (D.faults self.old.disk) (D.faults self.new.disk) result }
         ensures done { OnOk result
-            (IsCall D.honest D.may_leave D.clock D.left_since self.old (record { payload = None; ok = true })
+            (IsJournalCall D.honest D.may_leave D.clock D.left_since self.old (record { payload = None; ok = true })
             self.new) }
         ensures refused { OnErr result
-            (IsCall D.honest D.may_leave D.clock D.left_since self.old (record { payload = None; ok = false })
+            (IsJournalCall D.honest D.may_leave D.clock D.left_since self.old (record { payload = None; ok = false })
             self.new) }
     {
         self.settle()

@@ -1,17 +1,17 @@
 //! A disk in memory, for tests.
 ghost use Rattle.std.specs.Prelude.{◌≡◌, ◌≤◌, ◌<◌, ◌∷◌, [], length, take, drop, min, IfOk, OnOk};
 ghost use Rattle.std.specs.Vec.{vec_capacity, vec_len};
-ghost use Rattle.mmtel_journal.specs.Memory.{written, shown_after, image_of, LeftSince, IsFresh};
-ghost use Rattle.mmtel_journal.specs.Images.{among_images, counts, only_since};
+ghost use Rattle.mmtel_journal.specs.Memory.{with_write, bytes_after_ops, crash_image_of, CrashImageSince, IsFresh};
+ghost use Rattle.mmtel_journal.specs.Images.{contents_are_an_image, images_are_since, since_last_is_image};
 
 use crate::disks::{Disk, DiskFault};
-use mmtel_outside::fails_by_number;
-use mmtel_scan::{List, NoMemory};
+use mmtel_base::{List, NoMemory};
+use mmtel_environment::fails_by_number;
 use std::alloc::Global;
 
 /// The effect of a call on a disk in memory.
 #[derive(Drop)]
-pub enum Done {
+pub enum DiskOp {
     /// It wrote these bytes at a position.
     Wrote(u64, Vec<u8>),
     /// It was to write these bytes at a position, and failed.
@@ -19,7 +19,7 @@ pub enum Done {
     /// It synced.
     Synced,
     /// It changed nothing: it read or returned the length, or it was to read, to return the length or to sync, and failed.
-    Kept,
+    Unchanged,
 }
 
 /// A disk in memory, which records its calls, and whose calls of given numbers fail.
@@ -29,13 +29,13 @@ pub enum Done {
 pub struct MemoryDisk {
     alloc: Global,
     first: Vec<u8>,
-    calls: Vec<Done>,
+    calls: Vec<DiskOp>,
     failing: List<u64>,
     faults: u64,
 }
 
 /// What precedes a position.
-fn before(bytes: &[u8], at: u64) -> &[u8]
+fn bytes_before(bytes: &[u8], at: u64) -> &[u8]
     ensures { result.now ≡ take at bytes.now }
 {
     if at < bytes.len() as u64 {
@@ -46,7 +46,7 @@ fn before(bytes: &[u8], at: u64) -> &[u8]
 }
 
 /// The rest after so many bytes.
-fn behind(bytes: &[u8], count: u64) -> &[u8]
+fn bytes_from(bytes: &[u8], count: u64) -> &[u8]
     ensures { result.now ≡ drop count bytes.now }
 {
     if count < bytes.len() as u64 {
@@ -58,34 +58,34 @@ fn behind(bytes: &[u8], count: u64) -> &[u8]
 
 /// Bytes with others at a position.
 fn with_bytes(alloc: Global, bytes: &[u8], at: u64, new: &[u8]) -> Result<Vec<u8>, NoMemory>
-    ensures put { IfOk result (λ put. put.items ≡ written bytes.now at new.now) }
+    ensures put { IfOk result (λ put. put.items ≡ with_write bytes.now at new.now) }
 {
-    let rest = behind(behind(bytes, at), new.len() as u64);
-    let mut put = Vec::from_slice(alloc, before(bytes, at))?;
+    let rest = bytes_from(bytes_from(bytes, at), new.len() as u64);
+    let mut put = Vec::from_slice(alloc, bytes_before(bytes, at))?;
     put.extend_from_slice(new)?;
     put.extend_from_slice(rest)?;
     Ok(put)
 }
 
 /// What a read returns after one more call.
-fn after(alloc: Global, bytes: Vec<u8>, done: &Done) -> Result<Vec<u8>, NoMemory>
-    ensures shown { IfOk result (λ after. after.items ≡ shown_after bytes.items (done.now ∷ [])) }
+fn bytes_after_op(alloc: Global, bytes: Vec<u8>, op: &DiskOp) -> Result<Vec<u8>, NoMemory>
+    ensures shown { IfOk result (λ after. after.items ≡ bytes_after_ops bytes.items (op.now ∷ [])) }
 {
-    match done {
-        Done::Wrote(at, new) => with_bytes(alloc, bytes.as_slice(), *at, new.as_slice()),
-        Done::Tore(_, _) => Ok(bytes),
-        Done::Synced => Ok(bytes),
-        Done::Kept => Ok(bytes),
+    match op {
+        DiskOp::Wrote(at, new) => with_bytes(alloc, bytes.as_slice(), *at, new.as_slice()),
+        DiskOp::Tore(_, _) => Ok(bytes),
+        DiskOp::Synced => Ok(bytes),
+        DiskOp::Unchanged => Ok(bytes),
     }
 }
 
 /// What a read returns after these calls.
-fn replayed(alloc: Global, first: &[u8], calls: &[Done]) -> Result<Vec<u8>, NoMemory>
-    ensures shown { IfOk result (λ bytes. bytes.items ≡ shown_after first.now calls.now) }
+fn bytes_after_ops(alloc: Global, first: &[u8], calls: &[DiskOp]) -> Result<Vec<u8>, NoMemory>
+    ensures shown { IfOk result (λ bytes. bytes.items ≡ bytes_after_ops first.now calls.now) }
 {
     let mut bytes = Vec::from_slice(alloc, first)?;
     for done in calls {
-        bytes = after(alloc, bytes, done)?;
+        bytes = bytes_after_op(alloc, bytes, done)?;
     }
     Ok(bytes)
 }
@@ -117,7 +117,7 @@ impl MemoryDisk {
 
     /// How many calls were made, except those that ran out of memory.
     pub fn calls(&self) -> u64
-        ensures told { result ≡ length self.now.calls.items }
+        ensures reported { result ≡ length self.now.calls.items }
     {
         self.calls.len() as u64
     }
@@ -131,9 +131,9 @@ impl MemoryDisk {
         requires { calls ≤ length self.now.calls.items }
         ensures fresh { IfOk result (λ disk. IsFresh disk disk.first.items []) }
         ensures image { IfOk result
-            (λ disk. image_of self.now.first.items (take calls self.now.calls.items) disk.first.items) }
+            (λ disk. crash_image_of self.now.first.items (take calls self.now.calls.items) disk.first.items) }
     {
-        let first = replayed(
+        let first = bytes_after_ops(
             self.alloc,
             self.first.as_slice(),
             &self.calls[..calls as usize],
@@ -153,42 +153,42 @@ impl MemoryDisk {
     }
 
     /// What a read returns, with space for one more call in the record.
-    fn shown(&mut self) -> Result<Vec<u8>, NoMemory>
-        ensures shown { IfOk result (λ bytes. bytes.items ≡ shown_after self.old.first.items self.old.calls.items) }
+    fn contents(&mut self) -> Result<Vec<u8>, NoMemory>
+        ensures shown { IfOk result (λ bytes. bytes.items ≡ bytes_after_ops self.old.first.items self.old.calls.items) }
         ensures first { self.new.first ≡ self.old.first }
         ensures calls { self.new.calls.items ≡ self.old.calls.items }
         ensures faults { self.new.faults ≡ self.old.faults }
         ensures room { OnOk result (vec_len self.new.calls < vec_capacity self.new.calls) }
     {
-        let bytes = replayed(self.alloc, self.first.as_slice(), self.calls.as_slice())?;
+        let bytes = bytes_after_ops(self.alloc, self.first.as_slice(), self.calls.as_slice())?;
         self.calls.reserve(1)?;
         Ok(bytes)
     }
 }
 
 impl Disk for MemoryDisk {
-    ghost shown = { λ m. shown_after m.first.items m.calls.items };
+    ghost contents = { λ m. bytes_after_ops m.first.items m.calls.items };
 
-    ghost may_leave = { λ m. image_of m.first.items m.calls.items };
+    ghost may_leave = { λ m. crash_image_of m.first.items m.calls.items };
 
     ghost clock = { λ m. length m.calls.items };
 
-    ghost left_since = { λ m. LeftSince m.first.items m.calls.items };
+    ghost left_since = { λ m. CrashImageSince m.first.items m.calls.items };
 
     ghost honest = { λ _. Unit {0} };
 
     ghost faults = { λ m. m.faults };
 
-    ghost among = { λ m _. among_images m.first.items m.calls.items };
+    ghost among = { λ m _. contents_are_an_image m.first.items m.calls.items };
 
-    ghost counts_now = { λ m t c _ le left. counts m.first.items m.calls.items t c le left };
+    ghost counts_now = { λ m t c _ le left. images_are_since m.first.items m.calls.items t c le left };
 
-    ghost only_now = { λ m c _ left. only_since m.first.items m.calls.items c left };
+    ghost only_now = { λ m c _ left. since_last_is_image m.first.items m.calls.items c left };
 
     fn len(&mut self) -> Result<u64, DiskFault> {
-        let bytes = self.shown()?;
+        let bytes = self.contents()?;
         let fails = self.fails();
-        self.calls.push_reserved(Done::Kept);
+        self.calls.push_reserved(DiskOp::Unchanged);
         if fails {
             self.faults = self.faults.saturating_add(1);
             return Err(DiskFault::Failed);
@@ -197,36 +197,36 @@ impl Disk for MemoryDisk {
     }
 
     fn read(&mut self, at: u64, buf: &mut [u8]) -> Result<usize, DiskFault> {
-        let bytes = self.shown()?;
+        let bytes = self.contents()?;
         let fails = self.fails();
-        self.calls.push_reserved(Done::Kept);
+        self.calls.push_reserved(DiskOp::Unchanged);
         if fails {
             self.faults = self.faults.saturating_add(1);
             return Err(DiskFault::Failed);
         }
-        Ok(fill(buf, behind(bytes.as_slice(), at)))
+        Ok(fill(buf, bytes_from(bytes.as_slice(), at)))
     }
 
     fn write_at(&mut self, at: u64, bytes: &[u8]) -> Result<(), DiskFault> {
         let bytes = Vec::from_slice(self.alloc, bytes)?;
         self.calls.reserve(1)?;
         if self.fails() {
-            self.calls.push_reserved(Done::Tore(at, bytes));
+            self.calls.push_reserved(DiskOp::Tore(at, bytes));
             self.faults = self.faults.saturating_add(1);
             return Err(DiskFault::Failed);
         }
-        self.calls.push_reserved(Done::Wrote(at, bytes));
+        self.calls.push_reserved(DiskOp::Wrote(at, bytes));
         Ok(())
     }
 
     fn sync(&mut self) -> Result<(), DiskFault> {
         self.calls.reserve(1)?;
         if self.fails() {
-            self.calls.push_reserved(Done::Kept);
+            self.calls.push_reserved(DiskOp::Unchanged);
             self.faults = self.faults.saturating_add(1);
             return Err(DiskFault::Failed);
         }
-        self.calls.push_reserved(Done::Synced);
+        self.calls.push_reserved(DiskOp::Synced);
         Ok(())
     }
 }

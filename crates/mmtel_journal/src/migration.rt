@@ -1,12 +1,12 @@
 //! Stored records of the first version are replaced by records of the second.
 ghost use Rattle.std.specs.Prelude.{◌≡◌, length, All, IfOk, OnOk};
-ghost use Rattle.mmtel_journal.specs.Logs.{body_of};
-ghost use Rattle.mmtel_journal.specs.Migrating.{AreReplacements, AreWithin, set_all, sheets_in};
+ghost use Rattle.mmtel_journal.specs.Logs.{body_bytes};
+ghost use Rattle.mmtel_journal.specs.Migrating.{AreInRange, AreReplacements, set_all, sheets_in};
 ghost use Rattle.mmtel_journal.specs.Payloads.{IsSheet, payload_of_sheets};
 
 use crate::writing::{body_around, payload_head, put_sheet};
-use mmtel_keeper::migrated;
-use mmtel_scan::{List, NoMemory, Text};
+use mmtel_base::{List, NoMemory, Text};
+use mmtel_keeper::migrated_text;
 use mmtel_sheet_texts::SheetTexts;
 use mmtel_types::Account;
 use std::alloc::Global;
@@ -21,7 +21,7 @@ pub fn replacements(
     let mut found = List::new();
     let mut at: usize = 0;
     for sheet in sheets {
-        if let Some(text) = migrated(alloc, sheet.1.bytes())? {
+        if let Some(text) = migrated_text(alloc, sheet.1.bytes())? {
             found.push(alloc, (at, (sheet.0, text)))?;
         }
         at += 1;
@@ -32,7 +32,7 @@ pub fn replacements(
 /// What is written after a gate for them.
 pub fn replaced_body(alloc: Global, found: &[(usize, (Account, Text))]) -> Result<Vec<u8>, NoMemory>
     ensures fits { OnOk result (All IsSheet (sheets_in found.now)) }
-    ensures body { IfOk result (λ body. body.items ≡ body_of (payload_of_sheets (sheets_in found.now))) }
+    ensures body { IfOk result (λ body. body.items ≡ body_bytes (payload_of_sheets (sheets_in found.now))) }
 {
     let mut payload = payload_head(alloc, 1, found.len() as u64)?;
     for new in found {
@@ -42,12 +42,12 @@ pub fn replaced_body(alloc: Global, found: &[(usize, (Account, Text))]) -> Resul
 }
 
 /// Puts each at its index. It allocates nothing.
-pub fn put_all(sheets: &mut SheetTexts, found: List<(usize, (Account, Text))>)
-    requires { AreWithin (length sheets.old.texts) found }
-    ensures put { sheets.new.texts ≡ set_all found sheets.old.texts }
+pub fn put_all(sheets: &mut SheetTexts, new_texts: List<(usize, (Account, Text))>)
+    requires { AreInRange (length sheets.old.texts) new_texts }
+    ensures put { sheets.new.texts ≡ set_all new_texts sheets.old.texts }
 {
-    let mut found = found;
-    'found: while let Some((at, (_account, text))) = found.pop() {
+    let mut new_texts = new_texts;
+    'new_texts: while let Some((at, (_account, text))) = new_texts.pop() {
         sheets.set(at, text);
     }
 }

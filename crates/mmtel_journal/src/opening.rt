@@ -3,7 +3,7 @@ ghost use Rattle.std.specs.Prelude.{◌≡◌, ◌↔◌, [], length, IfOk, IfEr
 ghost use Rattle.mmtel_journal.specs.Disks.{Leaves, Only};
 ghost use Rattle.mmtel_journal.specs.Faults.{HasDiskCause, HasJournalCause, HasOpenCause};
 ghost use Rattle.mmtel_journal.specs.Journal.{IsJournal};
-ghost use Rattle.mmtel_journal.specs.Keepers.{held_of, Keeps};
+ghost use Rattle.mmtel_journal.specs.Keepers.{contents_of, KeeperRepresents};
 ghost use Rattle.mmtel_journal.specs.Opening.{OnNotEmpty, OnBrokenAt, IsOpening};
 ghost use Rattle.mmtel_journal.specs.Reading.{EndsAt, IsBrokenAt};
 
@@ -11,8 +11,8 @@ use crate::appends::start;
 use crate::disks::{Disk, DiskFault};
 use crate::keepers::JournalKeeper;
 use crate::logs::Log;
-use crate::reading::{Unread, read_journal};
-use mmtel_scan::NoMemory;
+use crate::reading::{LogReadFault, read_journal};
+use mmtel_base::NoMemory;
 use std::alloc::Global;
 
 /// The maximum number of bytes that are read at once.
@@ -60,8 +60,8 @@ impl From<DiskFault> for JournalFault {
 pub fn make<D: Disk>(disk: &mut D) -> Result<(), JournalFault>
     ensures cause { HasJournalCause (D.faults disk.old) (D.faults disk.new) result }
     ensures honest { D.honest disk.old ↔ D.honest disk.new }
-    ensures empty { D.honest disk.old → OnOk result (D.shown disk.old ≡ []) }
-    ensures not_empty { D.honest disk.old → IfErr result (OnNotEmpty (length (D.shown disk.old))) }
+    ensures empty { D.honest disk.old → OnOk result (D.contents disk.old ≡ []) }
+    ensures not_empty { D.honest disk.old → IfErr result (OnNotEmpty (length (D.contents disk.old))) }
     ensures made { D.honest disk.old → OnOk result (Leaves (D.may_leave disk.new) (IsJournal [])) }
 {
     let len = disk.len()?;
@@ -76,7 +76,7 @@ pub fn make<D: Disk>(disk: &mut D) -> Result<(), JournalFault>
 fn read_all<D: Disk>(alloc: Global, disk: &mut D) -> Result<Vec<u8>, DiskFault>
     ensures cause { HasDiskCause (D.faults disk.old) (D.faults disk.new) result }
     ensures honest { D.honest disk.old ↔ D.honest disk.new }
-    ensures all { D.honest disk.old → IfOk result (λ bytes. bytes.items ≡ D.shown disk.old) }
+    ensures all { D.honest disk.old → IfOk result (λ bytes. bytes.items ≡ D.contents disk.old) }
     ensures stop { D.honest disk.old → Leaves (D.may_leave disk.new) (D.may_leave disk.old) }
 {
     let len = disk.len()?;
@@ -103,11 +103,11 @@ impl<D: Disk> JournalKeeper<D> {
     /// such record; `NoMemory`.
     pub fn open(alloc: Global, disk: D) -> Result<JournalKeeper<D>, (D, JournalFault)>
         ensures cause { HasOpenCause D.faults disk result }
-        ensures found { D.honest disk → IfOk result (λ k. EndsAt (D.shown disk) k.log.gate (held_of k)) }
-        ensures broken { D.honest disk → IfErr result (λ e. OnBrokenAt (IsBrokenAt (D.shown disk)) e.1) }
-        ensures only { D.honest disk → IsOpening (D.shown disk) result }
-        ensures keeps { D.honest disk → Only (D.shown disk) (D.may_leave disk)
-            → IfOk result (λ k. (payloads : List (List ℕ)) × Keeps D.may_leave payloads [] k) }
+        ensures found { D.honest disk → IfOk result (λ k. EndsAt (D.contents disk) k.log.gate (contents_of k)) }
+        ensures broken { D.honest disk → IfErr result (λ e. OnBrokenAt (IsBrokenAt (D.contents disk)) e.1) }
+        ensures only { D.honest disk → IsOpening (D.contents disk) result }
+        ensures keeps { D.honest disk → Only (D.contents disk) (D.may_leave disk)
+            → IfOk result (λ k. (payloads : List (List ℕ)) × KeeperRepresents D.may_leave payloads [] k) }
     {
         let mut disk = disk;
         let bytes = match read_all(alloc, &mut disk) {
@@ -126,8 +126,8 @@ impl<D: Disk> JournalKeeper<D> {
                 sheets: found.sheets,
                 rows: found.rows,
             }),
-            Err(Unread::Broken(at)) => Err((disk, JournalFault::Broken { at: at as u64 })),
-            Err(Unread::NoMemory) => Err((disk, JournalFault::NoMemory)),
+            Err(LogReadFault::Broken(at)) => Err((disk, JournalFault::Broken { at: at as u64 })),
+            Err(LogReadFault::NoMemory) => Err((disk, JournalFault::NoMemory)),
         }
     }
 

@@ -1,16 +1,16 @@
 //! Adding a payload to the contents.
 ghost use Rattle.std.specs.Prelude.{◌∷◌, IfOk};
-ghost use Rattle.mmtel_journal.specs.Reading.{TakesSheets, TakesRows, TakesPayload};
+ghost use Rattle.mmtel_journal.specs.Reading.{ReadsSheets, ReadsRows, ReadsPayload};
 
 use crate::fields::{row_at, sheet_at, u64_at};
+use mmtel_base::{NoMemory, Text};
 use mmtel_charging::Row;
-use mmtel_scan::{NoMemory, Text};
 use mmtel_sheet_texts::SheetTexts;
 use std::alloc::Global;
 
 /// Puts the sheets of a payload over those of their accounts, and returns whether the payload is of the format. Where it is not, what was read of it remains put.
-fn take_sheets(alloc: Global, tail: &[u8], sheets: &mut SheetTexts) -> Result<bool, NoMemory>
-    ensures { IfOk result (TakesSheets (1 ∷ tail.now) sheets.old.texts sheets.new.texts) }
+fn read_sheets(alloc: Global, tail: &[u8], sheets: &mut SheetTexts) -> Result<bool, NoMemory>
+    ensures { IfOk result (ReadsSheets (1 ∷ tail.now) sheets.old.texts sheets.new.texts) }
 {
     let Some((count, behind)) = u64_at(tail) else {
         return Ok(false);
@@ -30,8 +30,8 @@ fn take_sheets(alloc: Global, tail: &[u8], sheets: &mut SheetTexts) -> Result<bo
 }
 
 /// Adds the rows of a payload after the others, and returns whether the payload is of the format. Where it is not, what was read of it remains added.
-fn take_rows(tail: &[u8], rows: &mut Vec<Row>) -> Result<bool, NoMemory>
-    ensures { IfOk result (TakesRows (2 ∷ tail.now) rows.old.items rows.new.items) }
+fn read_rows(tail: &[u8], rows: &mut Vec<Row>) -> Result<bool, NoMemory>
+    ensures { IfOk result (ReadsRows (2 ∷ tail.now) rows.old.items rows.new.items) }
 {
     let Some((count, behind)) = u64_at(tail) else {
         return Ok(false);
@@ -51,19 +51,19 @@ fn take_rows(tail: &[u8], rows: &mut Vec<Row>) -> Result<bool, NoMemory>
 }
 
 /// Adds a payload to the contents, and returns whether it is of the format.
-pub fn take_payload(
+pub fn read_payload(
     alloc: Global,
     payload: &[u8],
     sheets: &mut SheetTexts,
     rows: &mut Vec<Row>,
 ) -> Result<bool, NoMemory>
     ensures { IfOk result
-        (TakesPayload payload.now (record { sheets = sheets.old.texts; rows = rows.old.items })
+        (ReadsPayload payload.now (record { sheets = sheets.old.texts; rows = rows.old.items })
         (record { sheets = sheets.new.texts; rows = rows.new.items })) }
 {
     match payload {
-        [1, tail @ ..] => take_sheets(alloc, tail, sheets),
-        [2, tail @ ..] => take_rows(tail, rows),
+        [1, tail @ ..] => read_sheets(alloc, tail, sheets),
+        [2, tail @ ..] => read_rows(tail, rows),
         _ => Ok(false),
     }
 }

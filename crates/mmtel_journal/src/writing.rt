@@ -2,21 +2,21 @@
 ghost use Rattle.std.specs.Prelude.{◌≡◌, ◌++◌, ◌∷◌, [], ◌<◌, ◌≤◌, ◌^◌, All, IfOk, IfSome, OnOk};
 ghost use Rattle.std.specs.Int.{w32, w64, to_be_bytes};
 ghost use Rattle.mmtel_types.specs.Moments.{last_moment};
-ghost use Rattle.mmtel_journal.specs.Logs.{body_of};
-ghost use Rattle.mmtel_journal.specs.Payloads.{IsSheet, IsRow, payload_of_sheets, payload_of_rows, kind_of, cause_of, answered_of, cause_bytes, row_of, sheet_of};
+ghost use Rattle.mmtel_journal.specs.Logs.{body_bytes};
+ghost use Rattle.mmtel_journal.specs.Payloads.{IsSheet, IsRow, payload_of_sheets, payload_of_rows, kind_number, cause_numbers, answered_bytes, cause_bytes, row_bytes, sheet_bytes};
 
+use mmtel_base::NoMemory;
 use mmtel_charging::{Kind, Row};
-use mmtel_scan::NoMemory;
 use mmtel_types::{Account, CallNo, Cause, Moment};
 use std::alloc::Global;
 
 /// More rows than this do not fit into memory.
-const MOST_ROWS: u64 = 1 << 48;
+const MAX_ROWS: u64 = 1 << 48;
 
 /// What is written after a gate for a payload: its length, the payload, and the next gate.
-#[tactic(auto, unfolding(crate::specs::Logs::body_of))]
+#[tactic(auto, unfolding(crate::specs::Logs::body_bytes))]
 pub fn body_around(alloc: Global, payload: &[u8]) -> Result<Vec<u8>, NoMemory>
-    ensures body { IfOk result (λ body. body.items ≡ body_of payload.now) }
+    ensures body { IfOk result (λ body. body.items ≡ body_bytes payload.now) }
 {
     let mut body = Vec::new(alloc);
     body.extend_from_slice(&(payload.len() as u64).to_be_bytes())?;
@@ -47,7 +47,7 @@ fn put_sheet_head(out: &mut Vec<u8>, account: Account, size: u64) -> Result<(), 
 /// Writes a sheet.
 pub fn put_sheet(out: &mut Vec<u8>, account: Account, text: &[u8]) -> Result<(), NoMemory>
     ensures fits { IsSheet (account, text.now) }
-    ensures put { OnOk result (out.new.items ≡ out.old.items ++ sheet_of (account, text.now)) }
+    ensures put { OnOk result (out.new.items ≡ out.old.items ++ sheet_bytes (account, text.now)) }
 {
     put_sheet_head(out, account, text.len() as u64)?;
     out.extend_from_slice(text)?;
@@ -57,7 +57,7 @@ pub fn put_sheet(out: &mut Vec<u8>, account: Account, text: &[u8]) -> Result<(),
 /// What is written after a gate for one sheet.
 pub fn sheet_body(alloc: Global, account: Account, text: &[u8]) -> Result<Vec<u8>, NoMemory>
     ensures fits { OnOk result (IsSheet (account, text.now)) }
-    ensures body { IfOk result (λ body. body.items ≡ body_of (payload_of_sheets ((account, text.now) ∷ []))) }
+    ensures body { IfOk result (λ body. body.items ≡ body_bytes (payload_of_sheets ((account, text.now) ∷ []))) }
 {
     let mut payload = payload_head(alloc, 1, 1)?;
     put_sheet(&mut payload, account, text)?;
@@ -66,7 +66,7 @@ pub fn sheet_body(alloc: Global, account: Account, text: &[u8]) -> Result<Vec<u8
 
 /// The number of a kind.
 pub fn kind_number(kind: Kind) -> u8
-    ensures { result ≡ kind_of kind }
+    ensures { result ≡ kind_number kind }
 {
     match kind {
         Kind::Origin => 0,
@@ -78,7 +78,7 @@ pub fn kind_number(kind: Kind) -> u8
 
 /// The position of a cause in the table of causes, and its code.
 pub fn cause_numbers(cause: &Cause) -> (u8, u16)
-    ensures { result ≡ cause_of cause.now }
+    ensures { result ≡ cause_numbers cause.now }
 {
     match cause {
         Cause::OutgoingBarred => (1, 0),
@@ -108,7 +108,7 @@ pub fn cause_numbers(cause: &Cause) -> (u8, u16)
 /// Writes when a call was answered, if it was.
 fn put_answered(out: &mut Vec<u8>, answered: Option<Moment>) -> Result<(), NoMemory>
     ensures fits { IfSome answered (λ moment. moment ≤ last_moment) }
-    ensures put { OnOk result (out.new.items ≡ out.old.items ++ answered_of answered) }
+    ensures put { OnOk result (out.new.items ≡ out.old.items ++ answered_bytes answered) }
 {
     match answered {
         None => {
@@ -147,7 +147,7 @@ fn put_part(out: &mut Vec<u8>, kind: Kind, account: Account, call: CallNo) -> Re
     ensures account { account.0 < 2 ^ 32 }
     ensures call { call.0 < 2 ^ 64 }
     ensures put { OnOk result
-        (out.new.items ≡ out.old.items ++ (kind_of kind ∷ (to_be_bytes w32 account.0 ++ to_be_bytes w64 call.0))) }
+        (out.new.items ≡ out.old.items ++ (kind_number kind ∷ (to_be_bytes w32 account.0 ++ to_be_bytes w64 call.0))) }
 {
     out.push(kind_number(kind))?;
     out.extend_from_slice(&account.0.to_be_bytes())?;
@@ -157,7 +157,7 @@ fn put_part(out: &mut Vec<u8>, kind: Kind, account: Account, call: CallNo) -> Re
 
 /// Writes why a part ended.
 fn put_cause(out: &mut Vec<u8>, cause: &Cause) -> Result<(), NoMemory>
-    ensures fits { (cause_of cause.now).1 < 2 ^ 16 }
+    ensures fits { (cause_numbers cause.now).1 < 2 ^ 16 }
     ensures put { OnOk result (out.new.items ≡ out.old.items ++ cause_bytes cause.now) }
 {
     let (place, code) = cause_numbers(cause);
@@ -169,7 +169,7 @@ fn put_cause(out: &mut Vec<u8>, cause: &Cause) -> Result<(), NoMemory>
 /// Writes a row.
 fn put_row(out: &mut Vec<u8>, row: &Row) -> Result<(), NoMemory>
     ensures fits { OnOk result (IsRow row.now) }
-    ensures put { OnOk result (out.new.items ≡ out.old.items ++ row_of row.now) }
+    ensures put { OnOk result (out.new.items ≡ out.old.items ++ row_bytes row.now) }
 {
     put_part(out, row.kind, row.account, row.call)?;
     put_moment(out, row.began)?;
@@ -181,13 +181,13 @@ fn put_row(out: &mut Vec<u8>, row: &Row) -> Result<(), NoMemory>
 }
 
 /// What is written after a gate for rows.
-#[tactic(auto, unfolding(crate::specs::Logs::body_of))]
+#[tactic(auto, unfolding(crate::specs::Logs::body_bytes))]
 pub fn rows_body(alloc: Global, rows: &[Row]) -> Result<Vec<u8>, NoMemory>
     ensures fits { OnOk result (All IsRow rows.now) }
-    ensures body { IfOk result (λ body. body.items ≡ body_of (payload_of_rows rows.now)) }
+    ensures body { IfOk result (λ body. body.items ≡ body_bytes (payload_of_rows rows.now)) }
 {
     let count = rows.len() as u64;
-    if count > MOST_ROWS {
+    if count > MAX_ROWS {
         return Err(NoMemory);
     }
     let mut body = Vec::new(alloc);

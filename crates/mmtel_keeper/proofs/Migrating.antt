@@ -8,8 +8,8 @@ use Rattle.mmtel_types.specs.declared.numbers.Account.{Account}
 use Rattle.mmtel_sheet_grammar.specs.Texts.{old_sheet}
 use Rattle.mmtel_sheet_values.specs.declared.values.Sheet.{Sheet}
 use Rattle.mmtel_sheet_texts.specs.Texts.{set_text}
-use Rattle.mmtel_keeper.specs.Memory.{set_all, AreReplacements, AreWithin}
-use Rattle.mmtel_keeper.specs.Migration.{AreMigrated, IsMigrated, is_old, old_ones}
+use Rattle.mmtel_keeper.specs.Memory.{set_all, AreReplacements, AreInRange}
+use Rattle.mmtel_keeper.specs.Migration.{AreMigrated, IsMigrated, first_version_count, is_first_version}
 
 abbrev Sheets : Type 0
 Sheets = List (Account × List ℕ)
@@ -25,8 +25,8 @@ GivenWay (suc k) (x ∷ xs) (y ∷ ys) = (y.0 ≡ x.0) × IsMigrated x.1 y.1 × 
 -- the texts found so far, each with its index
 pub record AreFound (k : ℕ) (sheets : Sheets) (found : List (ℕ × List ℕ)) : Type 0 where
   pub given : GivenWay k sheets (set_all found sheets)
-  pub many : length found ≡ count_by is_old (take k sheets)
-  pub within : AreWithin k found
+  pub many : length found ≡ count_by is_first_version (take k sheets)
+  pub within : AreInRange k found
 
 none_given : (sheets : Sheets) → GivenWay zero sheets sheets
 none_given [] = tt
@@ -75,13 +75,13 @@ put_last [] k text sheets = refl
 put_last (new ∷ found) k text sheets = ap (λ (l : Sheets). set_text l new.0 new.1) (put_last found k text sheets)
 
 put_behind : (found : List (ℕ × List ℕ)) (k : ℕ) (text : List ℕ) (sheets : Sheets)
-    → AreWithin k found → set_all found (set_text sheets k text) ≡ set_text (set_all found sheets) k text
+    → AreInRange k found → set_all found (set_text sheets k text) ≡ set_text (set_all found sheets) k text
 put_behind [] k text sheets within = refl
 put_behind (new ∷ found) k text sheets within =
     ap (λ (l : Sheets). set_text l new.0 new.1) (put_behind found k text sheets (All-tail (λ (n : ℕ × List ℕ). n.0 < k) new found within))
     ∙ apart (set_all found sheets) new.0 k new.1 text (All-head (λ (n : ℕ × List ℕ). n.0 < k) new found within)
 
-further : (k : ℕ) (found : List (ℕ × List ℕ)) → AreWithin k found → AreWithin (k + 1) found
+further : (k : ℕ) (found : List (ℕ × List ℕ)) → AreInRange k found → AreInRange (k + 1) found
 further k found within = All-weaker (λ (n : ℕ × List ℕ). n.0 < k) (λ (n : ℕ × List ℕ). n.0 < k + 1) (λ n lt. omega arith) found within
 
 pub begun : (sheets : Sheets) → AreFound 0 sheets []
@@ -90,7 +90,7 @@ begun sheets = record { given = none_given sheets; many = refl; within = search 
 pub ended : (sheets : Sheets) (found : List (ℕ × List ℕ)) → AreFound (length sheets) sheets found → AreReplacements sheets found
 ended sheets found are = record {
   migrated = all_given sheets (set_all found sheets) are.given;
-  many = are.many ∙ ap (λ (l : Sheets). old_ones l) (take_all (length sheets) sheets (omega arith));
+  many = are.many ∙ ap (λ (l : Sheets). first_version_count l) (take_all (length sheets) sheets (omega arith));
   within = are.within;
 }
 
@@ -111,7 +111,7 @@ passed sheets found k x within at none are =
     let there : is_some (old_sheet (get_or sheets k x).1) ≡ false = ap (λ (z : Account × List ℕ). is_some (old_sheet z.1)) (sym at) ∙ none in
     record {
       given = subst (λ (n : ℕ). GivenWay n sheets (set_all found sheets)) (next k) (kept k sheets (set_all found sheets) x within (not_old (get_or sheets k x).1 there) are.given);
-      many = are.many ∙ sym (count_by_more_no is_old sheets k x within there);
+      many = are.many ∙ sym (count_by_more_no is_first_version sheets k x within there);
       within = further k found are.within;
     }
 
@@ -125,6 +125,6 @@ added sheets found k x text within at some is are =
     subst (λ (n : ℕ). GivenWay n sheets (set_text (set_all found sheets) k text)) (next k) (put_over k sheets (set_all found sheets) x text within is_there are.given) in
     record {
       given = subst (λ (l : Sheets). GivenWay (k + 1) sheets l) (sym (put_last found k text sheets ∙ put_behind found k text sheets are.within)) put;
-      many = omega (arith, length-append found ((k, text) ∷ []), are.many, count_by_more_yes is_old sheets k x within there);
+      many = omega (arith, length-append found ((k, text) ∷ []), are.many, count_by_more_yes is_first_version sheets k x within there);
       within = All-push (λ (n : ℕ × List ℕ). n.0 < k + 1) found (k, text) (further k found are.within) (omega arith);
     }

@@ -1,7 +1,7 @@
 -- The count of a keeper's faults after a call, by the result of the call.
 use Rattle.std.specs.Prelude.{ℕ}
 use Rattle.std.specs.declared.result.Result.{Result}
-use Rattle.mmtel_outside.specs.Counts.{HasFaultCause}
+use Rattle.mmtel_environment.specs.Counts.{HasFaultCause}
 use Rattle.mmtel_keeper.specs.declared.keepers.KeepFault.{KeepFault}
 use Rattle.mmtel_keeper.specs.declared.keepers.KeepFault.TheVariants.{Failed, NoMemory}
 

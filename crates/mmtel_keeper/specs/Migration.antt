@@ -6,18 +6,18 @@ use Rattle.mmtel_types.specs.declared.numbers.Account.{Account}
 use Rattle.mmtel_sheet_grammar.specs.Texts.{old_sheet, sheet_read, version_read}
 use Rattle.mmtel_sheet_grammar.specs.declared.keys.Version.TheVariants as version
 use Rattle.mmtel_sheet_values.specs.declared.values.Sheet.{Sheet}
-use Rattle.mmtel_keeper.specs.Kept.{Held}
+use Rattle.mmtel_keeper.specs.Contents.{KeeperContents}
 use Rattle.mmtel_keeper.specs.declared.keepers.KeepFault.{KeepFault}
 
 -- a record of the second version that reads as this sheet
-pub record IsSecond (sheet : Sheet) (text : List ℕ) : Type 0 where
+pub record IsVersionTwo (sheet : Sheet) (text : List ℕ) : Type 0 where
   pub sheet_is : sheet_read text ≡ Ok sheet
   pub version_is : version_read text ≡ Ok version.Two
 
 -- the text after the migration, by the sheet of the text if it is a record of the first version: any other text is unchanged
 abbrev pub Replaces : (old : Option Sheet) → (before after : List ℕ) → Type 0
 Replaces None before after = after ≡ before
-Replaces (Some sheet) before after = IsSecond sheet after
+Replaces (Some sheet) before after = IsVersionTwo sheet after
 
 abbrev pub IsMigrated : (before after : List ℕ) → Type 0
 IsMigrated before after = Replaces (old_sheet before) before after
@@ -30,23 +30,23 @@ AreMigrated (x ∷ xs) [] = ⊥
 AreMigrated (x ∷ xs) (y ∷ ys) = (y.0 ≡ x.0) × IsMigrated x.1 y.1 × AreMigrated xs ys
 
 -- how many are records of the first version
-abbrev pub is_old : Account × List ℕ → Bool
-is_old x = is_some (old_sheet x.1)
+abbrev pub is_first_version : Account × List ℕ → Bool
+is_first_version x = is_some (old_sheet x.1)
 
-abbrev pub old_ones : List (Account × List ℕ) → ℕ
-old_ones sheets = count_by is_old sheets
+abbrev pub first_version_count : List (Account × List ℕ) → ℕ
+first_version_count sheets = count_by is_first_version sheets
 
 -- the stored sheets, each of the first version replaced, and the rows as they were
-pub record IsHeldMigrated (before after : Held) : Type 0 where
+pub record AreContentsMigrated (before after : KeeperContents) : Type 0 where
   pub sheets : AreMigrated before.sheets after.sheets
   pub rows : after.rows ≡ before.rows
 
 -- so, and the result is the number of those that were replaced
-abbrev pub MigratesTo : Held → Option Held → Result ℕ KeepFault → Type 0
-MigratesTo held after (Ok n) = (later : Held) × (after ≡ Some later) × IsHeldMigrated held later × (n ≡ old_ones held.sheets)
+abbrev pub MigratesTo : KeeperContents → Option KeeperContents → Result ℕ KeepFault → Type 0
+MigratesTo held after (Ok n) = (later : KeeperContents) × (after ≡ Some later) × AreContentsMigrated held later × (n ≡ first_version_count held.sheets)
 MigratesTo held after (Err e) = after ≡ Some held
 
 -- where the contents are known; a call that returns a fault changes nothing
-abbrev pub Migrates : Option Held → Option Held → Result ℕ KeepFault → Type 0
+abbrev pub Migrates : Option KeeperContents → Option KeeperContents → Result ℕ KeepFault → Type 0
 Migrates None after result = after ≡ None
 Migrates (Some held) after result = MigratesTo held after result

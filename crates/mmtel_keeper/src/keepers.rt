@@ -1,11 +1,11 @@
 //! Storage of service records and charging rows.
 ghost use Rattle.std.specs.Prelude.{◌≡◌, ℕ, Option};
 ghost use Rattle.mmtel_keeper.specs.Causes.{HasKeepCause};
-ghost use Rattle.mmtel_keeper.specs.Kept.{Held, KeeperCalls, IsCall, IsBind, Becomes, Tells, with_sheet, with_rows};
+ghost use Rattle.mmtel_keeper.specs.Contents.{KeeperContents, KeeperCalls, IsCountedCall, IsCountedBind, Becomes, ReturnsPart, with_sheet, with_rows};
 ghost use Rattle.mmtel_keeper.specs.Migration.{Migrates};
 
+use mmtel_base::{List, NoMemory, Text};
 use mmtel_charging::Row;
-use mmtel_scan::{List, NoMemory, Text};
 use mmtel_types::Account;
 use std::alloc::Global;
 
@@ -23,7 +23,7 @@ pub enum KeepFault {
 /// A call that returns a fault changes no sheet and no row, where they are known.
 pub trait Keeper {
     /// The sheets and the rows that it holds, where they are known.
-    ghost held: { Self → Option Held };
+    ghost contents: { Self → Option KeeperContents };
 
     /// The path bound last, the number of calls so far and the numbers of those that fail, where they are known.
     ghost calls: { Self → Option KeeperCalls };
@@ -37,8 +37,8 @@ pub trait Keeper {
     ///
     /// `Failed` only where the count of faults rose in this call; `NoMemory` leaves the count unchanged.
     fn bind(&mut self, alloc: Global, path: &[u8]) -> Result<(), KeepFault>
-        ensures same { held self.new ≡ held self.old }
-        ensures calls { IsBind (calls self.old) (calls self.new) path.now result }
+        ensures same { contents self.new ≡ contents self.old }
+        ensures calls { IsCountedBind (calls self.old) (calls self.new) path.now result }
         ensures cause { HasKeepCause (faults self.old) (faults self.new) result };
 
     /// Replaces each text that is a record of the first version by one of the second with the same sheet; every other is unchanged. Returns how many were replaced.
@@ -47,8 +47,8 @@ pub trait Keeper {
     ///
     /// As of `bind`; nothing is replaced then.
     fn migrate(&mut self, alloc: Global) -> Result<u64, KeepFault>
-        ensures migrated { Migrates (held self.old) (held self.new) result }
-        ensures calls { IsCall (calls self.old) (calls self.new) result }
+        ensures migrated { Migrates (contents self.old) (contents self.new) result }
+        ensures calls { IsCountedCall (calls self.old) (calls self.new) result }
         ensures cause { HasKeepCause (faults self.old) (faults self.new) result };
 
     /// The sheets that it holds: each account that has one, and its text.
@@ -57,9 +57,9 @@ pub trait Keeper {
     ///
     /// As of `bind`.
     fn load(&mut self, alloc: Global) -> Result<List<(Account, Text)>, KeepFault>
-        ensures same { held self.new ≡ held self.old }
-        ensures told { Tells (held self.old) (λ h. h.sheets) result }
-        ensures calls { IsCall (calls self.old) (calls self.new) result }
+        ensures same { contents self.new ≡ contents self.old }
+        ensures reported { ReturnsPart (contents self.old) (λ h. h.sheets) result }
+        ensures calls { IsCountedCall (calls self.old) (calls self.new) result }
         ensures cause { HasKeepCause (faults self.old) (faults self.new) result };
 
     /// Puts a sheet in place of the account's previous one.
@@ -68,8 +68,8 @@ pub trait Keeper {
     ///
     /// As of `bind`.
     fn store(&mut self, alloc: Global, account: Account, text: &[u8]) -> Result<(), KeepFault>
-        ensures changed { Becomes (held self.old) (held self.new) (with_sheet account text.now) result }
-        ensures calls { IsCall (calls self.old) (calls self.new) result }
+        ensures changed { Becomes (contents self.old) (contents self.new) (with_sheet account text.now) result }
+        ensures calls { IsCountedCall (calls self.old) (calls self.new) result }
         ensures cause { HasKeepCause (faults self.old) (faults self.new) result };
 
     /// Adds rows after those that it holds, all or none.
@@ -78,8 +78,8 @@ pub trait Keeper {
     ///
     /// As of `bind`.
     fn add_rows(&mut self, alloc: Global, rows: &[Row]) -> Result<(), KeepFault>
-        ensures changed { Becomes (held self.old) (held self.new) (with_rows rows.now) result }
-        ensures calls { IsCall (calls self.old) (calls self.new) result }
+        ensures changed { Becomes (contents self.old) (contents self.new) (with_rows rows.now) result }
+        ensures calls { IsCountedCall (calls self.old) (calls self.new) result }
         ensures cause { HasKeepCause (faults self.old) (faults self.new) result };
 
     /// The rows that it holds, in the order in which they were added.
@@ -88,9 +88,9 @@ pub trait Keeper {
     ///
     /// As of `bind`.
     fn rows(&mut self, alloc: Global) -> Result<List<Row>, KeepFault>
-        ensures same { held self.new ≡ held self.old }
-        ensures told { Tells (held self.old) (λ h. h.rows) result }
-        ensures calls { IsCall (calls self.old) (calls self.new) result }
+        ensures same { contents self.new ≡ contents self.old }
+        ensures reported { ReturnsPart (contents self.old) (λ h. h.rows) result }
+        ensures calls { IsCountedCall (calls self.old) (calls self.new) result }
         ensures cause { HasKeepCause (faults self.old) (faults self.new) result };
 }
 

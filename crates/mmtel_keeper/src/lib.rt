@@ -7,4 +7,4 @@ mod migration;
 
 pub use keepers::{KeepFault, Keeper};
 pub use memory::MemoryKeeper;
-pub use migration::migrated;
+pub use migration::migrated_text;

@@ -1,12 +1,12 @@
 //! A keeper in memory.
 ghost use Rattle.std.specs.Prelude.{◌≡◌, ◌++◌, ◌==◌, ◌<◌, [], length, position, Some, None, IfOk, IfSome, OnOk, OnErr};
-ghost use Rattle.mmtel_keeper.specs.Memory.{Begins, AreReplacements, AreWithin, set_all};
+ghost use Rattle.mmtel_keeper.specs.Memory.{BeginsCall, AreReplacements, AreInRange, set_all};
 
 use crate::keepers::{KeepFault, Keeper};
-use crate::migration::migrated;
+use crate::migration::migrated_text;
+use mmtel_base::{List, NoMemory, Text};
 use mmtel_charging::Row;
-use mmtel_outside::fails_by_number;
-use mmtel_scan::{List, NoMemory, Text};
+use mmtel_environment::fails_by_number;
 use mmtel_sheet_texts::SheetTexts;
 use mmtel_types::Account;
 use std::alloc::Global;
@@ -24,12 +24,12 @@ pub struct MemoryKeeper {
 }
 
 impl Model for MemoryKeeper {
-    ghost use Rattle.mmtel_keeper.specs.Memory.{Store};
+    ghost use Rattle.mmtel_keeper.specs.Memory.{MemoryKeeperView};
 
-    ghost Value = { Store };
+    ghost Value = { MemoryKeeperView };
 
     ghost view = { λ m. record {
-      held = record { sheets = m.sheets.texts; rows = m.rows };
+      contents = record { sheets = m.sheets.texts; rows = m.rows };
       calls = record { path = m.path; calls = m.calls; failing = m.failing };
       faults = m.faults;
     } };
@@ -38,7 +38,7 @@ impl Model for MemoryKeeper {
 /// Rows in order, seen as a list in contracts.
 #[derive(Drop)]
 struct Rows {
-    kept: Option<Vec<Row>>,
+    list: Option<Vec<Row>>,
 }
 
 impl Model for Rows {
@@ -48,7 +48,7 @@ impl Model for Rows {
 
     ghost Value = { List Row };
 
-    ghost view = { λ r. option_map_or (λ v. v.items) r.kept [] };
+    ghost view = { λ r. option_map_or (λ v. v.items) r.list [] };
 }
 
 impl Rows {
@@ -57,14 +57,14 @@ impl Rows {
         ensures ok { OnOk result (self.new ≡ self.old ++ rows.now) }
         ensures err { OnErr result (self.new ≡ self.old) }
     {
-        match &mut self.kept {
+        match &mut self.list {
             Some(kept) => {
                 kept.extend_from_slice(rows)?;
                 Ok(())
             }
             None => {
                 let kept = Vec::from_slice(alloc, rows)?;
-                self.kept = Some(kept);
+                self.list = Some(kept);
                 Ok(())
             }
         }
@@ -74,7 +74,7 @@ impl Rows {
     fn items(&self) -> &[Row]
         ensures { result.now ≡ self.now }
     {
-        match &self.kept {
+        match &self.list {
             Some(kept) => kept.as_slice(),
             None => &[],
         }
@@ -111,7 +111,7 @@ fn replacements(alloc: Global, sheets: &[(Account, Text)]) -> Result<List<(usize
     let mut found = List::new();
     let mut at: usize = 0;
     for sheet in sheets {
-        if let Some(text) = migrated(alloc, sheet.1.bytes())? {
+        if let Some(text) = migrated_text(alloc, sheet.1.bytes())? {
             found.push(alloc, (at, text))?;
         }
         at += 1;
@@ -120,12 +120,12 @@ fn replacements(alloc: Global, sheets: &[(Account, Text)]) -> Result<List<(usize
 }
 
 /// Puts each text at its index. It allocates nothing.
-fn put_all(sheets: &mut SheetTexts, found: List<(usize, Text)>)
-    requires { AreWithin (length sheets.old.texts) found }
-    ensures put { sheets.new.texts ≡ set_all found sheets.old.texts }
+fn put_all(sheets: &mut SheetTexts, new_texts: List<(usize, Text)>)
+    requires { AreInRange (length sheets.old.texts) new_texts }
+    ensures put { sheets.new.texts ≡ set_all new_texts sheets.old.texts }
 {
-    let mut found = found;
-    'found: while let Some((at, text)) = found.pop() {
+    let mut new_texts = new_texts;
+    'new_texts: while let Some((at, text)) = new_texts.pop() {
         sheets.set(at, text);
     }
 }
@@ -134,14 +134,14 @@ impl MemoryKeeper {
     /// A keeper of no sheets and no rows. The calls whose numbers, counted from 1, are in `failing` fail.
     pub fn new(failing: List<u64>) -> MemoryKeeper
         ensures fresh { result ≡ record {
-          held = record { sheets = []; rows = [] };
+          contents = record { sheets = []; rows = [] };
           calls = record { path = None; calls = 0; failing = failing };
           faults = 0;
         } }
     {
         MemoryKeeper {
             sheets: SheetTexts::new(),
-            rows: Rows { kept: None },
+            rows: Rows { list: None },
             path: None,
             failing,
             calls: 0,
@@ -151,7 +151,7 @@ impl MemoryKeeper {
 
     /// Counts a call, and fails where its number is one of those that fail.
     fn begin(&mut self) -> Result<(), KeepFault>
-        ensures begins { Begins self.old self.new result }
+        ensures begins { BeginsCall self.old self.new result }
     {
         let fails = fails_by_number(self.failing.items(), self.calls);
         self.calls = self.calls.saturating_add(1);
@@ -164,7 +164,7 @@ impl MemoryKeeper {
 }
 
 impl Keeper for MemoryKeeper {
-    ghost held = { λ m. Some m.held };
+    ghost contents = { λ m. Some m.contents };
 
     ghost calls = { λ m. Some m.calls };
 

@@ -3,7 +3,7 @@ ghost use Rattle.std.specs.Prelude.{IfOk, IfSome, Some, is_some, ◌≡◌};
 ghost use Rattle.mmtel_keeper.specs.Migration.{IsMigrated};
 ghost use Rattle.mmtel_sheet_grammar.specs.Texts.{old_sheet};
 
-use mmtel_scan::{NoMemory, Text};
+use mmtel_base::{NoMemory, Text};
 use mmtel_sheets::{print_sheet, read_old_sheet};
 use std::alloc::Global;
 
@@ -12,7 +12,7 @@ use std::alloc::Global;
 /// # Errors
 ///
 /// Out of memory only.
-pub fn migrated(alloc: Global, text: &[u8]) -> Result<Option<Text>, NoMemory>
+pub fn migrated_text(alloc: Global, text: &[u8]) -> Result<Option<Text>, NoMemory>
     ensures replaced { IfOk result (λ new. IfSome new (λ after. IsMigrated text.now after)) }
     ensures old { IfOk result (λ new. is_some new ≡ is_some (old_sheet text.now)) }
 {

@@ -1,8 +1,8 @@
-pub mod DeedLaws
-pub mod LineLaws
-pub mod HeardLaws
-pub mod ReadLaws
-pub mod OrderLaws
-pub mod TagLaws
-pub mod FiveLaws
-pub mod AnswerLaws
+pub mod OperationTheorems
+pub mod LineTheorems
+pub mod ReceivedTheorems
+pub mod ReadTheorems
+pub mod OrderTheorems
+pub mod TagTheorems
+pub mod FiveTheorems
+pub mod ResponseTheorems

@@ -3,12 +3,12 @@
 use Rattle.std.specs.Prelude.{ℕ, nat_lt, Bool, true, false, if◌then◌else◌, List, [], ◌∷◌, Option, Some, None, Result, Ok, Err, codes}
 use Rattle.std.specs.Option.{option_map, unwrap_or}
 use Rattle.std.specs.Str.{bytes_eq}
-use Rattle.mmtel_scan.specs.Chain.{◌>>=◌}
-use Rattle.mmtel_scan.specs.Numbers.{next_number}
+use Rattle.mmtel_base.specs.Chain.{◌>>=◌}
+use Rattle.mmtel_base.specs.Numbers.{next_number}
 use Rattle.mmtel_message.specs.Faults.{is_method}
 use Rattle.mmtel_message.specs.Fields.{cseq_at}
 use Rattle.mmtel_message.specs.Message.{Line, Message, first_value}
-use Rattle.mmtel_message.specs.Responses.{tagged}
+use Rattle.mmtel_message.specs.Responses.{tagged_value}
 use Rattle.mmtel_message.specs.declared.fields.CSeq.{CSeq}
 use Rattle.mmtel_message.specs.declared.messages.Start.{Start}
 use Rattle.mmtel_message.specs.declared.messages.Start.TheVariants.{Request, Status}
@@ -41,25 +41,25 @@ request_uri (Request method uri) = uri
 request_uri (Status code phrase) = []
 
 -- the dialog of an INVITE that was received, where the server responds with this tag: the parties change places (§12.1.1)
-abbrev pub taken : Peer → List Line → List ℕ → Dialogue
-taken peer ls tag = record {
+abbrev pub caller_dialogue : Peer → List Line → List ℕ → Dialogue
+caller_dialogue peer ls tag = record {
   side = Caller;
   peer = peer;
   call_id = field (codes "Call-ID") ls;
-  local = tagged (field (codes "To") ls) tag;
+  local = tagged_value (field (codes "To") ls) tag;
   remote = field (codes "From") ls;
   local_tag = tag;
   remote_tag = [];
   target = [];
   routes = [];
-  own = 0;
-  last = number_in ls;
-  invited = None;
+  local_cseq = 0;
+  remote_cseq = number_in ls;
+  invite_cseq = None;
 }
 
 -- the dialog of an INVITE that the server sends (§12.1.2); until a response to it makes a dialog the target is the Request-URI; a number that cannot be read counts as 0
-abbrev pub started : Peer → Message Start → Dialogue
-started peer m = record {
+abbrev pub callee_dialogue : Peer → Message Start → Dialogue
+callee_dialogue peer m = record {
   side = Callee;
   peer = peer;
   call_id = field (codes "Call-ID") m.lines;
@@ -69,9 +69,9 @@ started peer m = record {
   remote_tag = [];
   target = request_uri m.start;
   routes = [];
-  own = unwrap_or (number_in m.lines) 0;
-  last = None;
-  invited = number_in m.lines;
+  local_cseq = unwrap_or (number_in m.lines) 0;
+  remote_cseq = None;
+  invite_cseq = number_in m.lines;
 }
 
 -- ---- what is recorded of the other side
@@ -84,21 +84,21 @@ names_itself Caller (b ∷ tag) = true
 names_itself Callee tag = true
 
 -- the target that was given, or the one before where none was
-abbrev pub said_or : List ℕ → List ℕ → List ℕ
-said_or [] before = before
-said_or (b ∷ target) before = b ∷ target
+abbrev pub target_or : List ℕ → List ℕ → List ℕ
+target_or [] before = before
+target_or (b ∷ target) before = b ∷ target
 
 -- the dialog with the tag, target and route set that the other side gave
-abbrev pub met : Dialogue → Remote → Dialogue
-met d r = record d {
+abbrev pub with_remote : Dialogue → Remote → Dialogue
+with_remote d r = record d {
   remote_tag = if names_itself d.side r.tag then r.tag else d.remote_tag;
-  target = said_or r.target d.target;
+  target = target_or r.target d.target;
   routes = if names_itself d.side r.tag then r.routes else d.routes;
 }
 
 -- the dialog of a received INVITE, with the caller's tag, target and route set from it (§12.1.1)
-abbrev pub opened : Peer → List Line → List ℕ → Dialogue
-opened peer ls tag = met (taken peer ls tag) (remote_of Caller ls)
+abbrev pub caller_dialogue_with_remote : Peer → List Line → List ℕ → Dialogue
+caller_dialogue_with_remote peer ls tag = with_remote (caller_dialogue peer ls tag) (remote_of Caller ls)
 
 -- ---- requests that are received in a dialog
 
@@ -115,8 +115,8 @@ unless_old (Some n) None otherwise = otherwise
 unless_old (Some n) (Some last) otherwise = if nat_lt n last then Err (OldCSeq last) else otherwise
 
 -- whether a dialog accepts a request, or why not
-abbrev pub hears : Dialogue → Message Start → InFlight → Result (Unit {0}) DialogueFault
-hears d m busy = unless_old (number_in m.lines) d.last (unless_busy (is_method (codes "INVITE") m.start) busy)
+abbrev pub receive_result : Dialogue → Message Start → InFlight → Result (Unit {0}) DialogueFault
+receive_result d m busy = unless_old (number_in m.lines) d.remote_cseq (unless_busy (is_method (codes "INVITE") m.start) busy)
 
 -- the last number, once a request with this one was accepted
 abbrev pub last_after : Option ℕ → Option ℕ → Option ℕ
@@ -124,15 +124,15 @@ last_after None last = last
 last_after (Some n) last = Some n
 
 -- the dialog once a request was accepted: its last number changes and nothing else
-abbrev pub after_hearing : Dialogue → Message Start → Dialogue
-after_hearing d m = record d { last = last_after (number_in m.lines) d.last }
+abbrev pub after_receiving : Dialogue → Message Start → Dialogue
+after_receiving d m = record d { remote_cseq = last_after (number_in m.lines) d.remote_cseq }
 
 -- ---- requests that are sent in a dialog
 
 -- the number of the last INVITE, once a request of the method was made with this number
-abbrev pub invited_by : List ℕ → ℕ → Option ℕ → Option ℕ
-invited_by method number before = if bytes_eq method (codes "INVITE") then Some number else before
+abbrev pub invite_cseq_after : List ℕ → ℕ → Option ℕ → Option ℕ
+invite_cseq_after method number before = if bytes_eq method (codes "INVITE") then Some number else before
 
 -- the dialog once a request of the method was made: its own number changes, and that of the last INVITE too where the request is one
 abbrev pub after_request : Dialogue → List ℕ → Dialogue
-after_request d method = record d { own = next_number d.own; invited = invited_by method (next_number d.own) d.invited }
+after_request d method = record d { local_cseq = next_number d.local_cseq; invite_cseq = invite_cseq_after method (next_number d.local_cseq) d.invite_cseq }

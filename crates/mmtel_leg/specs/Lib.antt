@@ -7,7 +7,7 @@ pub mod Legs
 pub mod Names
 pub mod Releases
 -- Of the theorems alone:
-pub mod Deeds
+pub mod Operations
 pub mod Readings
 
 -- What private functions alone cite: nothing.

@@ -6,7 +6,7 @@ use Rattle.mmtel_lex.specs.Reading.{name_addr_of}
 use Rattle.mmtel_lex.specs.declared.values.NameAddr.{NameAddr}
 use Rattle.mmtel_message.specs.Message.{Line, first_value, values_named}
 use Rattle.mmtel_message.specs.declared.values.Mode.TheVariants.{Plain}
-use Rattle.mmtel_trust.specs.Digest.{tag_of}
+use Rattle.mmtel_trust.specs.ParsedMessage.{tag_of}
 use Rattle.mmtel_types.specs.declared.sides.Side.{Side}
 use Rattle.mmtel_types.specs.declared.sides.Side.TheVariants.{Caller, Callee}
 use Rattle.mmtel_leg.specs.declared.remotes.Remote.{Remote}

@@ -3,18 +3,18 @@ use Rattle.std.specs.Prelude.{ℕ, Bool, not, ◌&&◌, ◌||◌, if◌then◌el
 use Rattle.std.specs.Option.{unwrap_or}
 use Rattle.std.specs.Str.{bytes_eq}
 use Rattle.mmtel_message.specs.Message.{Line, Message, has_line, line}
-use Rattle.mmtel_message.specs.Responses.{tagged}
+use Rattle.mmtel_message.specs.Responses.{tagged_value}
 use Rattle.mmtel_message.specs.declared.messages.Start.{Start}
 use Rattle.mmtel_message.specs.declared.messages.Start.TheVariants.{Request}
 use Rattle.mmtel_types.specs.declared.addrs.Addr.{Addr}
 use Rattle.mmtel_types.specs.declared.sides.Side.{Side}
 use Rattle.mmtel_types.specs.declared.sides.Side.TheVariants.{Caller, Callee}
 use Rattle.mmtel_message.specs.Addresses.{contact_text, via_text}
-use Rattle.mmtel_scan.specs.Numbers.{next_number}
+use Rattle.mmtel_base.specs.Numbers.{next_number}
 use Rattle.mmtel_leg.specs.declared.dialogues.Dialogue.{Dialogue}
 
 -- the parts of a request that do not come from its dialog: the server's address, the remaining hops, the branch after its cookie, the lines that are passed on, and the body
-pub record Given : Type 0 where
+pub record RequestPartsView : Type 0 where
   pub sip : Addr
   pub hops : ℕ
   pub branch : List ℕ
@@ -30,7 +30,7 @@ route_line value = (codes "Route", value)
 abbrev pub to_text : Side → List ℕ → List ℕ → List ℕ
 to_text Caller value tag = value
 to_text Callee value [] = value
-to_text Callee value (b ∷ tag) = tagged value (b ∷ tag)
+to_text Callee value (b ∷ tag) = tagged_value value (b ∷ tag)
 
 -- CSeq (§8.1.1.5)
 abbrev pub cseq_text : ℕ → List ℕ → List ℕ
@@ -67,7 +67,7 @@ content_lines method sip shown body =
     (shown ++
     line (codes "Content-Length") (decimal (length body)))
 
-abbrev pub request_lines : Dialogue → ℕ → List ℕ → Given → List Line
+abbrev pub request_lines : Dialogue → ℕ → List ℕ → RequestPartsView → List Line
 request_lines d number method given =
     routing_lines d.routes given.sip given.hops given.branch ++
     (dialog_lines d number method ++
@@ -76,17 +76,17 @@ request_lines d number method given =
 -- ---- the requests
 
 -- a request of the method, with this number, to the target
-abbrev pub numbered : Dialogue → ℕ → List ℕ → Given → Message Start
-numbered d number method given = record {
+abbrev pub request_numbered : Dialogue → ℕ → List ℕ → RequestPartsView → Message Start
+request_numbered d number method given = record {
   start = Request method d.target;
   lines = request_lines d number method given;
   body = given.body;
 }
 
 -- the next request
-abbrev pub request_of : Dialogue → List ℕ → Given → Message Start
-request_of d method given = numbered d (next_number d.own) method given
+abbrev pub request_of : Dialogue → List ℕ → RequestPartsView → Message Start
+request_of d method given = request_numbered d (next_number d.local_cseq) method given
 
 -- the ACK of the server's last INVITE, which has its number (§13.2.2.4); with number 0 where there was none
-abbrev pub ack_of : Dialogue → Given → Message Start
-ack_of d given = numbered d (unwrap_or d.invited 0) (codes "ACK") given
+abbrev pub ack_of : Dialogue → RequestPartsView → Message Start
+ack_of d given = request_numbered d (unwrap_or d.invite_cseq 0) (codes "ACK") given

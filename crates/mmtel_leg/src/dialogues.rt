@@ -1,11 +1,11 @@
 //! The dialog state that a leg of either side keeps (RFC 3261 §12).
 ghost use Rattle.std.specs.Prelude.{◌≡◌, ◌++◌, IfOk, OnErr, OnOk, codes, if◌then◌else◌};
-ghost use Rattle.mmtel_leg.specs.Dialogues.{after_hearing, hears, last_after, met, names_itself, opened, said_or, started, taken, unless_busy, unless_old};
+ghost use Rattle.mmtel_leg.specs.Dialogues.{after_receiving, callee_dialogue, caller_dialogue, caller_dialogue_with_remote, last_after, names_itself, receive_result, target_or, unless_busy, unless_old, with_remote};
 
 use crate::fields::{field, number_in, request_uri, tag_in};
 use crate::remotes::Remote;
-use mmtel_message::{Msg, is_method, tagged};
-use mmtel_scan::{List, NoMemory, Text, texts_copied};
+use mmtel_base::{List, NoMemory, Text, copied_texts};
+use mmtel_message::{Msg, is_method, tagged_value};
 use mmtel_types::{Peer, Side};
 use std::alloc::Global;
 
@@ -30,11 +30,11 @@ pub struct Dialogue {
     /// The Route values of the server's requests, in order.
     pub routes: List<Text>,
     /// The number of the server's last request, 0 before the first.
-    pub own: u64,
+    pub local_cseq: u64,
     /// The number of the last request of the other side that was accepted.
-    pub last: Option<u32>,
+    pub remote_cseq: Option<u32>,
     /// The number of the server's last INVITE.
-    pub invited: Option<u64>,
+    pub invite_cseq: Option<u64>,
 }
 
 /// Which INVITE prevents another one in a dialog (RFC 3261 §14.2).
@@ -84,7 +84,7 @@ fn unless_busy(invite: bool, busy: InFlight) -> Result<(), DialogueFault>
     }
 }
 
-fn answer(
+fn check_request(
     number: Option<u32>,
     last: Option<u32>,
     invite: bool,
@@ -118,7 +118,7 @@ fn last_after(number: Option<u32>, last: Option<u32>) -> Option<u32>
 }
 
 /// A number of the other side, with the width of the server's own.
-fn widened(number: Option<u32>) -> Option<u64>
+fn widened_number(number: Option<u32>) -> Option<u64>
     ensures { result ≡ number }
 {
     match number {
@@ -152,7 +152,7 @@ impl Dialogue {
         let local_tag = self.local_tag.copied(alloc)?;
         let remote_tag = self.remote_tag.copied(alloc)?;
         let target = self.target.copied(alloc)?;
-        let routes = texts_copied(alloc, self.routes.items())?;
+        let routes = copied_texts(alloc, self.routes.items())?;
         Ok(Dialogue {
             side: self.side,
             peer: self.peer,
@@ -163,9 +163,9 @@ impl Dialogue {
             remote_tag,
             target,
             routes,
-            own: self.own,
-            last: self.last,
-            invited: self.invited,
+            local_cseq: self.local_cseq,
+            remote_cseq: self.remote_cseq,
+            invite_cseq: self.invite_cseq,
         })
     }
 
@@ -180,11 +180,11 @@ impl Dialogue {
         invite: &Msg,
         tag: Text,
     ) -> Result<Dialogue, NoMemory>
-        ensures taken { IfOk result (λ d. d ≡ taken peer invite.now.lines tag) }
+        ensures taken { IfOk result (λ d. d ≡ caller_dialogue peer invite.now.lines tag) }
     {
         let call_id = field(alloc, b"Call-ID", invite)?;
         let to = field(alloc, b"To", invite)?;
-        let local = tagged(alloc, to, tag.bytes())?;
+        let local = tagged_value(alloc, to, tag.bytes())?;
         let remote = field(alloc, b"From", invite)?;
         Ok(Dialogue {
             side: Side::Caller,
@@ -196,9 +196,9 @@ impl Dialogue {
             remote_tag: Text::new(),
             target: Text::new(),
             routes: List::new(),
-            own: 0,
-            last: number_in(invite),
-            invited: None,
+            local_cseq: 0,
+            remote_cseq: number_in(invite),
+            invite_cseq: None,
         })
     }
 
@@ -207,12 +207,17 @@ impl Dialogue {
     /// # Errors
     ///
     /// Out of memory only.
-    pub fn opened(alloc: Global, peer: Peer, invite: &Msg, tag: Text) -> Result<Dialogue, NoMemory>
-        ensures opened { IfOk result (λ d. d ≡ opened peer invite.now.lines tag) }
+    pub fn of_caller_with_remote(
+        alloc: Global,
+        peer: Peer,
+        invite: &Msg,
+        tag: Text,
+    ) -> Result<Dialogue, NoMemory>
+        ensures opened { IfOk result (λ d. d ≡ caller_dialogue_with_remote peer invite.now.lines tag) }
     {
         let caller = Remote::read(alloc, invite, Side::Caller)?;
         let dialogue = Dialogue::of_caller(alloc, peer, invite, tag)?;
-        Ok(dialogue.meet(caller))
+        Ok(dialogue.with_remote(caller))
     }
 
     /// The dialog of an INVITE that the server sends to the peer (RFC 3261 §12.1.2).
@@ -221,7 +226,7 @@ impl Dialogue {
     ///
     /// Out of memory only.
     pub fn of_callee(alloc: Global, peer: Peer, invite: &Msg) -> Result<Dialogue, NoMemory>
-        ensures started { IfOk result (λ d. d ≡ started peer invite.now) }
+        ensures started { IfOk result (λ d. d ≡ callee_dialogue peer invite.now) }
     {
         let call_id = field(alloc, b"Call-ID", invite)?;
         let local = field(alloc, b"From", invite)?;
@@ -239,15 +244,15 @@ impl Dialogue {
             remote_tag: Text::new(),
             target,
             routes: List::new(),
-            own: u64::from(number.unwrap_or(0)),
-            last: None,
-            invited: widened(number),
+            local_cseq: u64::from(number.unwrap_or(0)),
+            remote_cseq: None,
+            invite_cseq: widened_number(number),
         })
     }
 
     /// With the target that was given, where one was.
-    fn aimed_at(self, target: Text) -> Dialogue
-        ensures { result ≡ record self { target = said_or target self.target } }
+    fn with_target(self, target: Text) -> Dialogue
+        ensures { result ≡ record self { target = target_or target self.target } }
     {
         if target.bytes().is_empty() {
             self
@@ -257,7 +262,7 @@ impl Dialogue {
     }
 
     /// With the tag and the routes that were given, where the side sets them with this tag.
-    fn answered_by(self, tag: Text, routes: List<Text>) -> Dialogue
+    fn with_tag_and_routes(self, tag: Text, routes: List<Text>) -> Dialogue
         ensures { result ≡ record self {
           remote_tag = if names_itself self.side tag then tag else self.remote_tag;
           routes = if names_itself self.side tag then routes
@@ -277,15 +282,15 @@ impl Dialogue {
 
     /// The dialog once the other side has given its tag, target and route set. Tag and routes of a callee are those that it gives, also where it gives no tag (RFC 3261 §12.1.2,
     /// §13.2.2.4); those of a caller stay as they are where it gives no tag. Without a target the target stays.
-    pub fn meet(self, remote: Remote) -> Dialogue
-        ensures met { result ≡ met self remote }
+    pub fn with_remote(self, remote: Remote) -> Dialogue
+        ensures met { result ≡ with_remote self remote }
     {
         let Remote {
             tag,
             target,
             routes,
         } = remote;
-        self.aimed_at(target).answered_by(tag, routes)
+        self.with_target(target).with_tag_and_routes(tag, routes)
     }
 
     /// Records a received request, or refuses it.
@@ -293,15 +298,15 @@ impl Dialogue {
     /// # Errors
     ///
     /// The first that applies of `OldCSeq`, `Pending` and `Unfinished`; the dialog is then as before.
-    pub fn hear(&mut self, request: &Msg, busy: InFlight) -> Result<(), DialogueFault>
-        ensures answer { result ≡ hears self.old request.now busy }
-        ensures heard { OnOk result (self.new ≡ after_hearing self.old request.now) }
+    pub fn receive(&mut self, request: &Msg, busy: InFlight) -> Result<(), DialogueFault>
+        ensures answer { result ≡ receive_result self.old request.now busy }
+        ensures received { OnOk result (self.new ≡ after_receiving self.old request.now) }
         ensures refused { OnErr result (self.new ≡ self.old) }
     {
         let number = number_in(request);
         let invite = is_method(b"INVITE", request.start());
-        answer(number, self.last, invite, busy)?;
-        self.last = last_after(number, self.last);
+        check_request(number, self.remote_cseq, invite, busy)?;
+        self.remote_cseq = last_after(number, self.remote_cseq);
         Ok(())
     }
 }

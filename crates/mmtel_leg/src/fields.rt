@@ -1,13 +1,13 @@
 //! Fields of a received message, as a dialog reads them (RFC 3261 §12).
 ghost use Rattle.std.specs.Prelude.{◌≡◌, IfOk, []};
 ghost use Rattle.std.specs.Option.{option_copied, unwrap_or};
-ghost use Rattle.mmtel_trust.specs.Digest.{tag_of};
+ghost use Rattle.mmtel_trust.specs.ParsedMessage.{tag_of};
 ghost use Rattle.mmtel_leg.specs.Remotes.{field, tag_in};
 ghost use Rattle.mmtel_leg.specs.Dialogues.{number_at, number_in, request_uri};
 
+use mmtel_base::{NoMemory, Text};
 use mmtel_lex::name_addr_ref;
 use mmtel_message::{Msg, Start, cseq_ref};
-use mmtel_scan::{NoMemory, Text};
 use std::alloc::Global;
 
 /// These bytes, or none.

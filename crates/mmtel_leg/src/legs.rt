@@ -1,16 +1,16 @@
 //! Legs: one side of a call, which must be spent.
 ghost use Rattle.std.specs.Prelude.{◌≡◌, IfErr, IfOk, OnErr, OnOk};
-ghost use Rattle.mmtel_leg.specs.Dialogues.{after_hearing, after_request, hears, met, opened, started, taken};
+ghost use Rattle.mmtel_leg.specs.Dialogues.{after_receiving, after_request, callee_dialogue, caller_dialogue, caller_dialogue_with_remote, receive_result, with_remote};
 ghost use Rattle.mmtel_leg.specs.Legs.{with_dialogue};
 ghost use Rattle.mmtel_leg.specs.Releases.{released_leg};
 ghost use Rattle.mmtel_leg.specs.Requests.{ack_of, request_of};
 
 use crate::dialogues::{Dialogue, DialogueFault, InFlight};
 use crate::remotes::Remote;
-use crate::requests::Parts;
+use crate::requests::RequestParts;
+use mmtel_base::{List, NoMemory, Text};
 use mmtel_charging::Meter;
 use mmtel_message::{Line, Msg};
-use mmtel_scan::{List, NoMemory, Text};
 use mmtel_types::{Addr, Peer};
 use std::alloc::Global;
 use std::marker::{Model, PhantomData};
@@ -156,16 +156,16 @@ impl<P, S> LegOf<P, S> {
     /// The first that applies; the leg is then as before. `OldCSeq` where its number is lower than that of the last accepted request; for an INVITE, `Pending` where the server's
     /// own is pending and `Unfinished` where the one before has no final response (RFC 3261 §12.2.2, §14.2).
     pub fn heard(&mut self, request: &Msg, busy: InFlight) -> Result<(), DialogueFault>
-        ensures answer { result ≡ hears self.old.dialogue request.now busy }
-        ensures heard { OnOk result (self.new ≡ with_dialogue self.old (after_hearing self.old.dialogue request.now)) }
+        ensures answer { result ≡ receive_result self.old.dialogue request.now busy }
+        ensures received { OnOk result (self.new ≡ with_dialogue self.old (after_receiving self.old.dialogue request.now)) }
         ensures refused { OnErr result (self.new ≡ self.old) }
     {
-        self.dialogue.hear(request, busy)
+        self.dialogue.receive(request, busy)
     }
 
     /// The leg in another state, once the other side has given its tag, target and route set.
-    fn met<T>(self, remote: Remote) -> LegOf<P, T>
-        ensures { result ≡ with_dialogue self (met self.dialogue remote) }
+    fn with_remote<T>(self, remote: Remote) -> LegOf<P, T>
+        ensures { result ≡ with_dialogue self (with_remote self.dialogue remote) }
     {
         let LegOf {
             dialogue,
@@ -173,7 +173,7 @@ impl<P, S> LegOf<P, S> {
             party,
             state: _,
         } = self;
-        let dialogue = dialogue.meet(remote);
+        let dialogue = dialogue.with_remote(remote);
         LegOf {
             dialogue,
             meter,
@@ -196,7 +196,7 @@ impl LegOf<OfCaller, Asked> {
         local: Text,
         meter: Option<Meter>,
     ) -> Result<CallerLeg<Asked>, (Option<Meter>, NoMemory)>
-        ensures leg { IfOk result (λ leg. leg ≡ record { dialogue = taken peer invite.now.lines local; meter = meter }) }
+        ensures leg { IfOk result (λ leg. leg ≡ record { dialogue = caller_dialogue peer invite.now.lines local; meter = meter }) }
         ensures handed_back { IfErr result (λ refused. refused.0 ≡ meter) }
     {
         match Dialogue::of_caller(alloc, peer, invite, local) {
@@ -225,10 +225,10 @@ impl LegOf<OfCaller, Standing> {
         local: Text,
         meter: Option<Meter>,
     ) -> Result<CallerLeg<Standing>, (Option<Meter>, NoMemory)>
-        ensures leg { IfOk result (λ leg. leg ≡ record { dialogue = opened peer invite.now.lines local; meter = meter }) }
+        ensures leg { IfOk result (λ leg. leg ≡ record { dialogue = caller_dialogue_with_remote peer invite.now.lines local; meter = meter }) }
         ensures handed_back { IfErr result (λ refused. refused.0 ≡ meter) }
     {
-        match Dialogue::opened(alloc, peer, invite, local) {
+        match Dialogue::of_caller_with_remote(alloc, peer, invite, local) {
             Ok(dialogue) => Ok(LegOf {
                 dialogue,
                 meter,
@@ -242,7 +242,7 @@ impl LegOf<OfCaller, Standing> {
 
 impl LegOf<OfCallee, Asked> {
     /// The leg of a callee whose dialog is this one, at its beginning.
-    pub fn begun(dialogue: Dialogue, meter: Option<Meter>) -> CalleeLeg<Asked>
+    pub fn initial(dialogue: Dialogue, meter: Option<Meter>) -> CalleeLeg<Asked>
         ensures leg { result ≡ record { dialogue = dialogue; meter = meter } }
     {
         LegOf {
@@ -264,7 +264,7 @@ impl LegOf<OfCallee, Asked> {
         invite: &Msg,
         meter: Option<Meter>,
     ) -> Result<CalleeLeg<Asked>, (Option<Meter>, NoMemory)>
-        ensures leg { IfOk result (λ leg. leg ≡ record { dialogue = started peer invite.now; meter = meter }) }
+        ensures leg { IfOk result (λ leg. leg ≡ record { dialogue = callee_dialogue peer invite.now; meter = meter }) }
         ensures handed_back { IfErr result (λ refused. refused.0 ≡ meter) }
     {
         match Dialogue::of_callee(alloc, peer, invite) {
@@ -282,25 +282,25 @@ impl LegOf<OfCallee, Asked> {
 impl<P> LegOf<P, Asked> {
     /// The leg with an early dialog (RFC 3261 §12.1).
     pub fn early(self, remote: Remote) -> LegOf<P, Early>
-        ensures leg { result ≡ with_dialogue self (met self.dialogue remote) }
+        ensures leg { result ≡ with_dialogue self (with_remote self.dialogue remote) }
     {
-        self.met(remote)
+        self.with_remote(remote)
     }
 
     /// The leg with a confirmed dialog (RFC 3261 §12.1).
     pub fn stand(self, remote: Remote) -> LegOf<P, Standing>
-        ensures leg { result ≡ with_dialogue self (met self.dialogue remote) }
+        ensures leg { result ≡ with_dialogue self (with_remote self.dialogue remote) }
     {
-        self.met(remote)
+        self.with_remote(remote)
     }
 }
 
 impl<P> LegOf<P, Early> {
     /// The leg whose early dialog is confirmed (RFC 3261 §13.2.2.4).
     pub fn stand(self, remote: Remote) -> LegOf<P, Standing>
-        ensures leg { result ≡ with_dialogue self (met self.dialogue remote) }
+        ensures leg { result ≡ with_dialogue self (with_remote self.dialogue remote) }
     {
-        self.met(remote)
+        self.with_remote(remote)
     }
 }
 
@@ -335,7 +335,7 @@ impl<P, S: InDialog> LegOf<P, S> {
         ensures counted { OnOk result (self.new ≡ with_dialogue self.old (after_request self.old.dialogue method.now)) }
         ensures refused { OnErr result (self.new ≡ self.old) }
     {
-        let parts = Parts::of(sip, hops, branch, shown, body);
+        let parts = RequestParts::of(sip, hops, branch, shown, body);
         self.dialogue.request(alloc, method, &parts)
     }
 }
@@ -358,7 +358,7 @@ impl<P> LegOf<P, Standing> {
     ) -> Result<Msg, NoMemory>
         ensures message { IfOk result (λ m. m ≡ ack_of self.now.dialogue (record { sip = sip; hops = hops; branch = branch.now; shown = shown.now; body = body.now })) }
     {
-        let parts = Parts::of(sip, hops, branch, shown, body);
+        let parts = RequestParts::of(sip, hops, branch, shown, body);
         self.dialogue.ack(alloc, &parts)
     }
 }

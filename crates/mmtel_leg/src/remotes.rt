@@ -4,9 +4,9 @@ ghost use Rattle.mmtel_leg.specs.Remotes.{contact_uri, field_of, first_uri, in_o
 ghost use Rattle.mmtel_lex.specs.Reading.{name_addr_of};
 
 use crate::fields::tag_in;
+use mmtel_base::{List, NoMemory, Text};
 use mmtel_lex::name_addr_ref;
 use mmtel_message::Msg;
-use mmtel_scan::{List, NoMemory, Text};
 use mmtel_types::Side;
 use std::alloc::Global;
 
@@ -60,7 +60,7 @@ fn contact_uri(alloc: Global, message: &Msg) -> Result<Text, NoMemory>
 }
 
 /// The values from the last to the first.
-fn reversed(alloc: Global, values: List<Text>) -> Result<List<Text>, NoMemory>
+fn reversed_list(alloc: Global, values: List<Text>) -> Result<List<Text>, NoMemory>
     ensures { IfOk result (λ back. back ≡ reverse values) }
 {
     let mut values = values;
@@ -76,7 +76,7 @@ fn in_order(alloc: Global, side: Side, values: List<Text>) -> Result<List<Text>,
 {
     match side {
         Side::Caller => Ok(values),
-        Side::Callee => reversed(alloc, values),
+        Side::Callee => reversed_list(alloc, values),
     }
 }
 

@@ -4,21 +4,21 @@ ghost use Rattle.std.specs.Option.{unwrap_or};
 ghost use Rattle.mmtel_message.specs.Addresses.{contact_text, via_text};
 ghost use Rattle.mmtel_message.specs.Message.{has_line, line};
 ghost use Rattle.mmtel_leg.specs.Dialogues.{after_request};
-ghost use Rattle.mmtel_leg.specs.Requests.{ack_of, contact_lines, content_lines, cseq_text, dialog_lines, is_contacting, numbered, request_of, route_line, routing_lines, to_text};
+ghost use Rattle.mmtel_leg.specs.Requests.{ack_of, contact_lines, content_lines, cseq_text, dialog_lines, is_contacting, request_numbered, request_of, route_line, routing_lines, to_text};
 
 use crate::dialogues::Dialogue;
+use mmtel_base::{List, NoMemory, Text, add_number};
 use mmtel_message::{
-    Line, Msg, Start, add_bytes, add_decimal, add_line, add_passed, contact_text, is_line, tagged,
-    via_text,
+    Line, Msg, Start, add_bytes, add_decimal, add_line, add_passed, contact_text, is_line,
+    tagged_value, via_text,
 };
-use mmtel_scan::{List, NoMemory, Text, add_number};
 use mmtel_types::{Addr, Side};
 use std::alloc::Global;
 use std::marker::Model;
 
 /// The parts of a request that do not come from its dialog.
 #[derive(Drop)]
-pub struct Parts<'a> {
+pub struct RequestParts<'a> {
     /// The server's address.
     pub sip: Addr,
     /// The value of Max-Forwards.
@@ -31,15 +31,15 @@ pub struct Parts<'a> {
     pub body: &'a [u8],
 }
 
-impl<'a> Model for Parts<'a> {
-    ghost use Rattle.mmtel_leg.specs.Requests.{Given};
+impl<'a> Model for RequestParts<'a> {
+    ghost use Rattle.mmtel_leg.specs.Requests.{RequestPartsView};
 
-    ghost Value = { Given };
+    ghost Value = { RequestPartsView };
 
     ghost view = { λ parts. record { sip = parts.sip; hops = parts.hops; branch = parts.branch.now; shown = parts.shown.now; body = parts.body.now } };
 }
 
-impl<'a> Parts<'a> {
+impl<'a> RequestParts<'a> {
     /// These parts.
     pub fn of(
         sip: Addr,
@@ -47,10 +47,10 @@ impl<'a> Parts<'a> {
         branch: &'a Text,
         shown: &'a List<Line>,
         body: &'a [u8],
-    ) -> Parts<'a>
+    ) -> RequestParts<'a>
         ensures parts { result ≡ record { sip = sip; hops = hops; branch = branch.now; shown = shown.now; body = body.now } }
     {
-        Parts {
+        RequestParts {
             sip,
             hops,
             branch: branch.bytes(),
@@ -111,7 +111,7 @@ fn to_text(alloc: Global, side: Side, value: &[u8], tag: &[u8]) -> Result<Text, 
         Side::Caller => Ok(value),
         Side::Callee => match tag {
             [] => Ok(value),
-            _ => tagged(alloc, value, tag),
+            _ => tagged_value(alloc, value, tag),
         },
     }
 }
@@ -204,14 +204,14 @@ fn add_content(
 /// # Errors
 ///
 /// Out of memory only.
-pub fn numbered(
+pub fn request_numbered(
     alloc: Global,
     dialogue: &Dialogue,
     number: u64,
     method: &[u8],
-    parts: &Parts<'_>,
+    parts: &RequestParts<'_>,
 ) -> Result<Msg, NoMemory>
-    ensures message { IfOk result (λ m. m ≡ numbered dialogue.now number method.now parts.now) }
+    ensures message { IfOk result (λ m. m ≡ request_numbered dialogue.now number method.now parts.now) }
 {
     let routes = dialogue.routes.items();
     let mut lines = List::new();
@@ -243,10 +243,10 @@ impl Dialogue {
     fn count(&mut self, method: &[u8])
         ensures { self.new ≡ after_request self.old method.now }
     {
-        let number = self.own.saturating_add(1);
-        self.own = number;
+        let number = self.local_cseq.saturating_add(1);
+        self.local_cseq = number;
         if method == b"INVITE".as_slice() {
-            self.invited = Some(number);
+            self.invite_cseq = Some(number);
         }
     }
 
@@ -259,13 +259,19 @@ impl Dialogue {
         &mut self,
         alloc: Global,
         method: &[u8],
-        parts: &Parts<'_>,
+        parts: &RequestParts<'_>,
     ) -> Result<Msg, NoMemory>
         ensures message { IfOk result (λ m. m ≡ request_of self.old method.now parts.now) }
         ensures counted { OnOk result (self.new ≡ after_request self.old method.now) }
         ensures refused { OnErr result (self.new ≡ self.old) }
     {
-        let message = numbered(alloc, self, self.own.saturating_add(1), method, parts)?;
+        let message = request_numbered(
+            alloc,
+            self,
+            self.local_cseq.saturating_add(1),
+            method,
+            parts,
+        )?;
         self.count(method);
         Ok(message)
     }
@@ -275,9 +281,9 @@ impl Dialogue {
     /// # Errors
     ///
     /// Out of memory only.
-    pub fn ack(&self, alloc: Global, parts: &Parts<'_>) -> Result<Msg, NoMemory>
+    pub fn ack(&self, alloc: Global, parts: &RequestParts<'_>) -> Result<Msg, NoMemory>
         ensures message { IfOk result (λ m. m ≡ ack_of self.now parts.now) }
     {
-        numbered(alloc, self, self.invited.unwrap_or(0), b"ACK", parts)
+        request_numbered(alloc, self, self.invite_cseq.unwrap_or(0), b"ACK", parts)
     }
 }

@@ -4,9 +4,9 @@ use Rattle.std.proofs.lemmas.List.{append-nil}
 use Rattle.mmtel_lex.specs.declared.faults.LexFault.{LexFault}
 use Rattle.mmtel_lex.specs.declared.faults.LexFault.TheVariants as lex
 use Rattle.mmtel_lex.specs.declared.values.Param.{Param}
-use Rattle.mmtel_scan.specs.Scanning.{after_byte}
-use Rattle.mmtel_scan.proofs.ChainLaws.{tail_of}
-use Rattle.mmtel_scan.specs.Chain.{◌>>=◌}
+use Rattle.mmtel_base.specs.Scanning.{after_byte}
+use Rattle.mmtel_base.proofs.ChainTheorems.{tail_of}
+use Rattle.mmtel_base.specs.Chain.{◌>>=◌}
 use Rattle.mmtel_lex.specs.Reading.{Fails, param_at, params_at, all_params_at, next_params}
 
 -- what was read before, and what remains to be read

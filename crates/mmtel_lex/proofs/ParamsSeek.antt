@@ -4,10 +4,10 @@ use Rattle.std.specs.Prelude.{is_some}
 use Rattle.std.proofs.lemmas.Bool.{cases_Bool}
 use Rattle.std.specs.Option.{option_map}
 use Rattle.std.specs.Str.{str_eq_ignore_ascii_case}
-use Rattle.mmtel_scan.specs.Chain.{◌>>=◌}
-use Rattle.mmtel_scan.specs.Scanning.{after_byte}
-use Rattle.mmtel_scan.proofs.ChainLaws.{some_is, tail_of}
-use Rattle.mmtel_lex.specs.Borrowed.{params_in, params_read}
+use Rattle.mmtel_base.specs.Chain.{◌>>=◌}
+use Rattle.mmtel_base.specs.Scanning.{after_byte}
+use Rattle.mmtel_base.proofs.ChainTheorems.{some_is, tail_of}
+use Rattle.mmtel_lex.specs.Borrowed.{params_in, params_of_reading}
 use Rattle.mmtel_lex.specs.Params.{first_param, param_value}
 use Rattle.mmtel_lex.specs.Reading.{param_at, params_at, all_params_at, next_params}
 use Rattle.mmtel_lex.specs.declared.values.Param.{Param}
@@ -38,7 +38,7 @@ pass_ends rest whole so_far e = rw (is_done so_far.front rest whole so_far.reads
 
 -- ---- what they are
 
-pub read_both : (read : Option (List Param × List ℕ)) (rest : List ℕ) → Some rest ≡ rest_of read → (is_some read ≡ true) × (Some (params_read read, rest) ≡ read)
+pub read_both : (read : Option (List Param × List ℕ)) (rest : List ℕ) → Some rest ≡ rest_of read → (is_some read ≡ true) × (Some (params_of_reading read, rest) ≡ read)
 read_both (Some x) rest e = (refl, ap (λ (r : List ℕ). Some (x.0, r)) (some_is rest x.1 e))
 read_both None rest e = absurd cc
 
@@ -53,7 +53,7 @@ pub record SeeksOn (name rest whole : List ℕ) : Type 0 where
   pub count : ℕ
   pub enough : length rest ≤ count
   pub readable : is_some (params_at count rest) ≡ true
-  pub same : first_param name (params_in whole) ≡ first_param name (params_read (params_at count rest))
+  pub same : first_param name (params_in whole) ≡ first_param name (params_of_reading (params_at count rest))
 
 pub seek_begins : (name whole : List ℕ) → is_some (all_params_at whole) ≡ true → SeeksOn name whole whole
 unfolding all_params_at
@@ -63,11 +63,11 @@ seek_begins name whole e = record { count = length whole; enough = omega arith; 
 abbrev with_first : Param → Option (List Param × List ℕ) → Option (List Param × List ℕ)
 with_first p read = read >>= λ x. Some (p ∷ x.0, x.1)
 
-over : (name : List ℕ) (p : Param) (read : Option (List Param × List ℕ)) (found : Option Param) → str_eq_ignore_ascii_case p.name name ≡ false → is_some (with_first p read) ≡ true → found ≡ first_param name (params_read (with_first p read)) → (is_some read ≡ true) × (found ≡ first_param name (params_read read))
+over : (name : List ℕ) (p : Param) (read : Option (List Param × List ℕ)) (found : Option Param) → str_eq_ignore_ascii_case p.name name ≡ false → is_some (with_first p read) ≡ true → found ≡ first_param name (params_of_reading (with_first p read)) → (is_some read ≡ true) × (found ≡ first_param name (params_of_reading read))
 over name p (Some x) found e readable same = (refl, rw e at same)
 over name p None found e readable same = absurd cc
 
-here : (name : List ℕ) (p : Param) (read : Option (List Param × List ℕ)) (found : Option Param) → str_eq_ignore_ascii_case p.name name ≡ true → is_some (with_first p read) ≡ true → found ≡ first_param name (params_read (with_first p read)) → found ≡ Some p
+here : (name : List ℕ) (p : Param) (read : Option (List Param × List ℕ)) (found : Option Param) → str_eq_ignore_ascii_case p.name name ≡ true → is_some (with_first p read) ≡ true → found ≡ first_param name (params_of_reading (with_first p read)) → found ≡ Some p
 here name p (Some x) found e readable same = rw e at same
 here name p None found e readable same = absurd cc
 
@@ -75,7 +75,7 @@ at_first : (n : ℕ) (rest tail after : List ℕ) (p : Param) → after_byte 59 
 unfolding params_at
 at_first n rest tail after p e h = rw (e, h) refl
 
-over_at : (name : List ℕ) (n : ℕ) (rest tail after whole : List ℕ) (p : Param) → length rest ≤ n → is_some (params_at n rest) ≡ true → first_param name (params_in whole) ≡ first_param name (params_read (params_at n rest)) → after_byte 59 rest ≡ Some tail → param_at tail ≡ Some (p, after) → length after ≤ length tail → str_eq_ignore_ascii_case p.name name ≡ false → SeeksOn name after whole
+over_at : (name : List ℕ) (n : ℕ) (rest tail after whole : List ℕ) (p : Param) → length rest ≤ n → is_some (params_at n rest) ≡ true → first_param name (params_in whole) ≡ first_param name (params_of_reading (params_at n rest)) → after_byte 59 rest ≡ Some tail → param_at tail ≡ Some (p, after) → length after ≤ length tail → str_eq_ignore_ascii_case p.name name ≡ false → SeeksOn name after whole
 over_at name zero rest tail after whole p le readable same e h shorter other = absurd (omega (arith, tail_of 59 rest tail e))
 over_at name (suc n) rest tail after whole p le readable same e h shorter other =
     let first = at_first n rest tail after p e h in
@@ -85,7 +85,7 @@ over_at name (suc n) rest tail after whole p le readable same e h shorter other 
 pub seek_over : (name rest tail after whole : List ℕ) (p : Param) → SeeksOn name rest whole → after_byte 59 rest ≡ Some tail → param_at tail ≡ Some (p, after) → length after ≤ length tail → str_eq_ignore_ascii_case p.name name ≡ false → SeeksOn name after whole
 seek_over name rest tail after whole p so_far e h shorter other = over_at name so_far.count rest tail after whole p so_far.enough so_far.readable so_far.same e h shorter other
 
-here_at : (name : List ℕ) (n : ℕ) (rest tail after whole : List ℕ) (p : Param) → length rest ≤ n → is_some (params_at n rest) ≡ true → first_param name (params_in whole) ≡ first_param name (params_read (params_at n rest)) → after_byte 59 rest ≡ Some tail → param_at tail ≡ Some (p, after) → str_eq_ignore_ascii_case p.name name ≡ true → first_param name (params_in whole) ≡ Some p
+here_at : (name : List ℕ) (n : ℕ) (rest tail after whole : List ℕ) (p : Param) → length rest ≤ n → is_some (params_at n rest) ≡ true → first_param name (params_in whole) ≡ first_param name (params_of_reading (params_at n rest)) → after_byte 59 rest ≡ Some tail → param_at tail ≡ Some (p, after) → str_eq_ignore_ascii_case p.name name ≡ true → first_param name (params_in whole) ≡ Some p
 here_at name zero rest tail after whole p le readable same e h it = absurd (omega (arith, tail_of 59 rest tail e))
 here_at name (suc n) rest tail after whole p le readable same e h it =
     let first = at_first n rest tail after p e h in
@@ -102,7 +102,7 @@ fails_at (suc n) rest tail le readable e h = let t = rw (e, h) at readable in cc
 pub seek_fails : (name rest tail whole : List ℕ) → SeeksOn name rest whole → after_byte 59 rest ≡ Some tail → param_at tail ≡ None → ⊥
 seek_fails name rest tail whole so_far e h = fails_at so_far.count rest tail so_far.enough so_far.readable e h
 
-ended_at : (name : List ℕ) (n : ℕ) (rest : List ℕ) → after_byte 59 rest ≡ None → first_param name (params_read (params_at n rest)) ≡ None
+ended_at : (name : List ℕ) (n : ℕ) (rest : List ℕ) → after_byte 59 rest ≡ None → first_param name (params_of_reading (params_at n rest)) ≡ None
 unfolding params_at
 ended_at name zero rest e = refl
 ended_at name (suc n) rest e = rw e refl

@@ -1,15 +1,15 @@
 -- A URI has only the bytes of URIs.
 use Rattle.std.proofs.Common.{◌≡◌, true, List, ℕ, ◌∷◌, arith}
 use Rattle.std.proofs.lemmas.Bool.Decides.{nat_tests}
-use Rattle.mmtel_scan.specs.Classes.{in_class, IsAll}
-use Rattle.mmtel_scan.specs.declared.classes.Class.TheVariants.{SchemeRest, UriByte}
-use Rattle.mmtel_scan.proofs.Runs.{wider}
-use Rattle.mmtel_scan.proofs.Trims.{all_append}
+use Rattle.mmtel_base.specs.Classes.{in_class, IsAll}
+use Rattle.mmtel_base.specs.declared.classes.Class.TheVariants.{SchemeRest, UriByte}
+use Rattle.mmtel_base.proofs.Runs.{wider}
+use Rattle.mmtel_base.proofs.Trims.{all_append}
 use Rattle.mmtel_lex.specs.Grammar.{IsRest, IsUri, uri_text}
 use Rattle.mmtel_lex.specs.declared.values.Uri.{Uri}
 use Rattle.mmtel_lex.specs.declared.values.Uri.TheVariants.{Sip, Tel}
-use Rattle.mmtel_lex.proofs.PrintLaws.{printed_again}
-use Rattle.mmtel_lex.proofs.UriLaws.{name_all}
+use Rattle.mmtel_lex.proofs.PrintTheorems.{printed_again}
+use Rattle.mmtel_lex.proofs.UriTheorems.{name_all}
 
 name_visible : (b : ℕ) → in_class SchemeRest b ≡ true → in_class UriByte b ≡ true
 unfolding in_class

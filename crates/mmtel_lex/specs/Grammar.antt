@@ -3,10 +3,10 @@
 use Rattle.std.specs.Prelude.{reverse, ◌≡◌, ℕ, ◌<◌, List, [], ◌∷◌, ◌++◌, length, true, false, Option, ◌≢◌, ◌⊎◌, codes, decimal, Some, None, IfSome}
 use Rattle.std.specs.List.{list_any, flat_map}
 use Rattle.std.specs.Str.{str_to_ascii_lowercase}
-use Rattle.mmtel_scan.specs.Numbers.{Writes}
-use Rattle.mmtel_scan.specs.Scanning.{inside, IsFree}
-use Rattle.mmtel_scan.specs.Classes.{is_letter, is_digit, IsAll, Stops, IsOneOrMore}
-use Rattle.mmtel_scan.specs.declared.classes.Class.TheVariants.{Token, Host, User, Phone, SchemeRest, Blank, Display, UriByte, BareByte}
+use Rattle.mmtel_base.specs.Numbers.{Writes}
+use Rattle.mmtel_base.specs.Scanning.{is_quoted_content, IsFree}
+use Rattle.mmtel_base.specs.Classes.{is_letter, is_digit, IsAll, Stops, IsOneOrMore}
+use Rattle.mmtel_base.specs.declared.classes.Class.TheVariants.{Token, Host, User, Phone, SchemeRest, Blank, Display, UriByte, BareByte}
 use Rattle.mmtel_lex.specs.declared.values.Param.{Param}
 use Rattle.mmtel_lex.specs.declared.values.NameAddr.{NameAddr}
 use Rattle.mmtel_lex.specs.declared.values.Uri.{Uri}
@@ -22,7 +22,7 @@ IsToken s = IsOneOrMore Token s
 pub record IsQuoted (s : List ℕ) : Type 0 where
   pub inner : List ℕ
   pub whole : s ≡ 34 ∷ (inner ++ 34 ∷ [])
-  pub inner_in : inside false inner ≡ true
+  pub inner_in : is_quoted_content false inner ≡ true
 
 -- the value of a parameter: a token or a quoted string (a host is a token)
 abbrev pub IsValue : List ℕ → Type 0
@@ -96,11 +96,11 @@ pub record IsSip (s : List ℕ) (user : Option (List ℕ)) (host : List ℕ) (po
 -- a telephone number: a '+' or none, then digits and visual separators, with a digit among them (RFC 3966 §3)
 pub record IsNumber (number : List ℕ) : Type 0 where
   pub sign : List ℕ
-  pub marks : List ℕ
-  pub whole : number ≡ sign ++ marks
+  pub phone_digits : List ℕ
+  pub whole : number ≡ sign ++ phone_digits
   pub sign_in : (sign ≡ []) ⊎ (sign ≡ 43 ∷ [])
-  pub marks_in : IsAll Phone marks
-  pub digit_in : list_any is_digit marks ≡ true
+  pub phone_digits_in : IsAll Phone phone_digits
+  pub digit_in : list_any is_digit phone_digits ≡ true
 
 -- what may follow 'tel:': a number and parameters, of the same bytes as after 'sip:'
 pub record IsTel (s : List ℕ) (number : List ℕ) (params : List Param) : Type 0 where

@@ -2,20 +2,20 @@
 -- sip URI represents the number (RFC 3261 §19.1.6).
 use Rattle.std.specs.Prelude.{◌≡◌, ℕ, Bool, true, false, not, ◌==◌, ◌||◌, List, ◌∷◌, Option, Some, None, codes, filter}
 use Rattle.std.specs.Str.{str_to_ascii_lowercase, bytes_eq}
-use Rattle.mmtel_scan.specs.Classes.{IsAll}
-use Rattle.mmtel_scan.specs.declared.classes.Class.TheVariants.{Digit}
+use Rattle.mmtel_base.specs.Classes.{IsAll}
+use Rattle.mmtel_base.specs.declared.classes.Class.TheVariants.{Digit}
 use Rattle.mmtel_lex.specs.declared.values.Param.{Param}
 use Rattle.mmtel_lex.specs.declared.values.Uri.{Uri}
 use Rattle.mmtel_lex.specs.declared.values.Uri.TheVariants.{Sip, Tel}
 use Rattle.mmtel_lex.specs.Params.{param_value}
 
 -- a visual separator: '-', '.', '(' or ')' (RFC 3966 §3)
-abbrev pub is_mark : ℕ → Bool
-is_mark b = b == 45 || b == 46 || b == 40 || b == 41
+abbrev pub is_visual_separator : ℕ → Bool
+is_visual_separator b = b == 45 || b == 46 || b == 40 || b == 41
 
 -- the number without its visual separators
-abbrev pub reduced : List ℕ → List ℕ
-reduced number = filter (λ b. not (is_mark b)) number
+abbrev pub without_separators : List ℕ → List ℕ
+without_separators number = filter (λ b. not (is_visual_separator b)) number
 
 -- the value 'phone', byte for byte
 abbrev pub is_phone_value : Option (List ℕ) → Bool
@@ -34,9 +34,9 @@ IsPhone user params number =
 -- the URIs name the same identity
 abbrev pub IsSameIdentity : Uri → Uri → Type 0
 IsSameIdentity (Sip u h p ps hs) (Sip v g q qs gs) = (u ≡ v) × (str_to_ascii_lowercase h ≡ str_to_ascii_lowercase g)
-IsSameIdentity (Sip u h p ps hs) (Tel number qs) = IsPhone u ps (reduced number)
-IsSameIdentity (Tel number qs) (Sip u h p ps hs) = IsPhone u ps (reduced number)
-IsSameIdentity (Tel m ps) (Tel n qs) = reduced m ≡ reduced n
+IsSameIdentity (Sip u h p ps hs) (Tel number qs) = IsPhone u ps (without_separators number)
+IsSameIdentity (Tel number qs) (Sip u h p ps hs) = IsPhone u ps (without_separators number)
+IsSameIdentity (Tel m ps) (Tel n qs) = without_separators m ≡ without_separators n
 
 -- the host of a sip URI
 abbrev pub host_of : Uri → Option (List ℕ)

@@ -4,7 +4,7 @@ pub mod Identity
 pub mod Outcome
 pub mod Params
 pub mod Percent
-pub mod UriPlaces
+pub mod UriParts
 -- What they cite as computable functions, which theorems tie to the grammar and to identity. Of Reading the parts of a URI and of a name-addr (user_at to headers_at,
 -- scheme_of, number_at, angle_of to quoted_of) serve private functions alone.
 pub mod Reading

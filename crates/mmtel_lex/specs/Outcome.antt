@@ -7,12 +7,12 @@ use Rattle.mmtel_lex.specs.declared.faults.UriFault.{UriFault}
 use Rattle.mmtel_lex.specs.declared.faults.UriFault.TheVariants.{Malformed, Scheme, NoMemory}
 
 -- this result, unless memory ran out
-abbrev pub IsUnlessMemory : Result Uri UriFault → Result Uri UriFault → Type 0
-IsUnlessMemory r wanted = (r ≡ wanted) ⊎ (r ≡ Err NoMemory)
+abbrev pub IsUnlessOutOfMemory : Result Uri UriFault → Result Uri UriFault → Type 0
+IsUnlessOutOfMemory r wanted = (r ≡ wanted) ⊎ (r ≡ Err NoMemory)
 
 -- the value, unless memory ran out
-abbrev pub IsReadUnlessMemory : {V : Type 0} → Result V LexFault → V → Type 0
-IsReadUnlessMemory r v = (r ≡ Ok v) ⊎ (r ≡ Err lex.NoMemory)
+abbrev pub IsReadUnlessOutOfMemory : {V : Type 0} → Result V LexFault → V → Type 0
+IsReadUnlessOutOfMemory r v = (r ≡ Ok v) ⊎ (r ≡ Err lex.NoMemory)
 
 -- the URI is refused as malformed
 abbrev pub IsMalformedUri : Result Uri UriFault → Type 0

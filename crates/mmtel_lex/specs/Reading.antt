@@ -3,11 +3,11 @@
 -- A layer above cites them where it needs "is readable" as a computable test. What is read is defined by Grammar, and the contracts of the readers of whole lists tie the two.
 use Rattle.std.specs.Prelude.{◌≡◌, ℕ, zero, suc, List, [], ◌∷◌, ◌++◌, codes, is_none, ◌&&◌, ◌+◌, length, take, drop, Option, Some, None, Result, Ok, Err, nat_lt, ◌==◌}
 use Rattle.std.specs.Prelude.{Bool, false, if◌then◌else◌}
-use Rattle.mmtel_scan.specs.Chain.{◌>>=◌}
-use Rattle.mmtel_scan.specs.Classes.{in_class}
-use Rattle.mmtel_scan.specs.Numbers.{number_of}
-use Rattle.mmtel_scan.specs.Scanning.{run, after_run, after_byte, closes, parted, trimmed}
-use Rattle.mmtel_scan.specs.declared.classes.Class.TheVariants.{Letter, Digit, Token, Host, User, Phone, SchemeRest, Blank, Display, UriByte, BareByte}
+use Rattle.mmtel_base.specs.Chain.{◌>>=◌}
+use Rattle.mmtel_base.specs.Classes.{in_class}
+use Rattle.mmtel_base.specs.Numbers.{number_of}
+use Rattle.mmtel_base.specs.Scanning.{leading_run, after_run, after_byte, closing_quote_from, split_once_at, without_trailing}
+use Rattle.mmtel_base.specs.declared.classes.Class.TheVariants.{Letter, Digit, Token, Host, User, Phone, SchemeRest, Blank, Display, UriByte, BareByte}
 use Rattle.mmtel_lex.specs.declared.faults.LexFault.{LexFault}
 use Rattle.mmtel_lex.specs.declared.faults.LexFault.TheVariants as lex
 use Rattle.mmtel_lex.specs.declared.faults.UriFault.{UriFault}
@@ -24,9 +24,9 @@ abbrev pub Fails : {Y : Type 0} → LexFault → Option Y → Type 0
 Fails lex.Malformed read = read ≡ None
 Fails lex.NoMemory read = Unit {0}
 
-abbrev pub Gives : {X Y : Type 0} → (X → Y) → Result X LexFault → Option Y → Type 0
-Gives view (Ok x) read = read ≡ Some (view x)
-Gives view (Err e) read = Fails e read
+abbrev pub IsResult : {X Y : Type 0} → (X → Y) → Result X LexFault → Option Y → Type 0
+IsResult view (Ok x) read = read ≡ Some (view x)
+IsResult view (Err e) read = Fails e read
 
 -- the value, where no bytes remain
 abbrev pub at_end : {A : Type 0} → A → List ℕ → Option A
@@ -35,12 +35,12 @@ at_end x (b ∷ s) = None
 
 -- a token and what follows it
 unfoldable pub token_at : List ℕ → Option (List ℕ × List ℕ)
-token_at s = if length (run Token s) == 0 then None else Some (run Token s, after_run Token s)
+token_at s = if length (leading_run Token s) == 0 then None else Some (leading_run Token s, after_run Token s)
 
 -- a quoted string or a token, and what follows it
 abbrev pub text_from : Option (List ℕ) → List ℕ → Option (List ℕ × List ℕ)
 text_from None s = token_at s
-text_from (Some t) s = closes false t >>= λ n. Some (34 ∷ (take n t ++ 34 ∷ []), drop (n + 1) t)
+text_from (Some t) s = closing_quote_from false t >>= λ n. Some (34 ∷ (take n t ++ 34 ∷ []), drop (n + 1) t)
 
 unfoldable pub text_at : List ℕ → Option (List ℕ × List ℕ)
 text_at s = text_from (after_byte 34 s) s
@@ -86,13 +86,13 @@ params_of s = all_params_at s >>= λ ps. at_end ps.0 ps.1
 -- the user before the only '@', where there is one
 abbrev pub user_from : List ℕ → Option (List ℕ × List ℕ) → Option (Option (List ℕ) × List ℕ)
 user_from s None = Some (None, s)
-user_from s (Some p) = if length p.0 == 0 then None else if list_all (in_class User) p.0 && is_none (parted 64 p.1) then Some (Some p.0, p.1) else None
+user_from s (Some p) = if length p.0 == 0 then None else if list_all (in_class User) p.0 && is_none (split_once_at 64 p.1) then Some (Some p.0, p.1) else None
 
 unfoldable pub user_at : List ℕ → Option (Option (List ℕ) × List ℕ)
-user_at s = user_from s (parted 64 s)
+user_at s = user_from s (split_once_at 64 s)
 
 unfoldable pub host_at : List ℕ → Option (List ℕ × List ℕ)
-host_at s = if length (run Host s) == 0 then None else if nat_lt 255 (length (run Host s)) then None else Some (run Host s, after_run Host s)
+host_at s = if length (leading_run Host s) == 0 then None else if nat_lt 255 (length (leading_run Host s)) then None else Some (leading_run Host s, after_run Host s)
 
 -- a port, which is not 0
 abbrev pub port_of : Option ℕ → Option ℕ
@@ -104,14 +104,14 @@ port_number digits = port_of (number_of 65535 digits)
 
 abbrev pub port_from : Option (List ℕ) → List ℕ → Option (Option ℕ × List ℕ)
 port_from None s = Some (None, s)
-port_from (Some t) s = port_number (run Digit t) >>= λ n. Some (Some n, after_run Digit t)
+port_from (Some t) s = port_number (leading_run Digit t) >>= λ n. Some (Some n, after_run Digit t)
 
 unfoldable pub port_at : List ℕ → Option (Option ℕ × List ℕ)
 port_at s = port_from (after_byte 58 s) s
 
 -- one byte or more, and nothing else
 unfoldable pub headers_of : List ℕ → Option (List ℕ)
-headers_of s = if length (run User s) == 0 then None else if length (after_run User s) == 0 then Some (run User s) else None
+headers_of s = if length (leading_run User s) == 0 then None else if length (after_run User s) == 0 then Some (leading_run User s) else None
 
 abbrev pub headers_from : Option (List ℕ) → List ℕ → Option (List ℕ)
 headers_from None s = if length s == 0 then Some [] else None
@@ -146,7 +146,7 @@ scheme_from name (Some rest) = Some (name, rest)
 
 -- a scheme's name, and what follows its ':'
 unfoldable pub scheme_of : List ℕ → Option (List ℕ × List ℕ)
-scheme_of s = if begins_with_letter s then scheme_from (run SchemeRest s) (after_byte 58 (after_run SchemeRest s)) else None
+scheme_of s = if begins_with_letter s then scheme_from (leading_run SchemeRest s) (after_byte 58 (after_run SchemeRest s)) else None
 
 abbrev pub sign_from : Option (List ℕ) → List ℕ → List ℕ × List ℕ
 sign_from None s = ([], s)
@@ -156,7 +156,7 @@ abbrev pub sign_of : List ℕ → List ℕ × List ℕ
 sign_of s = sign_from (after_byte 43 s) s
 
 unfoldable pub number_at : List ℕ → Option (List ℕ × List ℕ)
-number_at s = if list_any (in_class Digit) (run Phone (sign_of s).1) then Some ((sign_of s).0 ++ run Phone (sign_of s).1, after_run Phone (sign_of s).1) else None
+number_at s = if list_any (in_class Digit) (leading_run Phone (sign_of s).1) then Some ((sign_of s).0 ++ leading_run Phone (sign_of s).1, after_run Phone (sign_of s).1) else None
 
 -- the parts after 'tel:', one after the other
 abbrev pub tel_parts : List ℕ → Option Uri
@@ -191,26 +191,26 @@ Refuses faults.Malformed read = read ≡ Err malformed
 Refuses faults.Scheme read = read ≡ Err foreign
 Refuses faults.NoMemory read = Unit {0}
 
-abbrev pub Answers : Result Uri UriFault → Result Uri Refusal → Type 0
-Answers (Ok u) read = read ≡ Ok u
-Answers (Err e) read = Refuses e read
+abbrev pub IsUriResult : Result Uri UriFault → Result Uri Refusal → Type 0
+IsUriResult (Ok u) read = read ≡ Ok u
+IsUriResult (Err e) read = Refuses e read
 
 -- ---- name-addrs
 
 -- what follows a '<': the URI, a '>' and parameters
 unfoldable pub angle_of : List ℕ → List ℕ → Option NameAddr
-angle_of display s = if length (run UriByte s) == 0 then None
-    else (after_byte 62 (after_run UriByte s) >>= λ r. all_params_at r >>= λ ps. at_end (record { display = display; uri = run UriByte s; params = ps.0 }) ps.1)
+angle_of display s = if length (leading_run UriByte s) == 0 then None
+    else (after_byte 62 (after_run UriByte s) >>= λ r. all_params_at r >>= λ ps. at_end (record { display = display; uri = leading_run UriByte s; params = ps.0 }) ps.1)
 
 -- a URI without brackets, and parameters
 unfoldable pub bare_of : List ℕ → Option NameAddr
-bare_of s = if length (run BareByte s) == 0 then None
-    else (all_params_at (after_run BareByte s) >>= λ ps. at_end (record { display = []; uri = run BareByte s; params = ps.0 }) ps.1)
+bare_of s = if length (leading_run BareByte s) == 0 then None
+    else (all_params_at (after_run BareByte s) >>= λ ps. at_end (record { display = []; uri = leading_run BareByte s; params = ps.0 }) ps.1)
 
 -- words up to a '<', which no blank begins, or no '<'
 abbrev pub words_from : List ℕ → Option (List ℕ) → Option NameAddr
 words_from s None = bare_of s
-words_from s (Some u) = if length (run Blank s) == 0 then angle_of (trimmed Blank (run Display s)) u else None
+words_from s (Some u) = if length (leading_run Blank s) == 0 then angle_of (without_trailing Blank (leading_run Display s)) u else None
 
 unfoldable pub words_of : List ℕ → Option NameAddr
 words_of s = words_from s (after_byte 60 (after_run Display s))

@@ -2,9 +2,9 @@
 use Rattle.std.specs.Prelude.{ℕ, Bool, true, false, ◌&&◌, ◌==◌, List, [], ◌∷◌, Option, Some, None}
 use Rattle.std.specs.List.{list_all}
 use Rattle.std.specs.Str.{bytes_eq, str_eq_ignore_ascii_case}
-use Rattle.mmtel_scan.specs.Classes.{in_class}
-use Rattle.mmtel_scan.specs.declared.classes.Class.TheVariants.{Digit}
-use Rattle.mmtel_lex.specs.Identity.{reduced, has_user_phone}
+use Rattle.mmtel_base.specs.Classes.{in_class}
+use Rattle.mmtel_base.specs.declared.classes.Class.TheVariants.{Digit}
+use Rattle.mmtel_lex.specs.Identity.{without_separators, has_user_phone}
 use Rattle.mmtel_lex.specs.declared.values.Param.{Param}
 use Rattle.mmtel_lex.specs.declared.values.Uri.{Uri}
 use Rattle.mmtel_lex.specs.declared.values.Uri.TheVariants.{Sip, Tel}
@@ -28,6 +28,6 @@ is_phone (Some u) params number = is_plus_digits u && (has_user_phone params && 
 -- the URIs name the same identity
 unfoldable pub is_same_identity : Uri → Uri → Bool
 is_same_identity (Sip u h p ps hs) (Sip v g q qs gs) = is_same_user u v && str_eq_ignore_ascii_case h g
-is_same_identity (Sip u h p ps hs) (Tel number qs) = is_phone u ps (reduced number)
-is_same_identity (Tel number qs) (Sip u h p ps hs) = is_phone u ps (reduced number)
-is_same_identity (Tel m ps) (Tel n qs) = bytes_eq (reduced m) (reduced n)
+is_same_identity (Sip u h p ps hs) (Tel number qs) = is_phone u ps (without_separators number)
+is_same_identity (Tel number qs) (Sip u h p ps hs) = is_phone u ps (without_separators number)
+is_same_identity (Tel m ps) (Tel n qs) = bytes_eq (without_separators m) (without_separators n)

@@ -9,11 +9,11 @@ use Rattle.mmtel_lex.specs.declared.values.Uri.TheVariants.{Sip, Tel}
 use Rattle.mmtel_lex.specs.Reading.{Refusal, Refuses}
 
 -- the URI whose parts are in the bytes
-abbrev pub uri_seen : UriRef → Uri
-uri_seen (refs.Sip user host port params headers) = Sip (option_copied user) host.now port params headers.now
-uri_seen (refs.Tel number params) = Tel number.now params
+abbrev pub uri_view : UriRef → Uri
+uri_view (refs.Sip user host port params headers) = Sip (option_copied user) host.now port params headers.now
+uri_view (refs.Tel number params) = Tel number.now params
 
 -- what uri_ref returned is what reading gives
-abbrev pub Sees : Result UriRef UriFault → Result Uri Refusal → Type 0
-Sees (Ok u) read = read ≡ Ok (uri_seen u)
-Sees (Err e) read = Refuses e read
+abbrev pub IsUriRefResult : Result UriRef UriFault → Result Uri Refusal → Type 0
+IsUriRefResult (Ok u) read = read ≡ Ok (uri_view u)
+IsUriRefResult (Err e) read = Refuses e read

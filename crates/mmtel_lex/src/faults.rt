@@ -2,7 +2,7 @@
 ghost use Rattle.std.specs.Prelude.{◌≡◌};
 ghost use Rattle.mmtel_lex.specs.declared.faults.LexFault.TheVariants as lex;
 
-use mmtel_scan::NoMemory;
+use mmtel_base::NoMemory;
 
 /// What is wrong with the bytes of a name-addr, of parameters or of their parts.
 #[derive(Clone, Copy, Debug, PartialEq, Eq)]
@@ -16,7 +16,7 @@ pub enum LexFault {
 impl From<NoMemory> for LexFault {
     ghost from_gives = { λ _ e. e ≡ lex.NoMemory };
 
-    fn from(_e: NoMemory) -> LexFault {
+    fn from(_error: NoMemory) -> LexFault {
         LexFault::NoMemory
     }
 }
@@ -25,7 +25,7 @@ impl From<NoMemory> for LexFault {
 impl<T: Drop> From<(T, NoMemory)> for LexFault {
     ghost from_gives = { λ _ e. e ≡ lex.NoMemory };
 
-    fn from(_e: (T, NoMemory)) -> LexFault {
+    fn from(_error: (T, NoMemory)) -> LexFault {
         LexFault::NoMemory
     }
 }

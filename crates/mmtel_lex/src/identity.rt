@@ -2,14 +2,14 @@
 ghost use Rattle.std.specs.Prelude.{List, ℕ, ◌≡◌, ◌∷◌, ◌↔◌, IsTrue, MatchOption, IfSome, length, ◌<◌, []};
 ghost use Rattle.std.specs.Option.{option_copied};
 ghost use Rattle.std.specs.Str.{str_to_ascii_lowercase};
-ghost use Rattle.mmtel_scan.specs.Classes.{IsAll};
-ghost use Rattle.mmtel_scan.specs.declared.classes.Class.TheVariants.{Digit};
-ghost use Rattle.mmtel_lex.specs.Identity.{is_mark, reduced, has_user_phone, IsPhone, IsSameIdentity, host_of};
+ghost use Rattle.mmtel_base.specs.Classes.{IsAll};
+ghost use Rattle.mmtel_base.specs.declared.classes.Class.TheVariants.{Digit};
+ghost use Rattle.mmtel_lex.specs.Identity.{is_visual_separator, without_separators, has_user_phone, IsPhone, IsSameIdentity, host_of};
 ghost use Rattle.mmtel_lex.specs.SameIdentity.{is_same_identity};
 
 use crate::params::param_value;
 use crate::values::{Param, Params, Uri};
-use mmtel_scan::{Class, Text, is_all};
+use mmtel_base::{Class, Text, is_all};
 
 /// The host of a sip URI; None exactly for a tel URI. It allocates nothing.
 pub fn domain(uri: &Uri) -> Option<&[u8]>
@@ -21,20 +21,20 @@ pub fn domain(uri: &Uri) -> Option<&[u8]>
     }
 }
 
-fn is_mark_byte(b: u8) -> bool
-    ensures { result ≡ is_mark b }
+fn is_visual_separator(byte: u8) -> bool
+    ensures { result ≡ is_visual_separator byte }
 {
-    b == b'-' || b == b'.' || b == b'(' || b == b')'
+    byte == b'-' || byte == b'.' || byte == b'(' || byte == b')'
 }
 
 /// The first byte that is no visual separator, and what follows it.
-fn next_kept(bytes: &[u8]) -> Option<(u8, &[u8])>
-    ensures parts { MatchOption result (reduced bytes.now ≡ []) (λ x. reduced bytes.now ≡ x.0 ∷ reduced x.1.now) }
+fn next_significant(bytes: &[u8]) -> Option<(u8, &[u8])>
+    ensures parts { MatchOption result (without_separators bytes.now ≡ []) (λ x. without_separators bytes.now ≡ x.0 ∷ without_separators x.1.now) }
     ensures shorter { IfSome result (λ x. length x.1.now < length bytes.now) }
 {
     let mut rest = bytes;
     'marks: while let [first, tail @ ..] = rest {
-        if !is_mark_byte(*first) {
+        if !is_visual_separator(*first) {
             return Some((*first, tail));
         }
         rest = tail;
@@ -44,14 +44,14 @@ fn next_kept(bytes: &[u8]) -> Option<(u8, &[u8])>
 
 /// Whether the numbers are equal without their visual separators.
 fn same_number(a: &[u8], b: &[u8]) -> bool
-    ensures { IsTrue result ↔ (reduced a.now ≡ reduced b.now) }
+    ensures { IsTrue result ↔ (without_separators a.now ≡ without_separators b.now) }
 {
     let mut a = a;
     let mut b = b;
     'numbers: loop {
-        match next_kept(a) {
-            None => return next_kept(b).is_none(),
-            Some((x, rest_a)) => match next_kept(b) {
+        match next_significant(a) {
+            None => return next_significant(b).is_none(),
+            Some((x, rest_a)) => match next_significant(b) {
                 None => return false,
                 Some((y, rest_b)) => {
                     if x != y {
@@ -101,7 +101,7 @@ fn is_plus_digits(bytes: &[u8]) -> bool
 
 /// Whether a sip URI with this user and these parameters represents the number.
 fn is_phone(user: &Option<Text>, params: &Params, number: &[u8]) -> bool
-    ensures { IsTrue result ↔ IsPhone user.now params.now (reduced number.now) }
+    ensures { IsTrue result ↔ IsPhone user.now params.now (without_separators number.now) }
 {
     match user {
         None => false,

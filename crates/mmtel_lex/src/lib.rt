@@ -4,24 +4,26 @@
 
 mod faults;
 mod identity;
-pub mod laws;
 mod name_addrs;
 mod param_refs;
 pub mod params;
 mod percent;
 mod printing;
-mod uri_places;
+pub mod theorems;
+mod uri_parts;
 pub mod uris;
 mod values;
 
 pub use faults::{LexFault, UriFault};
 pub use identity::{domain, same_identity};
-pub use mmtel_scan::{List, NoMemory, Text};
+pub use mmtel_base::{List, NoMemory, Text};
 pub use name_addrs::{NameAddrRef, name_addr_ref, read_name_addr};
 pub use param_refs::{ParamsRef, params_ref};
 pub use params::{param_value, read_params};
-pub use percent::percent_decoded;
+pub use percent::percent_decoded_text;
 pub use printing::{add_params, print_name_addr, print_uri};
-pub use uri_places::{cut, find_named, first_part, is_named, split_user, uri_header, uri_param};
+pub use uri_parts::{
+    find_named, first_part, is_named, split_around, split_user, uri_header, uri_param,
+};
 pub use uris::{UriRef, read_uri, uri_ref};
 pub use values::{NameAddr, Param, Params, Uri};

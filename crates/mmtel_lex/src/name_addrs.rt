@@ -2,15 +2,15 @@
 ghost use Rattle.std.specs.Prelude.{IfOk, Err, ◌≡◌, ◌⊎◌};
 ghost use Rattle.std.specs.Option.{option_copied};
 ghost use Rattle.mmtel_lex.specs.Grammar.{IsNameAddr};
-ghost use Rattle.mmtel_lex.specs.Outcome.{IsReadUnlessMemory, IsMalformed};
+ghost use Rattle.mmtel_lex.specs.Outcome.{IsReadUnlessOutOfMemory, IsMalformed};
 ghost use Rattle.mmtel_lex.specs.Params.{param_value};
-ghost use Rattle.mmtel_lex.specs.Reading.{Gives, angle_of, bare_of, words_of, quoted_of, name_addr_of};
+ghost use Rattle.mmtel_lex.specs.Reading.{IsResult, angle_of, bare_of, words_of, quoted_of, name_addr_of};
 
 use crate::faults::LexFault;
 use crate::param_refs::{ParamsRef, params_ref};
 use crate::params::text_ref;
 use crate::values::NameAddr;
-use mmtel_scan::{Class, NoMemory, Text, skip_byte, split_run, trim_end};
+use mmtel_base::{Class, NoMemory, Text, skip_byte, split_run, trim_end};
 use std::alloc::Global;
 use std::marker::Model;
 
@@ -63,7 +63,7 @@ impl<'a> NameAddrRef<'a> {
 
 /// What follows a `<`: the URI, `>` and parameters.
 #[tactic(auto, unfolding(crate::specs::Reading::angle_of))]
-fn angled<'a>(display: &'a [u8], bytes: &'a [u8]) -> Option<NameAddrRef<'a>>
+fn angle_ref<'a>(display: &'a [u8], bytes: &'a [u8]) -> Option<NameAddrRef<'a>>
     ensures { result ≡ angle_of display.now bytes.now }
 {
     let (uri, rest) = split_run(Class::UriByte, bytes);
@@ -85,7 +85,7 @@ fn angled<'a>(display: &'a [u8], bytes: &'a [u8]) -> Option<NameAddrRef<'a>>
 
 /// A URI without brackets, and parameters.
 #[tactic(auto, unfolding(crate::specs::Reading::bare_of))]
-fn bare(bytes: &[u8]) -> Option<NameAddrRef<'_>>
+fn bare_ref(bytes: &[u8]) -> Option<NameAddrRef<'_>>
     ensures { result ≡ bare_of bytes.now }
 {
     let (uri, rest) = split_run(Class::BareByte, bytes);
@@ -106,31 +106,31 @@ fn bare(bytes: &[u8]) -> Option<NameAddrRef<'_>>
 
 /// A display name of words or none and a URI in brackets, or a bare URI.
 #[tactic(auto, unfolding(crate::specs::Reading::words_of))]
-fn in_words(bytes: &[u8]) -> Option<NameAddrRef<'_>>
+fn words_ref(bytes: &[u8]) -> Option<NameAddrRef<'_>>
     ensures { result ≡ words_of bytes.now }
 {
     let (front, rest) = split_run(Class::Display, bytes);
     match skip_byte(b'<', rest) {
-        None => bare(bytes),
+        None => bare_ref(bytes),
         Some(tail) => {
             let (blanks, _) = split_run(Class::Blank, bytes);
             if !blanks.is_empty() {
                 return None;
             }
-            angled(trim_end(Class::Blank, front), tail)
+            angle_ref(trim_end(Class::Blank, front), tail)
         }
     }
 }
 
 /// A display name in quotes and a URI in brackets.
 #[tactic(auto, unfolding(crate::specs::Reading::quoted_of))]
-fn in_quotes(bytes: &[u8]) -> Option<NameAddrRef<'_>>
+fn quoted_ref(bytes: &[u8]) -> Option<NameAddrRef<'_>>
     ensures { result ≡ quoted_of bytes.now }
 {
     let (display, rest) = text_ref(bytes)?;
     let (_, rest) = split_run(Class::Blank, rest);
     let tail = skip_byte(b'<', rest)?;
-    angled(display, tail)
+    angle_ref(display, tail)
 }
 
 /// The name-addr that these bytes are, in place; all of the bytes are read (RFC 3261 §20.10). None exactly where they are not of the grammar. It allocates nothing.
@@ -141,13 +141,13 @@ pub fn name_addr_ref(bytes: &[u8]) -> Option<NameAddrRef<'_>>
     ensures exact { result ≡ name_addr_of bytes.now }
 {
     match skip_byte(b'"', bytes) {
-        None => in_words(bytes),
-        Some(_) => in_quotes(bytes),
+        None => words_ref(bytes),
+        Some(_) => quoted_ref(bytes),
     }
 }
 
 fn name_addr(alloc: Global, bytes: &[u8]) -> Result<NameAddr, LexFault>
-    ensures { Gives (λ x. x) result (name_addr_of bytes.now) }
+    ensures { IsResult (λ x. x) result (name_addr_of bytes.now) }
 {
     match name_addr_ref(bytes) {
         None => Err(LexFault::Malformed),
@@ -165,11 +165,11 @@ fn name_addr(alloc: Global, bytes: &[u8]) -> Result<NameAddr, LexFault>
 /// `Malformed` exactly where the bytes are not of the grammar. `NoMemory` where memory ran out.
 pub fn read_name_addr(alloc: Global, bytes: &[u8]) -> Result<NameAddr, LexFault>
     // The result is that of the total reading function.
-    ensures exact { Gives (λ x. x) result (name_addr_of bytes.now) }
+    ensures exact { IsResult (λ x. x) result (name_addr_of bytes.now) }
     // What is read is what the bytes spell.
     ensures found { IfOk result (λ n. IsNameAddr bytes.now n) }
     // What the bytes spell is read.
-    ensures only { (n : NameAddr) → IsNameAddr bytes.now n → IsReadUnlessMemory result n }
+    ensures only { (n : NameAddr) → IsNameAddr bytes.now n → IsReadUnlessOutOfMemory result n }
     // The bytes are malformed exactly where they spell none.
     ensures malformed { IsMalformed result → (n : NameAddr) → IsNameAddr bytes.now n → ⊥ }
     ensures refused { ((n : NameAddr) → IsNameAddr bytes.now n → ⊥) → IsMalformed result ⊎ (result ≡ Err LexFault.NoMemory) }

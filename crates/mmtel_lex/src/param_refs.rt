@@ -7,9 +7,9 @@ ghost use Rattle.mmtel_lex.specs.Params.{first_param, has_param, param_value};
 ghost use Rattle.mmtel_lex.specs.Reading.{value_at, param_at, all_params_at};
 
 use crate::faults::LexFault;
-use crate::params::{params_front, text_ref, token_ref};
+use crate::params::{params_prefix, text_ref, token_ref};
 use crate::values::{Param, Params};
-use mmtel_scan::{NoMemory, Text, skip_byte};
+use mmtel_base::{NoMemory, Text, skip_byte};
 use std::alloc::Global;
 use std::marker::Model;
 
@@ -116,7 +116,7 @@ fn copied(alloc: Global, bytes: &[u8]) -> Result<Params, NoMemory>
     requires { is_some (all_params_at bytes.now) ≡ true }
     ensures { IfOk result (λ params. params ≡ params_in bytes.now) }
 {
-    match params_front(alloc, bytes) {
+    match params_prefix(alloc, bytes) {
         Ok((params, _)) => Ok(params),
         Err(LexFault::NoMemory) => Err(NoMemory),
         Err(LexFault::Malformed) => unreachable!(),

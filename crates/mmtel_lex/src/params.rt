@@ -2,15 +2,15 @@
 ghost use Rattle.std.specs.Prelude.{◌≡◌, ◌≤◌, ◌⊎◌, ℕ, List, length, IfOk, IfSome, Err};
 ghost use Rattle.std.specs.Option.{option_copied, option_map};
 ghost use Rattle.std.specs.Str.{str_eq_ignore_ascii_case};
-ghost use Rattle.mmtel_lex.specs.Reading.{Gives, token_at, text_at, param_at, all_params_at, params_of};
+ghost use Rattle.mmtel_lex.specs.Reading.{IsResult, token_at, text_at, param_at, all_params_at, params_of};
 ghost use Rattle.mmtel_lex.specs.Grammar.{IsParams};
 ghost use Rattle.mmtel_lex.specs.Params.{param_value};
-ghost use Rattle.mmtel_lex.specs.Outcome.{IsReadUnlessMemory, IsMalformed};
+ghost use Rattle.mmtel_lex.specs.Outcome.{IsReadUnlessOutOfMemory, IsMalformed};
 
 use crate::faults::LexFault;
 use crate::param_refs::param_ref;
 use crate::values::{Param, Params};
-use mmtel_scan::{Class, List, Text, closing, skip_byte, split_run};
+use mmtel_base::{Class, List, Text, closing_quote, skip_byte, split_run};
 use std::alloc::Global;
 
 /// A token at the start, and what follows it (RFC 3261 §25.1); None exactly where no byte of a token comes first. It allocates nothing.
@@ -32,7 +32,7 @@ pub fn token_ref(bytes: &[u8]) -> Option<(&[u8], &[u8])>
 ///
 /// `Malformed` exactly where no byte of a token comes first.
 pub fn token(alloc: Global, bytes: &[u8]) -> Result<(Text, &[u8]), LexFault>
-    ensures exact { Gives (λ x. (x.0, x.1.now)) result (token_at bytes.now) }
+    ensures exact { IsResult (λ x. (x.0, x.1.now)) result (token_at bytes.now) }
     ensures shorter { IfOk result (λ x. length x.1.now ≤ length bytes.now) }
 {
     match token_ref(bytes) {
@@ -49,7 +49,7 @@ pub fn text_ref(bytes: &[u8]) -> Option<(&[u8], &[u8])>
 {
     match skip_byte(b'"', bytes) {
         None => token_ref(bytes),
-        Some(tail) => match closing(tail) {
+        Some(tail) => match closing_quote(tail) {
             None => None,
             Some(at) => Some(bytes.split_at(at + 2)),
         },
@@ -62,7 +62,7 @@ pub fn text_ref(bytes: &[u8]) -> Option<(&[u8], &[u8])>
 ///
 /// `Malformed` exactly where neither comes first; a quote that no other closes is no quoted string.
 pub fn text(alloc: Global, bytes: &[u8]) -> Result<(Text, &[u8]), LexFault>
-    ensures exact { Gives (λ x. (x.0, x.1.now)) result (text_at bytes.now) }
+    ensures exact { IsResult (λ x. (x.0, x.1.now)) result (text_at bytes.now) }
     ensures shorter { IfOk result (λ x. length x.1.now ≤ length bytes.now) }
 {
     match text_ref(bytes) {
@@ -73,7 +73,7 @@ pub fn text(alloc: Global, bytes: &[u8]) -> Result<(Text, &[u8]), LexFault>
 
 /// A parameter, whose `;` came before, copied, and what follows it.
 fn param(alloc: Global, bytes: &[u8]) -> Result<(Param, &[u8]), LexFault>
-    ensures exact { Gives (λ x. (x.0, x.1.now)) result (param_at bytes.now) }
+    ensures exact { IsResult (λ x. (x.0, x.1.now)) result (param_at bytes.now) }
     ensures shorter { IfOk result (λ x. length x.1.now ≤ length bytes.now) }
 {
     match param_ref(bytes) {
@@ -87,8 +87,8 @@ fn param(alloc: Global, bytes: &[u8]) -> Result<(Param, &[u8]), LexFault>
 /// # Errors
 ///
 /// `Malformed` exactly where a `;` comes that no parameter follows.
-pub fn params_front(alloc: Global, bytes: &[u8]) -> Result<(Params, &[u8]), LexFault>
-    ensures exact { Gives (λ x. (x.0, x.1.now)) result (all_params_at bytes.now) }
+pub fn params_prefix(alloc: Global, bytes: &[u8]) -> Result<(Params, &[u8]), LexFault>
+    ensures exact { IsResult (λ x. (x.0, x.1.now)) result (all_params_at bytes.now) }
 {
     let mut params = List::new();
     let mut rest = bytes;
@@ -131,9 +131,9 @@ pub fn param_value<'a>(params: &'a [Param], name: &[u8]) -> Option<&'a [u8]>
 /// All of the bytes as parameters.
 #[tactic(auto, unfolding(crate::specs::Reading::params_of))]
 fn all_params(alloc: Global, bytes: &[u8]) -> Result<Params, LexFault>
-    ensures exact { Gives (λ x. x) result (params_of bytes.now) }
+    ensures exact { IsResult (λ x. x) result (params_of bytes.now) }
 {
-    let (params, rest) = params_front(alloc, bytes)?;
+    let (params, rest) = params_prefix(alloc, bytes)?;
     if rest.is_empty() {
         Ok(params)
     } else {
@@ -148,11 +148,11 @@ fn all_params(alloc: Global, bytes: &[u8]) -> Result<Params, LexFault>
 /// `Malformed` exactly where the bytes are not of the grammar. `NoMemory` where memory ran out.
 pub fn read_params(alloc: Global, bytes: &[u8]) -> Result<Params, LexFault>
     // The result is that of the total reading function.
-    ensures exact { Gives (λ x. x) result (params_of bytes.now) }
+    ensures exact { IsResult (λ x. x) result (params_of bytes.now) }
     // What is read is what the bytes spell.
     ensures found { IfOk result (λ ps. IsParams bytes.now ps) }
     // What the bytes spell is read.
-    ensures only { (ps : List Param) → IsParams bytes.now ps → IsReadUnlessMemory result ps }
+    ensures only { (ps : List Param) → IsParams bytes.now ps → IsReadUnlessOutOfMemory result ps }
     // The bytes are malformed exactly where they spell none.
     ensures malformed { IsMalformed result → (ps : List Param) → IsParams bytes.now ps → ⊥ }
     ensures refused { ((ps : List Param) → IsParams bytes.now ps → ⊥) → IsMalformed result ⊎ (result ≡ Err LexFault.NoMemory) }

@@ -3,7 +3,7 @@ ghost use Rattle.std.specs.Prelude.{◌≡◌, ◌++◌, ◌∷◌, [], List, �
 ghost use Rattle.mmtel_lex.specs.Grammar.{value_text, param_text, params_text, user_text, headers_text, port_text, uri_text, IsUri, display_text, name_addr_text, IsNameAddr};
 
 use crate::values::{NameAddr, Param, Uri};
-use mmtel_scan::{NoMemory, Text};
+use mmtel_base::{NoMemory, Text};
 use std::alloc::Global;
 
 fn add_value(alloc: Global, out: &mut Text, value: &Option<Text>) -> Result<(), NoMemory>
@@ -88,7 +88,7 @@ fn add_headers(alloc: Global, out: &mut Text, headers: &Text) -> Result<(), NoMe
     }
 }
 
-fn printed(alloc: Global, uri: &Uri) -> Result<Text, NoMemory>
+fn uri_text(alloc: Global, uri: &Uri) -> Result<Text, NoMemory>
     ensures { IfOk result (λ t. t ≡ uri_text uri.now) }
 {
     match uri {
@@ -126,7 +126,7 @@ pub fn print_uri(alloc: Global, uri: &Uri) -> Result<Text, NoMemory>
     // A URI that some text spells is spelled by this one too.
     ensures reads_back { (s : List ℕ) → IsUri s uri.now → IfOk result (λ t. IsUri t uri.now) }
 {
-    printed(alloc, uri)
+    uri_text(alloc, uri)
 }
 
 fn add_display(alloc: Global, out: &mut Text, display: &Text) -> Result<(), NoMemory>
@@ -150,7 +150,7 @@ fn add_angled(alloc: Global, out: &mut Text, uri: &Text) -> Result<(), NoMemory>
     out.push(alloc, b">")
 }
 
-fn printed_name_addr(alloc: Global, name_addr: &NameAddr) -> Result<Text, NoMemory>
+fn name_addr_text(alloc: Global, name_addr: &NameAddr) -> Result<Text, NoMemory>
     ensures { IfOk result (λ t. t ≡ name_addr_text name_addr.now) }
 {
     let mut out = Text::new();
@@ -170,5 +170,5 @@ pub fn print_name_addr(alloc: Global, name_addr: &NameAddr) -> Result<Text, NoMe
     // A name-addr that some text spells is spelled by this one too.
     ensures reads_back { (s : List ℕ) → IsNameAddr s name_addr.now → IfOk result (λ t. IsNameAddr t name_addr.now) }
 {
-    printed_name_addr(alloc, name_addr)
+    name_addr_text(alloc, name_addr)
 }

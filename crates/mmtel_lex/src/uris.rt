@@ -3,18 +3,20 @@ ghost use Rattle.std.specs.Prelude.{◌≡◌, ◌≤◌, length, IfOk, IfErr, E
 ghost use Rattle.std.specs.List.{list_any};
 ghost use Rattle.std.specs.Option.{option_copied, option_map};
 ghost use Rattle.std.specs.Str.{str_eq_ignore_ascii_case};
-ghost use Rattle.mmtel_scan.specs.Classes.{in_class};
-ghost use Rattle.mmtel_scan.specs.declared.classes.Class.TheVariants.{Digit};
-ghost use Rattle.mmtel_lex.specs.UriRefs.{Sees, uri_seen};
+ghost use Rattle.mmtel_base.specs.Classes.{in_class};
+ghost use Rattle.mmtel_base.specs.declared.classes.Class.TheVariants.{Digit};
+ghost use Rattle.mmtel_lex.specs.UriRefs.{IsUriRefResult, uri_view};
 ghost use Rattle.mmtel_lex.specs.Grammar.{IsUri, IsForeign, IsNoUri};
-ghost use Rattle.mmtel_lex.specs.Outcome.{IsUnlessMemory, IsMalformedUri, IsOfBytes, IsUriOfBytes};
-ghost use Rattle.mmtel_lex.specs.Reading.{Gives, user_at, host_at, port_number, port_at, headers_at, headers_of, sip_parts, sip_of, scheme_of, sign_of, number_at};
-ghost use Rattle.mmtel_lex.specs.Reading.{tel_parts, tel_of, uri_of, Answers, or_malformed};
+ghost use Rattle.mmtel_lex.specs.Outcome.{IsUnlessOutOfMemory, IsMalformedUri, IsOfBytes, IsUriOfBytes};
+ghost use Rattle.mmtel_lex.specs.Reading.{IsResult, user_at, host_at, port_number, port_at, headers_at, headers_of, sip_parts, sip_of, scheme_of, sign_of, number_at};
+ghost use Rattle.mmtel_lex.specs.Reading.{tel_parts, tel_of, uri_of, IsUriResult, or_malformed};
 
 use crate::faults::{LexFault, UriFault};
 use crate::param_refs::{ParamsRef, owned_text, params_ref};
 use crate::values::Uri;
-use mmtel_scan::{Class, NoMemory, Text, is_all, number_up_to, part, skip_byte, split_run};
+use mmtel_base::{
+    Class, NoMemory, Text, is_all, number_up_to, skip_byte, split_once_at, split_run,
+};
 use std::alloc::Global;
 
 /// A URI of a scheme that the server knows, in place in the bytes.
@@ -45,13 +47,13 @@ pub enum UriRef<'a> {
 fn user(bytes: &[u8]) -> Option<(Option<&[u8]>, &[u8])>
     ensures { option_map (λ x. (option_copied x.0, x.1.now)) result ≡ user_at bytes.now }
 {
-    match part(b'@', bytes) {
+    match split_once_at(b'@', bytes) {
         None => Some((None, bytes)),
         Some((front, rest)) => {
             if front.is_empty() {
                 return None;
             }
-            if is_all(Class::User, front) && part(b'@', rest).is_none() {
+            if is_all(Class::User, front) && split_once_at(b'@', rest).is_none() {
                 Some((Some(front), rest))
             } else {
                 None
@@ -79,7 +81,7 @@ pub fn host_ref(bytes: &[u8]) -> Option<(&[u8], &[u8])>
 ///
 /// `Malformed` exactly where no byte of a host comes first, or more than 255 do.
 pub fn host(alloc: Global, bytes: &[u8]) -> Result<(Text, &[u8]), LexFault>
-    ensures exact { Gives (λ x. (x.0, x.1.now)) result (host_at bytes.now) }
+    ensures exact { IsResult (λ x. (x.0, x.1.now)) result (host_at bytes.now) }
 {
     match host_ref(bytes) {
         None => Err(LexFault::Malformed),
@@ -120,7 +122,7 @@ pub fn port_ref(bytes: &[u8]) -> Option<(Option<u16>, &[u8])>
 ///
 /// `Malformed` exactly where a `:` comes that is not followed by the digits of such a number.
 pub fn port(bytes: &[u8]) -> Result<(Option<u16>, &[u8]), LexFault>
-    ensures exact { Gives (λ x. (x.0, x.1.now)) result (port_at bytes.now) }
+    ensures exact { IsResult (λ x. (x.0, x.1.now)) result (port_at bytes.now) }
     // The fault is never out of memory.
     ensures of_bytes { IfErr result (λ e. IsOfBytes e) }
 {
@@ -158,7 +160,7 @@ fn headers(bytes: &[u8]) -> Option<&[u8]>
 
 /// The parts after `sip:`, one after the other.
 fn sip_parts(bytes: &[u8]) -> Option<UriRef<'_>>
-    ensures { option_map uri_seen result ≡ sip_parts bytes.now }
+    ensures { option_map uri_view result ≡ sip_parts bytes.now }
 {
     let (user, rest) = user(bytes)?;
     let (host, rest) = host_ref(rest)?;
@@ -177,7 +179,7 @@ fn sip_parts(bytes: &[u8]) -> Option<UriRef<'_>>
 /// All of the bytes after `sip:`, each of which is one of a URI.
 #[tactic(auto, unfolding(crate::specs::Reading::sip_of))]
 fn sip(bytes: &[u8]) -> Option<UriRef<'_>>
-    ensures { option_map uri_seen result ≡ sip_of bytes.now }
+    ensures { option_map uri_view result ≡ sip_of bytes.now }
 {
     if is_all(Class::UriByte, bytes) {
         sip_parts(bytes)
@@ -238,7 +240,7 @@ fn phone(bytes: &[u8]) -> Option<(&[u8], &[u8])>
 
 /// The parts after `tel:`, one after the other.
 fn tel_parts(bytes: &[u8]) -> Option<UriRef<'_>>
-    ensures { option_map uri_seen result ≡ tel_parts bytes.now }
+    ensures { option_map uri_view result ≡ tel_parts bytes.now }
 {
     let (number, rest) = phone(bytes)?;
     let (params, rest) = params_ref(rest)?;
@@ -252,7 +254,7 @@ fn tel_parts(bytes: &[u8]) -> Option<UriRef<'_>>
 /// All of the bytes after `tel:`, each of which is one of a URI.
 #[tactic(auto, unfolding(crate::specs::Reading::tel_of))]
 fn tel(bytes: &[u8]) -> Option<UriRef<'_>>
-    ensures { option_map uri_seen result ≡ tel_of bytes.now }
+    ensures { option_map uri_view result ≡ tel_of bytes.now }
 {
     if is_all(Class::UriByte, bytes) {
         tel_parts(bytes)
@@ -263,7 +265,7 @@ fn tel(bytes: &[u8]) -> Option<UriRef<'_>>
 
 /// The URI, or the fault that its bytes are malformed.
 fn or_malformed(read: Option<UriRef<'_>>) -> Result<UriRef<'_>, UriFault>
-    ensures exact { Sees result (or_malformed (option_map uri_seen read.entry)) }
+    ensures exact { IsUriRefResult result (or_malformed (option_map uri_view read.entry)) }
     ensures of_bytes { IfErr result (λ e. IsUriOfBytes e) }
 {
     match read {
@@ -280,7 +282,7 @@ fn or_malformed(read: Option<UriRef<'_>>) -> Result<UriRef<'_>, UriFault>
 #[tactic(auto, unfolding(crate::specs::Reading::uri_of))]
 pub fn uri_ref(bytes: &[u8]) -> Result<UriRef<'_>, UriFault>
     // The result is that of the total reading function.
-    ensures exact { Sees result (uri_of bytes.now) }
+    ensures exact { IsUriRefResult result (uri_of bytes.now) }
     // The fault is never out of memory.
     ensures of_bytes { IfErr result (λ e. IsUriOfBytes e) }
 {
@@ -305,7 +307,7 @@ impl<'a> UriRef<'a> {
     ///
     /// Out of memory only.
     pub fn owned(&self, alloc: Global) -> Result<Uri, NoMemory>
-        ensures { IfOk result (λ uri. uri ≡ uri_seen self.now) }
+        ensures { IfOk result (λ uri. uri ≡ uri_view self.now) }
     {
         match self {
             UriRef::Sip {
@@ -337,7 +339,7 @@ impl<'a> UriRef<'a> {
 }
 
 fn uri(alloc: Global, bytes: &[u8]) -> Result<Uri, UriFault>
-    ensures { Answers result (uri_of bytes.now) }
+    ensures { IsUriResult result (uri_of bytes.now) }
 {
     match uri_ref(bytes) {
         Ok(uri) => match uri.owned(alloc) {
@@ -356,14 +358,14 @@ fn uri(alloc: Global, bytes: &[u8]) -> Result<Uri, UriFault>
 /// out.
 pub fn read_uri(alloc: Global, bytes: &[u8]) -> Result<Uri, UriFault>
     // The result is that of the total reading function.
-    ensures exact { Answers result (uri_of bytes.now) }
+    ensures exact { IsUriResult result (uri_of bytes.now) }
     // What is read is what the bytes spell.
     ensures found { IfOk result (λ u. IsUri bytes.now u) }
     // What the bytes spell is read.
-    ensures only { (u : Uri) → IsUri bytes.now u → IsUnlessMemory result (Ok u) }
+    ensures only { (u : Uri) → IsUri bytes.now u → IsUnlessOutOfMemory result (Ok u) }
     // The fault is the scheme exactly where the bytes begin with another one.
     ensures scheme { result ≡ Err UriFault.Scheme → IsForeign bytes.now }
-    ensures foreign { IsForeign bytes.now → IsUnlessMemory result (Err UriFault.Scheme) }
+    ensures foreign { IsForeign bytes.now → IsUnlessOutOfMemory result (Err UriFault.Scheme) }
     // The bytes are malformed exactly where they are neither of the grammar nor of another scheme.
     ensures malformed { IsMalformedUri result → IsNoUri bytes.now }
     ensures refused { IsNoUri bytes.now → IsMalformedUri result ⊎ (result ≡ Err UriFault.NoMemory) }

@@ -1,6 +1,6 @@
 //! URIs and their parts.
 
-use mmtel_scan::{List, Text};
+use mmtel_base::{List, Text};
 
 /// A parameter, `name` or `name=value` (RFC 3261 §25.1: generic-param).
 #[derive(Drop)]

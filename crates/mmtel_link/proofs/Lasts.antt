@@ -1,6 +1,6 @@
 -- The last of the numbers, by its index.
 use Rattle.std.proofs.Common.{◌≡◌, ◌+◌, ◌-◌, ◌<◌, ℕ, suc, List, [], ◌∷◌, length, get_or, slice_set, arith, refl, ap}
-use Rattle.mmtel_link.specs.Told.{last_or_none, more_of_last}
+use Rattle.mmtel_link.specs.LinkStates.{last_or_none, more_of_last}
 
 pub last_is : (reads : List ℕ) → 0 < length reads → get_or reads (length reads - 1) 0 ≡ last_or_none reads
 last_is [] h = absurd (omega (arith, h))

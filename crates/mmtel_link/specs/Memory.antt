@@ -1,15 +1,15 @@
 -- The link in memory, as contracts see it.
 use Rattle.std.specs.Prelude.{◌≡◌, ℕ, Bool}
-use Rattle.mmtel_link.specs.Told.{Ear, Given, LinkCalls, called, fails_next}
+use Rattle.mmtel_link.specs.LinkStates.{LinkCalls, LinkInput, LinkOutput, fails_next, with_next_call}
 
 -- its inputs and outputs, its calls, and the counts of its arrival and delivery faults
-pub record Line : Type 0 where
-  pub ear : Ear
-  pub given : Given
+pub record MemoryLinkView : Type 0 where
+  pub input : LinkInput
+  pub given : LinkOutput
   pub calls : LinkCalls
-  pub taking : ℕ
-  pub giving : ℕ
+  pub arrival_faults : ℕ
+  pub delivery_faults : ℕ
 
 -- a call at its start: it is counted; whether it fails by its number
-abbrev pub Begins : Line → Line → Bool → Type 0
-Begins before after fails = (fails ≡ fails_next before.calls) × (after ≡ record before { calls = called before.calls })
+abbrev pub BeginsCall : MemoryLinkView → MemoryLinkView → Bool → Type 0
+BeginsCall before after fails = (fails ≡ fails_next before.calls) × (after ≡ record before { calls = with_next_call before.calls })

@@ -1,10 +1,10 @@
 //! Where datagrams and web connections come from, and where datagrams go.
 ghost use Rattle.std.specs.Prelude.{◌≡◌, ◌≤◌, ◌<◌, ℕ, length, Option, IfOk};
-ghost use Rattle.mmtel_outside.specs.Counts.{HasCause};
+ghost use Rattle.mmtel_environment.specs.Counts.{HasCause};
 ghost use Rattle.mmtel_link.specs.Causes.{HasSendCause};
-ghost use Rattle.mmtel_link.specs.Told.{Ear, Given, LinkCalls, NextTold, ReadTold, GivesTold, IsCall, IsBind, IsGiving, with_offer, with_reply};
+ghost use Rattle.mmtel_link.specs.LinkStates.{LinkInput, LinkOutput, LinkCalls, NextIfExposed, ReadIfExposed, DeliversIfExposed, IsCountedCall, IsCountedBind, IsCountedDelivery, with_offer, with_reply};
 
-use mmtel_scan::{NoMemory, Text};
+use mmtel_base::{NoMemory, Text};
 use mmtel_types::{Addr, Failed, Moment};
 use std::alloc::Global;
 
@@ -58,19 +58,19 @@ pub enum Arrival {
 /// Where datagrams and web connections come from, and where datagrams go, with two counts of faults: of arrival (`bind`, `next`) and of delivery (the others).
 pub trait Link {
     /// The events received, where they are known.
-    ghost ear: { Self → Option Ear };
+    ghost input: { Self → Option LinkInput };
 
     /// The outputs, where they are known.
-    ghost given: { Self → Option Given };
+    ghost given: { Self → Option LinkOutput };
 
     /// The addresses bound last, the number of calls so far and the numbers of those that fail, where they are known.
     ghost calls: { Self → Option LinkCalls };
 
     /// The count of arrival faults: how many calls of `bind` and `next` failed. It never decreases, and remains at the greatest u64.
-    ghost taking: { Self → ℕ };
+    ghost arrival_faults: { Self → ℕ };
 
     /// The count of delivery faults: how many of the other calls failed. It never decreases, and remains at the greatest u64.
-    ghost giving: { Self → ℕ };
+    ghost delivery_faults: { Self → ℕ };
 
     /// Binds the addresses for datagrams and for web connections.
     ///
@@ -78,11 +78,11 @@ pub trait Link {
     ///
     /// `Failed` only where the count of arrival faults rose in this call.
     fn bind(&mut self, sip: Addr, web: Addr) -> Result<(), Failed>
-        ensures heard { ear self.new ≡ ear self.old }
+        ensures received { input self.new ≡ input self.old }
         ensures given { given self.new ≡ given self.old }
-        ensures calls { IsBind (calls self.old) (calls self.new) sip web result }
-        ensures giving { giving self.new ≡ giving self.old }
-        ensures cause { HasCause (taking self.old) (taking self.new) result };
+        ensures calls { IsCountedBind (calls self.old) (calls self.new) sip web result }
+        ensures delivery_faults { delivery_faults self.new ≡ delivery_faults self.old }
+        ensures cause { HasCause (arrival_faults self.old) (arrival_faults self.new) result };
 
     /// The next event. A web connection that was received before is closed.
     ///
@@ -90,11 +90,11 @@ pub trait Link {
     ///
     /// `Failed` only where the count of arrival faults rose in this call.
     fn next(&mut self, alloc: Global) -> Result<Arrival, Failed>
-        ensures heard { NextTold (ear self.old) (ear self.new) result }
+        ensures received { NextIfExposed (input self.old) (input self.new) result }
         ensures given { given self.new ≡ given self.old }
-        ensures calls { IsCall (calls self.old) (calls self.new) result }
-        ensures giving { giving self.new ≡ giving self.old }
-        ensures cause { HasCause (taking self.old) (taking self.new) result };
+        ensures calls { IsCountedCall (calls self.old) (calls self.new) result }
+        ensures delivery_faults { delivery_faults self.new ≡ delivery_faults self.old }
+        ensures cause { HasCause (arrival_faults self.old) (arrival_faults self.new) result };
 
     /// Reads of the connection that was received last into the front of the buffer; 0 bytes exactly at its end.
     ///
@@ -104,11 +104,11 @@ pub trait Link {
     fn web_read(&mut self, buf: &mut [u8]) -> Result<usize, Failed>
         requires room { 0 < length buf.old }
         ensures within { IfOk result (λ n. n ≤ length buf.new) }
-        ensures heard { ReadTold (ear self.old) (ear self.new) buf.old buf.new result }
+        ensures received { ReadIfExposed (input self.old) (input self.new) buf.old buf.new result }
         ensures given { given self.new ≡ given self.old }
-        ensures calls { IsCall (calls self.old) (calls self.new) result }
-        ensures taking { taking self.new ≡ taking self.old }
-        ensures cause { HasCause (giving self.old) (giving self.new) result };
+        ensures calls { IsCountedCall (calls self.old) (calls self.new) result }
+        ensures arrival_faults { arrival_faults self.new ≡ arrival_faults self.old }
+        ensures cause { HasCause (delivery_faults self.old) (delivery_faults self.new) result };
 
     /// Replies on the connection that was received last.
     ///
@@ -116,11 +116,11 @@ pub trait Link {
     ///
     /// `Failed` only where the count of delivery faults rose in this call: the reply is lost.
     fn web_reply(&mut self, alloc: Global, bytes: &[u8]) -> Result<(), SendFault>
-        ensures heard { ear self.new ≡ ear self.old }
-        ensures given { GivesTold (given self.old) (given self.new) (with_reply bytes.now) result }
-        ensures calls { IsGiving (calls self.old) (calls self.new) result }
-        ensures taking { taking self.new ≡ taking self.old }
-        ensures cause { HasSendCause (giving self.old) (giving self.new) result };
+        ensures received { input self.new ≡ input self.old }
+        ensures given { DeliversIfExposed (given self.old) (given self.new) (with_reply bytes.now) result }
+        ensures calls { IsCountedDelivery (calls self.old) (calls self.new) result }
+        ensures arrival_faults { arrival_faults self.new ≡ arrival_faults self.old }
+        ensures cause { HasSendCause (delivery_faults self.old) (delivery_faults self.new) result };
 
     /// Sends a datagram.
     ///
@@ -128,9 +128,9 @@ pub trait Link {
     ///
     /// `Failed` only where the count of delivery faults rose in this call: the datagram is lost.
     fn send(&mut self, alloc: Global, to: Addr, bytes: &[u8]) -> Result<(), SendFault>
-        ensures heard { ear self.new ≡ ear self.old }
-        ensures given { GivesTold (given self.old) (given self.new) (with_offer to bytes.now) result }
-        ensures calls { IsGiving (calls self.old) (calls self.new) result }
-        ensures taking { taking self.new ≡ taking self.old }
-        ensures cause { HasSendCause (giving self.old) (giving self.new) result };
+        ensures received { input self.new ≡ input self.old }
+        ensures given { DeliversIfExposed (given self.old) (given self.new) (with_offer to bytes.now) result }
+        ensures calls { IsCountedDelivery (calls self.old) (calls self.new) result }
+        ensures arrival_faults { arrival_faults self.new ≡ arrival_faults self.old }
+        ensures cause { HasSendCause (delivery_faults self.old) (delivery_faults self.new) result };
 }

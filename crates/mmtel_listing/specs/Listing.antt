@@ -3,8 +3,8 @@ use Rattle.std.specs.Prelude.{ℕ, Bool, false, ◌&&◌, nat_le, nat_lt, ◌==�
 use Rattle.std.specs.Prelude.{codes, decimal}
 use Rattle.std.specs.List.{list_all, flat_map, onto_first}
 use Rattle.std.specs.Str.{bytes_eq}
-use Rattle.mmtel_outside.specs.declared.events.Offer.{Offer}
-use Rattle.mmtel_outside.specs.declared.events.Offer.TheVariants.{To, Web}
+use Rattle.mmtel_environment.specs.declared.events.Offer.{Offer}
+use Rattle.mmtel_environment.specs.declared.events.Offer.TheVariants.{To, Web}
 
 -- bytes split after each CRLF; the flag says that a CR came directly before
 abbrev pub cut : Bool → List ℕ → List (List ℕ)

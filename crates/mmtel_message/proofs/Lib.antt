@@ -1,27 +1,27 @@
-mod AnsweredLaws
-mod BodyLaws
-pub mod CanonicalLaws
-mod CommaLaws
-mod EditLaws
-mod EntryLaws
-pub mod ExpansionLaws
-mod FieldLaws
-mod FiveLaws
-mod FoldLaws
-mod HeaderLaws
-mod HeldLaws
-mod IdentifierLaws
-mod LineLaws
-mod NameLaws
-mod PartLaws
-mod PlaceLaws
-pub mod PromiseLaws
-mod ReadLaws
-pub mod ResponseLaws
+mod TransactionNameTheorems
+mod BodyTheorems
+pub mod CanonicalTheorems
+mod CommaTheorems
+mod EditTheorems
+mod EntryTheorems
+pub mod ExpansionTheorems
+mod FieldTheorems
+mod FiveTheorems
+mod FoldTheorems
+mod HeaderTheorems
+mod HeldTheorems
+mod IdentifierTheorems
+mod LineTheorems
+mod NameTheorems
+mod PartTheorems
+mod SpanTheorems
+pub mod GuaranteeTheorems
+mod ReadTheorems
+pub mod ResponseTheorems
 mod RoundTrip
-mod SpellingLaws
-mod StartLaws
-pub mod TagLaws
-mod ValueLaws
-pub mod ViaLaws
-pub mod WalkLaws
+mod SpellingTheorems
+mod StartTheorems
+pub mod TagTheorems
+mod ValueTheorems
+pub mod ViaTheorems
+pub mod WalkTheorems

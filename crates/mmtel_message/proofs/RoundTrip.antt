@@ -1,28 +1,28 @@
 -- A canonical text is read back.
 use Rattle.std.proofs.Common.{◌≡◌, ◌==◌, true, false, not, ◌&&◌, ℕ, suc, ◌+◌, ◌<◌, ◌≤◌, List, [], ◌∷◌, ◌++◌, length, drop, Option, Some, None, refl, sym, ap, subst, inl, inr, ◌∙◌, arith, append_assoc, append-nil, map, Ok, Err, Result, nat_lt}
 use Rattle.std.specs.Prelude.{IfOk}
-use Rattle.mmtel_scan.specs.declared.memory.NoMemory.{NoMemory}
+use Rattle.mmtel_base.specs.declared.memory.NoMemory.{NoMemory}
 use Rattle.std.proofs.lemmas.List.{length-append, take_at}
 use Rattle.std.specs.List.{list_all}
 use Rattle.std.proofs.lemmas.Bool.{cases_Bool}
 use Rattle.mmtel_message.specs.Starts.{start_at}
 use Rattle.std.specs.Option.{option_map}
 use Rattle.std.proofs.lemmas.Bool.Decides.{nat_tests}
-use Rattle.mmtel_scan.specs.Scanning.{IsFree}
-use Rattle.mmtel_scan.proofs.Runs.{and_true, run_again, after_run_again, after_run_cons}
-use Rattle.mmtel_scan.specs.Classes.{in_class}
-use Rattle.mmtel_scan.specs.Scanning.{run, after_run}
-use Rattle.mmtel_scan.specs.Classes.{IsAll, Stops}
-use Rattle.mmtel_scan.specs.declared.classes.Class.TheVariants.{Token, Blank}
+use Rattle.mmtel_base.specs.Scanning.{IsFree}
+use Rattle.mmtel_base.proofs.Runs.{and_true, run_again, after_run_again, after_run_cons}
+use Rattle.mmtel_base.specs.Classes.{in_class}
+use Rattle.mmtel_base.specs.Scanning.{leading_run, after_run}
+use Rattle.mmtel_base.specs.Classes.{IsAll, Stops}
+use Rattle.mmtel_base.specs.declared.classes.Class.TheVariants.{Token, Blank}
 use Rattle.mmtel_message.specs.Headers.{header_at, header_line, is_value_byte}
 use Rattle.mmtel_message.specs.Message.{Message}
 use Rattle.mmtel_message.specs.Texts.{start_text, line_text, lines_text, message_text}
 use Rattle.mmtel_message.specs.Datagram.{tail_text, datagram, IsWhole, AreWhole, AreUnfolded}
-use Rattle.mmtel_message.specs.Reads.{Read, head_in_lines, after_head, after_start, reads}
-use Rattle.mmtel_message.proofs.LineLaws.{and_false, unmapped, split_none}
+use Rattle.mmtel_message.specs.Reads.{Read, head_in_lines, after_head, after_start, read_result}
+use Rattle.mmtel_message.proofs.LineTheorems.{and_false, unmapped, split_none}
 use Rattle.mmtel_message.specs.Canonical.{IsCanonicalLine, AreCanonicalLines, IsCanonical, IsWithinLimits}
 use Rattle.mmtel_message.specs.declared.messages.Start.{Start}
-use Rattle.mmtel_message.specs.Lines.{crlf, starts, first_break, split, starts_blank, unfolded_from}
+use Rattle.mmtel_message.specs.Lines.{crlf, begins_with_byte, first_break, split, starts_blank, logical_lines_from}
 use Rattle.mmtel_message.specs.declared.lines.Break.TheVariants.{Head, Line}
 
 abbrev end_of_line : List ℕ → List ℕ
@@ -57,17 +57,17 @@ unfolding first_break
 whole_rest b r e = unmapped (first_break Line r) (rw (not_here b r e) at e)
 
 -- no line end arises where a line is followed by what does not begin with LF
-pub not_longer : (b : ℕ) (r t : List ℕ) → crlf (b ∷ r) ≡ false → starts 10 t ≡ false → crlf (b ∷ (r ++ t)) ≡ false
+pub not_longer : (b : ℕ) (r t : List ℕ) → crlf (b ∷ r) ≡ false → begins_with_byte 10 t ≡ false → crlf (b ∷ (r ++ t)) ≡ false
 not_longer b [] t e f = rw f (and_false (b == 13))
 not_longer b (c ∷ r) t e f = e
 
-pass : (r t : List ℕ) → IsWhole r → starts 10 t ≡ false → first_break Head (r ++ t) ≡ plus (length r) (first_break Head t)
+pass : (r t : List ℕ) → IsWhole r → begins_with_byte 10 t ≡ false → first_break Head (r ++ t) ≡ plus (length r) (first_break Head t)
 unfolding first_break
 pass [] t e f = plus_zero (first_break Head t)
 pass (b ∷ r) t e f =
     rw (not_longer b r t (not_here b r e) f, pass r t (whole_rest b r e) f) (plus_one (length r) (first_break Head t))
 
-not_end : (r t : List ℕ) → IsWhole r → 0 < length r → starts 10 t ≡ false → crlf (r ++ t) ≡ false
+not_end : (r t : List ℕ) → IsWhole r → 0 < length r → begins_with_byte 10 t ≡ false → crlf (r ++ t) ≡ false
 not_end [] t e filled f = absurd (omega arith)
 not_end (b ∷ r) t e filled f = not_longer b r t (not_here b r e) f
 
@@ -86,7 +86,7 @@ plus_plus a b (Some m) = ap (λ (k : ℕ). Some k) (omega arith)
 abbrev close : List ℕ → List ℕ
 close body = 13 ∷ 10 ∷ 13 ∷ 10 ∷ body
 
-tail_led : (rs : List (List ℕ)) (body : List ℕ) → starts 10 (tail_text rs ++ close body) ≡ false
+tail_led : (rs : List (List ℕ)) (body : List ℕ) → begins_with_byte 10 (tail_text rs ++ close body) ≡ false
 tail_led [] body = refl
 tail_led (r ∷ rs) body = refl
 
@@ -119,8 +119,8 @@ split_tail : (r : List ℕ) (rs : List (List ℕ)) → IsWhole r → AreWhole rs
 split_tail r [] e each = rw (append-nil r) (split_none r e)
 split_tail r (q ∷ rs) e each = split_more r (tail_text (q ∷ rs)) (q ∷ rs) e (split_end (q ++ tail_text rs) q rs (split_tail q rs each.0.0 each.1))
 
-unfolded_tail : (r : List ℕ) (rs : List (List ℕ)) → AreUnfolded rs → unfolded_from r rs ≡ r ∷ rs
-unfolding unfolded_from
+unfolded_tail : (r : List ℕ) (rs : List (List ℕ)) → AreUnfolded rs → logical_lines_from r rs ≡ r ∷ rs
+unfolding logical_lines_from
 unfolded_tail r [] each = refl
 unfolded_tail r (q ∷ rs) each = rw (each.0, unfolded_tail q rs each.1) refl
 
@@ -192,12 +192,12 @@ pub header_again : (l : Header) → IsCanonicalLine l → header_at (raw_of l) �
 unfolding header_at
 header_again l is =
     let v : List ℕ = 58 ∷ 32 ∷ l.1 in
-    let name : run Token (l.0 ++ v) ≡ l.0 = run_again Token l.0 v is.name_in.each (colon_stops (32 ∷ l.1)) in
+    let name : leading_run Token (l.0 ++ v) ≡ l.0 = run_again Token l.0 v is.name_in.each (colon_stops (32 ∷ l.1)) in
     let rest : after_run Token (l.0 ++ v) ≡ v = after_run_again Token l.0 v is.name_in.each (colon_stops (32 ∷ l.1)) in
     let blanks : after_run Blank v ≡ v = after_run_again Blank [] v refl (colon_no_blank (32 ∷ l.1)) in
     let filled : (length l.0 == 0) ≡ false = grind (arith, nat_tests, is.name_in.filled) in
     let space : after_run Blank (32 ∷ l.1) ≡ after_run Blank l.1 = after_run_cons Blank 32 l.1 space_blank in
-    rw (rest, name, blanks, filled, space, is.bare, is.value_in, is.spelled) refl
+    rw (rest, name, blanks, filled, space, is.trimmed, is.value_in, is.spelled) refl
 
 headers_again : (ls : List Header) → AreCanonicalLines ls → map header_line (map raw_of ls) ≡ ls
 headers_again [] each = refl
@@ -237,13 +237,13 @@ abbrev pub after_lines : List ℕ → List (List ℕ) → Read
 after_lines rest ls = after_head (head_in_lines ls) rest
 
 -- bytes that are these lines and this body are read from the lines, each with those that continue it
-pub reads_folded : (first : List ℕ) (rs : List (List ℕ)) (body : List ℕ) → IsWhole first → AreWhole rs → length (datagram first rs body) ≤ 16384 → reads (datagram first rs body) ≡ after_lines body (unfolded_from first rs)
+pub reads_folded : (first : List ℕ) (rs : List (List ℕ)) (body : List ℕ) → IsWhole first → AreWhole rs → length (datagram first rs body) ≤ 16384 → read_result (datagram first rs body) ≡ after_lines body (logical_lines_from first rs)
 reads_folded first rs body e each le =
     let head : List ℕ = first ++ tail_text rs in
     let fits : nat_lt 16384 (length (head ++ close body)) ≡ false = grind (arith, nat_tests, le) in
     rw (fits, head_is first rs body e each, past head body, take_at head (close body) (length head) refl, split_tail first rs e each) refl
 
-pub reads_lines : (first : List ℕ) (rs : List (List ℕ)) (body : List ℕ) → IsWhole first → AreWhole rs → AreUnfolded rs → length (datagram first rs body) ≤ 16384 → reads (datagram first rs body) ≡ after_start (map header_line rs) body (start_at first)
+pub reads_lines : (first : List ℕ) (rs : List (List ℕ)) (body : List ℕ) → IsWhole first → AreWhole rs → AreUnfolded rs → length (datagram first rs body) ≤ 16384 → read_result (datagram first rs body) ≡ after_start (map header_line rs) body (start_at first)
 reads_lines first rs body e each plain le = rw (reads_folded first rs body e each le, unfolded_tail first rs plain) refl
 
 sound_reads : (m : Message Start) → IsCanonical m → length m.lines ≤ 128 → after_start m.lines m.body (Some m.start) ≡ Ok m
@@ -251,18 +251,18 @@ sound_reads m is le =
     let few : nat_lt 128 (length m.lines) ≡ false = grind (arith, nat_tests, le) in
     rw (is.sound.five_in, few, is.sound.faultless, is.whole_body, is.single) refl
 
-pub reads_back : (m : Message Start) → IsCanonical m → IsWithinLimits m → reads (message_text m) ≡ Ok m
+pub reads_back : (m : Message Start) → IsCanonical m → IsWithinLimits m → read_result (message_text m) ≡ Ok m
 reads_back m is within =
     let first : List ℕ = start_text m.start in
     let raws : List (List ℕ) = map raw_of m.lines in
     let text : message_text m ≡ (first ++ tail_text raws) ++ close m.body = text_is first m.lines m.body in
     let fits : length ((first ++ tail_text raws) ++ close m.body) ≤ 16384 = subst (λ (t : List ℕ). length t ≤ 16384) text within.fits in
-    ap (λ (t : List ℕ). reads t) text
+    ap (λ (t : List ℕ). read_result t) text
     ∙ (reads_lines first raws m.body is.start_in.one_line (raws_are m.lines is.lines_in) (raws_unfolded m.lines is.lines_in) fits
     ∙ (ap (λ (hs : List Header). after_start hs m.body (start_at first)) (headers_again m.lines is.lines_in)
-    ∙ (ap (λ (start : Option Start). after_start m.lines m.body start) is.start_in.again
+    ∙ (ap (λ (start : Option Start). after_start m.lines m.body start) is.start_in.reads_back
     ∙ sound_reads m is within.few)))
 
-pub text_reads_back : (m : Message Start) → IsCanonical m → IsWithinLimits m → (r : Result (List ℕ) NoMemory) → IfOk r (λ t. t ≡ message_text m) → IfOk r (λ t. reads t ≡ Ok m)
+pub text_reads_back : (m : Message Start) → IsCanonical m → IsWithinLimits m → (r : Result (List ℕ) NoMemory) → IfOk r (λ t. t ≡ message_text m) → IfOk r (λ t. read_result t ≡ Ok m)
 text_reads_back m is within (Ok t) e = rw e (reads_back m is within)
 text_reads_back m is within (Err f) e = tt

@@ -10,7 +10,7 @@ use Rattle.mmtel_message.specs.Texts.{start_text, message_text}
 use Rattle.mmtel_message.specs.Starts.{start_at}
 use Rattle.mmtel_message.specs.Fields.{five_at}
 use Rattle.mmtel_message.specs.Faults.{first_fault}
-use Rattle.mmtel_message.specs.Expansion.{expanded}
+use Rattle.mmtel_message.specs.Expansion.{expanded_lines}
 use Rattle.mmtel_message.specs.Reads.{body_of, limit, most_lines}
 use Rattle.mmtel_message.specs.declared.lines.Break.TheVariants.{Line}
 use Rattle.mmtel_message.specs.declared.fields.Five.{Five}
@@ -20,7 +20,7 @@ use Rattle.mmtel_message.specs.declared.messages.Start.{Start}
 pub record IsCanonicalLine (l : List ℕ × List ℕ) : Type 0 where
   pub name_in : IsToken l.0
   pub spelled : long_name l.0 ≡ l.0
-  pub bare : trim l.1 ≡ l.1
+  pub trimmed : trim l.1 ≡ l.1
   pub value_in : list_all is_value_byte l.1 ≡ true
 
 abbrev pub AreCanonicalLines : List (List ℕ × List ℕ) → Type 0
@@ -29,9 +29,9 @@ AreCanonicalLines (l ∷ ls) = IsCanonicalLine l × AreCanonicalLines ls
 
 -- a start line whose text is one line and is read as the same start line
 pub record IsCanonicalStart (s : Start) : Type 0 where
-  pub again : start_at (start_text s) ≡ Some s
+  pub reads_back : start_at (start_text s) ≡ Some s
   pub one_line : first_break Line (start_text s) ≡ None
-  pub led : starts_blank (start_text s) ≡ false
+  pub not_folded : starts_blank (start_text s) ≡ false
 
 -- the five fields can be read, and nothing is wrong with a line
 pub record IsFaultless (m : Message Start) : Type 0 where
@@ -43,7 +43,7 @@ pub record IsFaultless (m : Message Start) : Type 0 where
 pub record IsCanonical (m : Message Start) : Type 0 where
   pub start_in : IsCanonicalStart m.start
   pub lines_in : AreCanonicalLines m.lines
-  pub single : expanded m.lines ≡ m.lines
+  pub single : expanded_lines m.lines ≡ m.lines
   pub sound : IsFaultless m
   pub whole_body : body_of m.lines m.body ≡ m.body
 

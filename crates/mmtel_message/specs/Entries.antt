@@ -1,7 +1,7 @@
 -- What a value of History-Info is (RFC 7044 §5): a name-addr whose first parameter `index` has an index-val, that is numbers separated by dots.
 use Rattle.std.specs.Prelude.{Option, Some, None, ◌==◌, ◌&&◌, if◌then◌else◌, ℕ, Bool, true, false, List, [], ◌∷◌, codes}
 use Rattle.std.specs.List.{list_all}
-use Rattle.mmtel_scan.specs.Classes.{is_digit}
+use Rattle.mmtel_base.specs.Classes.{is_digit}
 use Rattle.mmtel_lex.specs.Reading.{name_addr_of}
 use Rattle.mmtel_lex.specs.declared.values.NameAddr.{NameAddr}
 use Rattle.mmtel_lex.specs.Params.{param_value}
@@ -20,14 +20,14 @@ is_dotted digit [] = digit
 is_dotted digit (b ∷ s) = goes_on (λ d. is_dotted d s) (dotted_step digit b)
 
 -- the parameter is present and has a value, which is an index-val
-abbrev pub is_place : Option (List ℕ) → Bool
-is_place None = false
-is_place (Some v) = is_dotted false v
+abbrev pub is_index_value : Option (List ℕ) → Bool
+is_index_value None = false
+is_index_value (Some v) = is_dotted false v
 
 -- the first parameter `index` is a place in History-Info
 abbrev pub is_indexed : Option NameAddr → Bool
 is_indexed None = false
-is_indexed (Some n) = is_place (param_value (codes "index") n.params)
+is_indexed (Some n) = is_index_value (param_value (codes "index") n.params)
 
 -- a value of History-Info
 abbrev pub is_entry : List ℕ → Bool

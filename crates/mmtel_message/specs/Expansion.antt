@@ -53,5 +53,5 @@ expanded_from privacy allow before [] = []
 expanded_from privacy allow before (h ∷ hs) = lines_for privacy allow before h ++ expanded_from privacy allow (before ++ h ∷ []) hs
 
 -- the lines of the canonical text of a message with these lines
-abbrev pub expanded : List (List ℕ × List ℕ) → List (List ℕ × List ℕ)
-expanded hs = expanded_from (privacy_text hs) (allow_text hs) [] hs
+abbrev pub expanded_lines : List (List ℕ × List ℕ) → List (List ℕ × List ℕ)
+expanded_lines hs = expanded_from (privacy_text hs) (allow_text hs) [] hs

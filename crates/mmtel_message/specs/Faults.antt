@@ -4,10 +4,10 @@ use Rattle.std.specs.Prelude.{Option, Some, None, is_none, is_some, ◌==◌, �
 use Rattle.std.specs.Prelude.{nat_lt, Result, Ok, Err}
 use Rattle.std.specs.List.{list_all}
 use Rattle.std.specs.Str.{bytes_eq}
-use Rattle.mmtel_scan.specs.Classes.{in_class}
-use Rattle.mmtel_scan.specs.Numbers.{number_of}
-use Rattle.mmtel_scan.specs.Scanning.{after_text}
-use Rattle.mmtel_scan.specs.declared.classes.Class.TheVariants.{Token}
+use Rattle.mmtel_base.specs.Classes.{in_class}
+use Rattle.mmtel_base.specs.Numbers.{number_of}
+use Rattle.mmtel_base.specs.Scanning.{after_text}
+use Rattle.mmtel_base.specs.declared.classes.Class.TheVariants.{Token}
 use Rattle.mmtel_lex.specs.Reading.{name_addr_of, uri_of, Refusal, malformed, foreign}
 use Rattle.mmtel_lex.specs.declared.values.Uri.{Uri}
 use Rattle.mmtel_lex.specs.declared.values.NameAddr.{NameAddr}
@@ -51,9 +51,9 @@ abbrev pub is_one_readable : List (List ℕ) → Bool
 is_one_readable vs = length vs == 1 && are_readable vs
 
 -- the branch of a request that follows RFC 3261 (§8.1.1.7)
-abbrev pub is_cookie : Option (List ℕ) → Bool
-is_cookie None = false
-is_cookie (Some v) = is_some (after_text (codes "z9hG4bK") v)
+abbrev pub has_cookie : Option (List ℕ) → Bool
+has_cookie None = false
+has_cookie (Some v) = is_some (after_text (codes "z9hG4bK") v)
 
 abbrev pub is_case : Option (List ℕ) → Bool
 is_case None = false
@@ -65,8 +65,8 @@ has_case None = false
 has_case (Some n) = is_case (param_value (codes "sescase") n.params)
 
 -- how many more a limit allows after these; None where these exceed it
-abbrev pub room_after : ℕ → ℕ → Option ℕ
-room_after room n = if nat_lt room n then None else Some (room - n)
+abbrev pub remaining_after : ℕ → ℕ → Option ℕ
+remaining_after room n = if nat_lt room n then None else Some (room - n)
 
 -- a word of Privacy is a token
 abbrev pub is_word : List ℕ → Bool
@@ -77,24 +77,24 @@ are_words vs = list_all is_word vs
 
 -- ---- the table: a row has a name, and whether a line of that name and this value has a fault after the lines before it; the room is the number of bytes after the head
 
-abbrev pub Rows : Type 0
-Rows = List (List ℕ × Bool)
+abbrev pub FaultTable : Type 0
+FaultTable = List (List ℕ × Bool)
 
 -- fields of RFC 3261
-abbrev pub message_rows : Start → Five → ℕ → List (List ℕ × List ℕ) → List ℕ → Rows
-message_rows start five room before value =
+abbrev pub message_fault_table : Start → Five → ℕ → List (List ℕ × List ℕ) → List ℕ → FaultTable
+message_fault_table start five room before value =
     (codes "CSeq", is_request start && not (is_method five.cseq.method start)) ∷
     (codes "Max-Forwards", is_request start && (has_line (codes "Max-Forwards") before || is_none (number_of 255 value))) ∷
     (codes "Content-Length", has_line (codes "Content-Length") before || is_none (number_of room value)) ∷
     (codes "From", is_request start && is_none (param_value (codes "tag") five.from.params)) ∷
-    (codes "Via", is_request start && not (has_line (codes "Via") before) && not (is_cookie (param_value (codes "branch") five.via.params))) ∷
+    (codes "Via", is_request start && not (has_line (codes "Via") before) && not (has_cookie (param_value (codes "branch") five.via.params))) ∷
     (codes "Contact", is_method (codes "INVITE") start && (has_line (codes "Contact") before || not (is_one_readable (values_of value)))) ∷
     (codes "Route", not (are_readable (values_of value))) ∷
     (codes "Record-Route", not (are_readable (values_of value))) ∷ []
 
 -- fields of the extensions; of History-Info there are at most 32 values, including those before
-abbrev pub extension_rows : List (List ℕ × List ℕ) → List ℕ → Rows
-extension_rows before value =
+abbrev pub extension_fault_table : List (List ℕ × List ℕ) → List ℕ → FaultTable
+extension_fault_table before value =
     (codes "P-Asserted-Identity", not (are_readable (values_of value))) ∷
     (codes "P-Served-User", not (has_case (name_addr_of value))) ∷
     (codes "History-Info", not (are_entries (values_of value)) || nat_lt 32 (length (values_named Plain (codes "History-Info") before) + length (values_of value))) ∷
@@ -102,14 +102,14 @@ extension_rows before value =
     (codes "Privacy", not (are_words (values_in Words value))) ∷ []
 
 -- what the row of its name says of a line; a line of a name that has no row has no fault
-abbrev pub by_name : Rows → List ℕ × List ℕ → Bool
-by_name [] h = false
-by_name (row ∷ rows) h = if is_line row.0 h then row.1 else by_name rows h
+abbrev pub is_fault_by_name : FaultTable → List ℕ × List ℕ → Bool
+is_fault_by_name [] h = false
+is_fault_by_name (row ∷ rows) h = if is_line row.0 h then row.1 else is_fault_by_name rows h
 
 -- a line that follows those before it has a fault: it has no name, or its row says so
 abbrev pub line_fault : Start → Five → ℕ → List (List ℕ × List ℕ) → List ℕ × List ℕ → Bool
 line_fault start five room before h =
-    if length h.0 == 0 then true else by_name (message_rows start five room before h.1 ++ extension_rows before h.1) h
+    if length h.0 == 0 then true else is_fault_by_name (message_fault_table start five room before h.1 ++ extension_fault_table before h.1) h
 
 -- ---- the place of the first fault: 0 for the start line, header lines from 1, and the empty line for an absent field
 

@@ -1,10 +1,10 @@
 -- The five fields that each message has (RFC 3261 §8.1.1): the first Via, From, To, Call-ID and CSeq.
 use Rattle.std.specs.Prelude.{Option, Some, None, ◌==◌, if◌then◌else◌, ℕ, ◌-◌, List, [], ◌∷◌, length, take, codes, count_by}
-use Rattle.mmtel_scan.specs.Scanning.{run, after_run, after_text}
-use Rattle.mmtel_scan.specs.Chain.{◌>>=◌}
-use Rattle.mmtel_scan.specs.Numbers.{number_of}
+use Rattle.mmtel_base.specs.Scanning.{leading_run, after_run, after_text}
+use Rattle.mmtel_base.specs.Chain.{◌>>=◌}
+use Rattle.mmtel_base.specs.Numbers.{number_of}
 use Rattle.mmtel_lex.specs.Reading.{token_at, host_at, port_at, all_params_at, name_addr_of}
-use Rattle.mmtel_scan.specs.declared.classes.Class.TheVariants.{Blank, Digit}
+use Rattle.mmtel_base.specs.declared.classes.Class.TheVariants.{Blank, Digit}
 use Rattle.mmtel_lex.specs.declared.values.NameAddr.{NameAddr}
 use Rattle.mmtel_message.specs.Headers.{trim}
 use Rattle.mmtel_message.specs.Values.{parts}
@@ -32,7 +32,7 @@ if_end x (b ∷ s) = None
 
 -- what follows one blank or more
 abbrev pub after_blanks : List ℕ → Option (List ℕ)
-after_blanks s = if length (run Blank s) == 0 then None else Some (after_run Blank s)
+after_blanks s = if length (leading_run Blank s) == 0 then None else Some (after_run Blank s)
 
 -- what comes before this rest
 abbrev pub before_rest : List ℕ → List ℕ → List ℕ
@@ -57,13 +57,13 @@ via_at s = do
 -- a CSeq value (§20.16): a number below 2^31, blanks, a method
 unfoldable pub cseq_at : List ℕ → Option CSeq
 cseq_at s = do
-  n ← number_of 2147483647 (run Digit s)
+  n ← number_of 2147483647 (leading_run Digit s)
   b ← after_blanks (after_run Digit s)
   m ← token_at b
   if_end (record { number = n; method = m.0 }) m.1
 
-abbrev pub filled : List ℕ → Option (List ℕ)
-filled s = if length s == 0 then None else Some s
+abbrev pub if_not_empty : List ℕ → Option (List ℕ)
+if_not_empty s = if length s == 0 then None else Some s
 
 -- the first Via value
 abbrev pub via_in : List (List ℕ × List ℕ) → Option Via
@@ -84,7 +84,7 @@ parties_in ls = do
 unfoldable pub call_in : List (List ℕ × List ℕ) → Option (List ℕ × CSeq)
 call_in ls = do
   i ← only_value (codes "Call-ID") ls
-  id ← filled i
+  id ← if_not_empty i
   c ← only_value (codes "CSeq") ls
   cseq ← cseq_at c
   Some (id, cseq)

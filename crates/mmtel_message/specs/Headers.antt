@@ -1,8 +1,8 @@
 -- Header lines (RFC 3261 §7.3.1 and §25.1): a token, blanks, ':', and a value without the blanks around it.
 use Rattle.std.specs.Prelude.{◌&&◌, not, Option, Some, None, ◌==◌, if◌then◌else◌, ℕ, Bool, List, [], length}
 use Rattle.std.specs.List.{list_all}
-use Rattle.mmtel_scan.specs.Scanning.{run, after_run, after_byte, trimmed_both}
-use Rattle.mmtel_scan.specs.declared.classes.Class.TheVariants.{Blank, Token}
+use Rattle.mmtel_base.specs.Scanning.{leading_run, after_run, after_byte, without_outer}
+use Rattle.mmtel_base.specs.declared.classes.Class.TheVariants.{Blank, Token}
 use Rattle.mmtel_message.specs.Names.{long_name}
 
 -- a value has no byte 0, no CR and no LF
@@ -11,7 +11,7 @@ is_value_byte b = not (b == 0) && not (b == 13) && not (b == 10)
 
 -- without the blanks around it
 abbrev pub trim : List ℕ → List ℕ
-trim s = trimmed_both Blank s
+trim s = without_outer Blank s
 
 abbrev pub header_of : List ℕ → Option (List ℕ) → Option (List ℕ × List ℕ)
 header_of name None = None
@@ -19,7 +19,7 @@ header_of name (Some value) = if list_all is_value_byte (trim value) then Some (
 
 -- the name and the value of a header line, where it is one
 unfoldable pub header_at : List ℕ → Option (List ℕ × List ℕ)
-header_at line = if length (run Token line) == 0 then None else header_of (run Token line) (after_byte 58 (after_run Blank (after_run Token line)))
+header_at line = if length (leading_run Token line) == 0 then None else header_of (leading_run Token line) (after_byte 58 (after_run Blank (after_run Token line)))
 
 abbrev pub or_unnamed : Option (List ℕ × List ℕ) → List ℕ × List ℕ
 or_unnamed None = ([], [])

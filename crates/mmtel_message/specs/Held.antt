@@ -7,17 +7,17 @@ use Rattle.mmtel_message.specs.declared.held.HeldValue.{HeldValue}
 use Rattle.mmtel_message.specs.declared.held.HeldValue.TheVariants.{Received, Edited}
 
 -- the bytes at a place
-abbrev pub at_place : List ℕ → Span → List ℕ
-at_place s p = take p.len (drop p.from s)
+abbrev pub bytes_at : List ℕ → Span → List ℕ
+bytes_at s p = take p.len (drop p.from s)
 
 -- a value of a message that holds these bytes
 abbrev pub value_of : List ℕ → HeldValue → List ℕ
-value_of s (Received p) = at_place s p
+value_of s (Received p) = bytes_at s p
 value_of s (Edited t) = t
 
-abbrev pub place_of : HeldValue → Option Span
-place_of (Received p) = Some p
-place_of (Edited t) = None
+abbrev pub span_of : HeldValue → Option Span
+span_of (Received p) = Some p
+span_of (Edited t) = None
 
 abbrev pub held_line : List ℕ → List ℕ × HeldValue → Line
 held_line s h = (h.0, value_of s h.1)
@@ -34,7 +34,7 @@ lines_of s hs added = held_lines s hs ++ added
 pub record Lines : Type 0 where
   pub values : List Line
   pub received : List ℕ
-  pub places : List (Option Span)
+  pub spans : List (Option Span)
 
 abbrev pub or_none : Option (Option Span) → Option Span
 or_none None = None

@@ -1,7 +1,7 @@
 -- What a message's five fields say of its transaction and its dialog (RFC 3261 §12, §17.1.3, §17.2.3): branch and sent-by of the first Via, the tags, Call-ID, and CSeq.
 use Rattle.std.specs.Prelude.{Option, Some, ℕ, List, [], codes}
 use Rattle.std.specs.Option.{option_map, unwrap_or}
-use Rattle.mmtel_scan.specs.Chain.{◌>>=◌}
+use Rattle.mmtel_base.specs.Chain.{◌>>=◌}
 use Rattle.mmtel_lex.specs.Params.{param_value}
 use Rattle.mmtel_lex.specs.declared.values.Param.{Param}
 use Rattle.mmtel_message.specs.Fields.{cseq_at, five_at, via_at}

@@ -21,6 +21,6 @@ pub mod Replies
 pub mod Reads
 pub mod Canonical
 pub mod Datagram
-pub mod Promises
+pub mod Guarantees
 -- What private functions alone cite: the lines of a head by the places where they begin.
-pub mod Places
+pub mod Spans

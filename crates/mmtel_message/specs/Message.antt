@@ -24,8 +24,8 @@ abbrev pub is_line : List ℕ → Line → Bool
 is_line name l = str_eq_ignore_ascii_case l.0 name
 
 -- the lines of the name
-abbrev pub named : List ℕ → List Line → List Line
-named name ls = filter (λ l. is_line name l) ls
+abbrev pub lines_named : List ℕ → List Line → List Line
+lines_named name ls = filter (λ l. is_line name l) ls
 
 -- there is a line of the name
 abbrev pub has_line : List ℕ → List Line → Bool
@@ -37,17 +37,17 @@ first_value name [] = None
 first_value name (l ∷ ls) = if is_line name l then Some l.1 else first_value name ls
 
 -- without the lines of the name
-abbrev pub dropped : List ℕ → List Line → List Line
-dropped name ls = filter (λ l. not (is_line name l)) ls
+abbrev pub lines_without : List ℕ → List Line → List Line
+lines_without name ls = filter (λ l. not (is_line name l)) ls
 
 -- the first line of the name gets this value and further ones are removed, or one line is added
-abbrev pub replaced : List ℕ → List ℕ → List Line → List Line
-replaced name value [] = (name, value) ∷ []
-replaced name value (l ∷ ls) = if is_line name l then (name, value) ∷ dropped name ls else l ∷ replaced name value ls
+abbrev pub lines_with : List ℕ → List ℕ → List Line → List Line
+lines_with name value [] = (name, value) ∷ []
+lines_with name value (l ∷ ls) = if is_line name l then (name, value) ∷ lines_without name ls else l ∷ lines_with name value ls
 
 -- the texts of the lines of the name, unsplit
 abbrev pub line_texts : List ℕ → List Line → List (List ℕ)
-line_texts name ls = map (λ l. l.1) (named name ls)
+line_texts name ls = map (λ l. l.1) (lines_named name ls)
 
 abbrev pub line_values : Mode → List ℕ → Line → List (List ℕ)
 line_values m name l = if is_line name l then values_in m l.1 else []

@@ -1,15 +1,15 @@
 -- Reading a message (RFC 3261 §7, §18.3 and §25.1): the whole list of bytes is split at the end of its head, at its line ends and at its folds, and each piece is read.
 -- The refusals come in the order TooLarge, NotSip, TooMany, Bad.
 use Rattle.std.specs.Prelude.{◌≡◌, Option, Some, None, if◌then◌else◌, ℕ, nat_lt, ◌+◌, List, [], ◌∷◌, length, codes, take, drop, map, Result, Ok, Err}
-use Rattle.mmtel_scan.specs.Chain.{◌>>=◌}
-use Rattle.mmtel_scan.specs.Numbers.{number_of}
-use Rattle.mmtel_message.specs.Lines.{first_break, split, unfolded, whole_end}
+use Rattle.mmtel_base.specs.Chain.{◌>>=◌}
+use Rattle.mmtel_base.specs.Numbers.{number_of}
+use Rattle.mmtel_message.specs.Lines.{first_break, logical_lines, split, whole_end}
 use Rattle.mmtel_message.specs.Headers.{header_line}
 use Rattle.mmtel_message.specs.Message.{Message, first_value}
 use Rattle.mmtel_message.specs.Starts.{start_at}
 use Rattle.mmtel_message.specs.Fields.{five_at}
 use Rattle.mmtel_message.specs.Faults.{first_fault}
-use Rattle.mmtel_message.specs.Expansion.{expanded}
+use Rattle.mmtel_message.specs.Expansion.{expanded_lines}
 use Rattle.mmtel_message.specs.Replies.{reply_to}
 use Rattle.mmtel_message.specs.declared.lines.Break.TheVariants.{Head}
 use Rattle.mmtel_message.specs.declared.fields.Five.{Five}
@@ -33,7 +33,7 @@ abbrev pub body_of : List (List ℕ × List ℕ) → List ℕ → List ℕ
 body_of hs rest = cut_body rest (first_value (codes "Content-Length") hs >>= λ v. number_of (length rest) v)
 
 abbrev pub message_of : Start → List (List ℕ × List ℕ) → List ℕ → Message Start
-message_of start hs rest = record { start = start; lines = expanded hs; body = body_of hs rest }
+message_of start hs rest = record { start = start; lines = expanded_lines hs; body = body_of hs rest }
 
 abbrev pub Read : Type 0
 Read = Result (Message Start) ReadFault
@@ -56,7 +56,7 @@ head_in_lines [] = None
 head_in_lines (l ∷ ls) = message_head (start_at l) (map header_line ls)
 
 abbrev pub head_in : List ℕ → Option MessageHead
-head_in s = head_in_lines (unfolded (split s))
+head_in s = head_in_lines (logical_lines (split s))
 
 -- the reply to a request that has this head and is too large
 abbrev pub large_of : Option MessageHead → Option (Message Start)
@@ -86,22 +86,22 @@ abbrev pub after_start : List (List ℕ × List ℕ) → List ℕ → Option Sta
 after_start hs rest start = after_head (message_head start hs) rest
 
 -- split at the end of the head, where it ends
-abbrev pub parted_at : List ℕ → Option ℕ → Read
-parted_at s None = Err fault.NotSip
-parted_at s (Some n) = after_head (head_in (take n s)) (drop (n + 4) s)
+abbrev pub read_split_at : List ℕ → Option ℕ → Read
+read_split_at s None = Err fault.NotSip
+read_split_at s (Some n) = after_head (head_in (take n s)) (drop (n + 4) s)
 
 -- what reading the bytes gives: TooLarge comes first
-abbrev pub reads : List ℕ → Read
-reads s = if nat_lt limit (length s) then Err (fault.TooLarge (large_reply (take limit s))) else parted_at s (first_break Head s)
+abbrev pub read_result : List ℕ → Read
+read_result s = if nat_lt limit (length s) then Err (fault.TooLarge (large_reply (take limit s))) else read_split_at s (first_break Head s)
 
 -- reading returns this, unless memory ran out
-abbrev pub Stops : ReadFault → Read → Type 0
-Stops (fault.TooLarge reply) read = read ≡ Err (fault.TooLarge reply)
-Stops fault.NotSip read = read ≡ Err fault.NotSip
-Stops (fault.TooMany reply) read = read ≡ Err (fault.TooMany reply)
-Stops (fault.Bad at reply) read = read ≡ Err (fault.Bad at reply)
-Stops fault.NoMemory read = Unit {0}
+abbrev pub IsReadFault : ReadFault → Read → Type 0
+IsReadFault (fault.TooLarge reply) read = read ≡ Err (fault.TooLarge reply)
+IsReadFault fault.NotSip read = read ≡ Err fault.NotSip
+IsReadFault (fault.TooMany reply) read = read ≡ Err (fault.TooMany reply)
+IsReadFault (fault.Bad at reply) read = read ≡ Err (fault.Bad at reply)
+IsReadFault fault.NoMemory read = Unit {0}
 
-abbrev pub Reads : Read → Read → Type 0
-Reads (Ok m) read = read ≡ Ok m
-Reads (Err e) read = Stops e read
+abbrev pub IsReadResult : Read → Read → Type 0
+IsReadResult (Ok m) read = read ≡ Ok m
+IsReadResult (Err e) read = IsReadFault e read

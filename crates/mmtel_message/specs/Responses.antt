@@ -10,8 +10,8 @@ use Rattle.mmtel_lex.specs.declared.values.Param.{Param}
 use Rattle.mmtel_types.specs.declared.addrs.Addr.{Addr}
 use Rattle.mmtel_message.specs.Faults.{is_method}
 use Rattle.mmtel_message.specs.Fields.{five_at, via_at}
-use Rattle.mmtel_message.specs.Message.{Line, Message, line, has_line, first_value, named}
-use Rattle.mmtel_message.specs.Vias.{IsSource, completed, completed_via}
+use Rattle.mmtel_message.specs.Message.{Line, Message, line, has_line, first_value, lines_named}
+use Rattle.mmtel_message.specs.Vias.{IsSource, completed_value, completed_via}
 use Rattle.mmtel_message.specs.declared.fields.Five.{Five}
 use Rattle.mmtel_message.specs.declared.fields.Via.{Via}
 use Rattle.mmtel_message.specs.declared.messages.Start.{Start}
@@ -35,7 +35,7 @@ pub record Reply : Type 0 where
 -- ---- Via: as received, the first completed where the source is given (§18.2.1)
 
 abbrev pub completed_line : Addr → Line → Line
-completed_line source l = (l.0, completed source l.1)
+completed_line source l = (l.0, completed_value source l.1)
 
 abbrev pub completed_lines : Option Addr → List Line → List Line
 completed_lines None vias = vias
@@ -43,7 +43,7 @@ completed_lines (Some source) [] = []
 completed_lines (Some source) (via ∷ vias) = completed_line source via ∷ vias
 
 unfoldable pub via_lines : Option Addr → List Line → List Line
-via_lines source ls = completed_lines source (named (codes "Via") ls)
+via_lines source ls = completed_lines source (lines_named (codes "Via") ls)
 
 -- ---- From, To, Call-ID and CSeq: as received, To with the server's tag where it has none (§8.2.6.2)
 
@@ -52,25 +52,25 @@ has_tag None = false
 has_tag (Some n) = is_some (param_value (codes "tag") n.params)
 
 -- a From or To value with a tag after it
-abbrev pub tagged : List ℕ → List ℕ → List ℕ
-tagged value tag = value ++ (codes ";tag=" ++ tag)
+abbrev pub tagged_value : List ℕ → List ℕ → List ℕ
+tagged_value value tag = value ++ (codes ";tag=" ++ tag)
 
 abbrev pub to_value : List ℕ → List ℕ → List ℕ
 to_value [] value = value
-to_value (b ∷ tag) value = if has_tag (name_addr_of value) then value else tagged value (b ∷ tag)
+to_value (b ∷ tag) value = if has_tag (name_addr_of value) then value else tagged_value value (b ∷ tag)
 
 abbrev pub to_line : List ℕ → Line → Line
 to_line tag l = (l.0, to_value tag l.1)
 
 -- a 100 has no tag of the server
-abbrev pub tag_due : ℕ → List ℕ → List ℕ
-tag_due code tag = if code == 100 then [] else tag
+abbrev pub tag_of_response : ℕ → List ℕ → List ℕ
+tag_of_response code tag = if code == 100 then [] else tag
 
 unfoldable pub party_lines : List ℕ → List Line → List Line
-party_lines tag ls = named (codes "From") ls ++ map (to_line tag) (named (codes "To") ls)
+party_lines tag ls = lines_named (codes "From") ls ++ map (to_line tag) (lines_named (codes "To") ls)
 
 unfoldable pub call_lines : List Line → List Line
-call_lines ls = named (codes "Call-ID") ls ++ named (codes "CSeq") ls
+call_lines ls = lines_named (codes "Call-ID") ls ++ lines_named (codes "CSeq") ls
 
 -- ---- Record-Route as received, and Contact
 
@@ -87,35 +87,35 @@ abbrev pub names_contact : ℕ → Start → Bool
 names_contact code start = makes_dialog code start || refreshes_target code start
 
 -- it has no Contact of the server
-abbrev pub SaysNoWay : ℕ → Start → Type 0
-SaysNoWay code start = names_contact code start ≡ false
+abbrev pub HasNoContact : ℕ → Start → Type 0
+HasNoContact code start = names_contact code start ≡ false
 
 unfoldable pub route_lines : ℕ → Start → List Line → List Line
-route_lines code start ls = if makes_dialog code start then named (codes "Record-Route") ls else []
+route_lines code start ls = if makes_dialog code start then lines_named (codes "Record-Route") ls else []
 
 unfoldable pub contact_lines : ℕ → Start → List ℕ → List Line
 contact_lines code start contact = if names_contact code start then line (codes "Contact") contact else []
 
 -- ---- the lines of the response's own that follow
 
-unfoldable pub own_lines : List Line → List Line → List ℕ → List Line
-own_lines passed named body = passed ++ (named ++ line (codes "Content-Length") (decimal (length body)))
+unfoldable pub own_fields : List Line → List Line → List ℕ → List Line
+own_fields passed named body = passed ++ (named ++ line (codes "Content-Length") (decimal (length body)))
 
 -- ---- the response
 
 -- the lines of the request, as received but for the first Via and the tag of To
-unfoldable pub heard_lines : Option Addr → List ℕ → List Line → List Line
-heard_lines source tag ls = via_lines source ls ++ (party_lines tag ls ++ call_lines ls)
+unfoldable pub copied_lines : Option Addr → List ℕ → List Line → List Line
+copied_lines source tag ls = via_lines source ls ++ (party_lines tag ls ++ call_lines ls)
 
 -- what the server adds
 unfoldable pub added_lines : ℕ → Start → List Line → List ℕ → List Line → List Line → List ℕ → List Line
-added_lines code start ls contact passed named body = route_lines code start ls ++ (contact_lines code start contact ++ own_lines passed named body)
+added_lines code start ls contact passed named body = route_lines code start ls ++ (contact_lines code start contact ++ own_fields passed named body)
 
 -- the response to a request with this start line and these lines
 unfoldable pub response : Start → List Line → Reply → Message Start
 response start ls r = record {
   start = Status r.code r.phrase;
-  lines = heard_lines r.source (tag_due r.code r.tag) ls ++ added_lines r.code start ls r.contact r.passed r.named r.body;
+  lines = copied_lines r.source (tag_of_response r.code r.tag) ls ++ added_lines r.code start ls r.contact r.passed r.named r.body;
   body = r.body;
 }
 
@@ -129,12 +129,12 @@ pub record AreOthers (ls : List Line) : Type 0 where
   pub cseq : has_line (codes "CSeq") ls ≡ false
 
 -- no line of the name is copied from another message, and none is specific to the response
-abbrev pub BringsNo : List ℕ → Reply → Type 0
-BringsNo name r = (has_line name r.passed ≡ false) × (has_line name r.named ≡ false)
+abbrev pub AddsNo : List ℕ → Reply → Type 0
+AddsNo name r = (has_line name r.passed ≡ false) × (has_line name r.named ≡ false)
 
 -- none of the lines that a response has from its request is added a second time
-pub record BringsNone (r : Reply) : Type 0 where
-  pub via : BringsNo (codes "Via") r
+pub record AddsNone (r : Reply) : Type 0 where
+  pub via : AddsNo (codes "Via") r
   pub passed : AreOthers r.passed
   pub named : AreOthers r.named
 
@@ -145,7 +145,7 @@ CanBeSent (Some source) = IsSource source
 
 -- a response that can be sent: its source an address, its tag a token or none, and no line of its own among those from its request
 pub record IsSendable (r : Reply) : Type 0 where
-  pub none : BringsNone r
+  pub none : AddsNone r
   pub source : CanBeSent r.source
   pub tag : (r.tag ≡ []) ⊎ IsToken r.tag
 
@@ -156,13 +156,13 @@ pub record AreLinesWith (five : Five) (ls : List Line) : Type 0 where
   pub via_in : first_value (codes "Via") ls ≡ Some via
   pub via_read : via_at via ≡ Some five.via
 
-abbrev pub via_answered : Option Addr → Via → Via
-via_answered None via = via
-via_answered (Some source) via = completed_via source via
+abbrev pub via_of_response : Option Addr → Via → Via
+via_of_response None via = via
+via_of_response (Some source) via = completed_via source via
 
-abbrev pub to_answered : List ℕ → NameAddr → NameAddr
-to_answered [] n = n
-to_answered (b ∷ tag) n = if has_tag (Some n) then n else record n { params = n.params ++ record { name = codes "tag"; value = Some (b ∷ tag) } ∷ [] }
+abbrev pub to_of_response : List ℕ → NameAddr → NameAddr
+to_of_response [] n = n
+to_of_response (b ∷ tag) n = if has_tag (Some n) then n else record n { params = n.params ++ record { name = codes "tag"; value = Some (b ∷ tag) } ∷ [] }
 
 abbrev pub is_tag : Param → Bool
 is_tag p = str_eq_ignore_ascii_case p.name (codes "tag")
@@ -172,5 +172,5 @@ abbrev pub IsUntagged : NameAddr → Type 0
 IsUntagged n = list_any is_tag n.params ≡ false
 
 -- the five fields of the response to a request with these
-abbrev pub five_answered : Reply → Five → Five
-five_answered r five = record five { via = via_answered r.source five.via; to = to_answered (tag_due r.code r.tag) five.to }
+abbrev pub five_of_response : Reply → Five → Five
+five_of_response r five = record five { via = via_of_response r.source five.via; to = to_of_response (tag_of_response r.code r.tag) five.to }

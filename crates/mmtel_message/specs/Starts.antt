@@ -2,9 +2,9 @@
 use Rattle.std.specs.Prelude.{Option, Some, None, ◌==◌, if◌then◌else◌, ℕ, nat_lt, List, length, codes}
 use Rattle.std.specs.List.{list_all}
 use Rattle.std.specs.Str.{bytes_eq}
-use Rattle.mmtel_scan.specs.Scanning.{parted, after_byte, after_text}
-use Rattle.mmtel_scan.specs.Chain.{◌>>=◌}
-use Rattle.mmtel_scan.specs.Numbers.{number_of}
+use Rattle.mmtel_base.specs.Scanning.{split_once_at, after_byte, after_text}
+use Rattle.mmtel_base.specs.Chain.{◌>>=◌}
+use Rattle.mmtel_base.specs.Numbers.{number_of}
 use Rattle.mmtel_lex.specs.Reading.{token_at}
 use Rattle.mmtel_message.specs.Headers.{is_value_byte}
 use Rattle.mmtel_message.specs.declared.messages.Start.{Start}
@@ -17,7 +17,7 @@ status_of phrase n = if nat_lt n 100 then None else if list_all is_value_byte ph
 -- what follows `SIP/2.0 `
 unfoldable pub status_at : List ℕ → Option Start
 status_at s = do
-  p ← parted 32 s
+  p ← split_once_at 32 s
   n ← if length p.0 == 3 then number_of 699 p.0 else None
   status_of p.1 n
 
@@ -28,7 +28,7 @@ unfoldable pub request_at : List ℕ → Option Start
 request_at s = do
   m ← token_at s
   u ← after_byte 32 m.1
-  p ← parted 32 u
+  p ← split_once_at 32 u
   request_of m.0 p.0 p.1
 
 abbrev pub start_from : Option (List ℕ) → List ℕ → Option Start

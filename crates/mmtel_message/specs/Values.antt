@@ -15,12 +15,12 @@ mode_after Angle b = if b == 62 then Plain else Angle
 mode_after Words b = Words
 
 -- a comma outside quotes and angle brackets separates, and so does a ';' between words
-abbrev pub is_parting : Mode → ℕ → Bool
-is_parting Plain b = b == 44
-is_parting Quoted b = false
-is_parting Escaped b = false
-is_parting Angle b = false
-is_parting Words b = b == 59
+abbrev pub is_separator : Mode → ℕ → Bool
+is_separator Plain b = b == 44
+is_separator Quoted b = false
+is_separator Escaped b = false
+is_separator Angle b = false
+is_separator Words b = b == 59
 
 -- where the byte after a separating one is
 abbrev pub base : Mode → Mode
@@ -31,9 +31,9 @@ base Angle = Plain
 base Words = Words
 
 -- the place of the first byte that separates
-unfoldable pub parting : Mode → List ℕ → Option ℕ
-parting m [] = None
-parting m (b ∷ s) = if is_parting m b then Some 0 else option_map (λ n. n + 1) (parting (mode_after m b) s)
+unfoldable pub next_separator : Mode → List ℕ → Option ℕ
+next_separator m [] = None
+next_separator m (b ∷ s) = if is_separator m b then Some 0 else option_map (λ n. n + 1) (next_separator (mode_after m b) s)
 
 abbrev pub put_byte : ℕ → List (List ℕ) → List (List ℕ)
 put_byte b [] = (b ∷ []) ∷ []
@@ -42,7 +42,7 @@ put_byte b (l ∷ ls) = (b ∷ l) ∷ ls
 -- what comes before, between and after the bytes that separate
 unfoldable pub parts : Mode → List ℕ → List (List ℕ)
 parts m [] = [] ∷ []
-parts m (b ∷ s) = if is_parting m b then [] ∷ parts (base m) s else put_byte b (parts (mode_after m b) s)
+parts m (b ∷ s) = if is_separator m b then [] ∷ parts (base m) s else put_byte b (parts (mode_after m b) s)
 
 abbrev pub rest_parts : Mode → Option (List ℕ) → List (List ℕ)
 rest_parts m None = []

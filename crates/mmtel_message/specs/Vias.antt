@@ -24,23 +24,23 @@ abbrev pub sourced_param : ℕ → Param → List Param
 sourced_param port p = if is_received p then [] else with_port port p ∷ []
 
 -- the address that the request came from
-abbrev pub received : Addr → Param
-received source = record { name = codes "received"; value = Some (ip_text source.ip) }
+abbrev pub received_param : Addr → Param
+received_param source = record { name = codes "received"; value = Some (ip_text source.ip) }
 
 abbrev pub sourced_params : Addr → List Param → List Param
-sourced_params source ps = flat_map (sourced_param source.port) ps ++ received source ∷ []
+sourced_params source ps = flat_map (sourced_param source.port) ps ++ received_param source ∷ []
 
 -- the Via has the source address of the request, and asks for no port
 abbrev pub is_from : Addr → Via → Bool
 is_from source via = bytes_eq via.host (ip_text source.ip) && not (list_any asks_port via.params)
 
 -- the Via with the port in each empty `rport`, and last the address
-abbrev pub sourced : Addr → Via → Via
-sourced source via = record via { params = sourced_params source via.params }
+abbrev pub sourced_via : Addr → Via → Via
+sourced_via source via = record via { params = sourced_params source via.params }
 
 -- the Via, completed with the source of the request
 abbrev pub completed_via : Addr → Via → Via
-completed_via source via = if is_from source via then via else sourced source via
+completed_via source via = if is_from source via then via else sourced_via source via
 
 -- a Via value (§20.42)
 abbrev pub via_value : Via → List ℕ
@@ -48,11 +48,11 @@ via_value via = codes "SIP/2.0/" ++ (via.transport ++ (32 ∷ (via.sent_by ++ pa
 
 abbrev pub completed_by : Addr → List ℕ → Option Via → List ℕ
 completed_by source value None = value
-completed_by source value (Some via) = if is_from source via then value else via_value (sourced source via)
+completed_by source value (Some via) = if is_from source via then value else via_value (sourced_via source via)
 
 -- a Via value, completed with the source of the request
-unfoldable pub completed : Addr → List ℕ → List ℕ
-completed source value = completed_by source value (via_at value)
+unfoldable pub completed_value : Addr → List ℕ → List ℕ
+completed_value source value = completed_by source value (via_at value)
 
 -- the numbers of an address as they are sent: bytes, and a port of 16 bits
 pub record IsSource (source : Addr) : Type 0 where

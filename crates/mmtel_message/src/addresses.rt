@@ -2,7 +2,7 @@
 ghost use Rattle.std.specs.Prelude.{◌≡◌, ◌++◌, IfOk, OnOk};
 ghost use Rattle.mmtel_message.specs.Addresses.{addr_text, contact_text, ip_text, via_text};
 
-use mmtel_scan::{NoMemory, Text, add_number};
+use mmtel_base::{NoMemory, Text, add_number};
 use mmtel_types::Addr;
 use std::alloc::Global;
 

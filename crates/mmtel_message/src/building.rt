@@ -1,10 +1,10 @@
 //! The header lines of a message that the server builds, one after another.
 ghost use Rattle.std.specs.Prelude.{◌≡◌, ◌∷◌, ◌++◌, [], IfOk, OnErr, OnOk, decimal};
-ghost use Rattle.mmtel_message.specs.Message.{line, named};
+ghost use Rattle.mmtel_message.specs.Message.{line, lines_named};
 
 use crate::held::Lines;
 use crate::messages::Line;
-use mmtel_scan::{List, NoMemory, Text, add_number};
+use mmtel_base::{List, NoMemory, Text, add_number};
 use std::alloc::Global;
 
 /// Adds a header line.
@@ -83,12 +83,12 @@ pub fn append_named(
     name: &[u8],
     lines: &Lines<'_>,
 ) -> Result<(), NoMemory>
-    ensures { OnOk result (out.new ≡ out.old ++ named name.now lines.now.values) }
+    ensures { OnOk result (out.new ≡ out.old ++ lines_named name.now lines.now.values) }
 {
     let mut from = 0;
     'lines: while let Some(line) = lines.next_named(name, from) {
         add_bytes(alloc, out, line.name, line.value)?;
-        from = line.after;
+        from = line.next;
     }
     Ok(())
 }
@@ -119,7 +119,7 @@ pub fn add_named(
     name: &[u8],
     lines: &Lines<'_>,
 ) -> Result<(), NoMemory>
-    ensures added { OnOk result (out.new ≡ out.old ++ named name.now lines.now.values) }
+    ensures added { OnOk result (out.new ≡ out.old ++ lines_named name.now lines.now.values) }
     ensures refused { OnErr result (out.new ≡ out.old) }
 {
     let mut copy = List::new();

@@ -1,8 +1,8 @@
 //! Texts that replace received bytes, and where their pieces are among these.
 ghost use Rattle.std.specs.Prelude.{◌≡◌, ◌++◌, IfOk, OnOk, nat_le};
-ghost use Rattle.mmtel_message.specs.Held.{at_place, value_of};
+ghost use Rattle.mmtel_message.specs.Held.{bytes_at, value_of};
 
-use crate::held::{HeldValue, Span, at_place};
+use crate::held::{HeldValue, Span, bytes_at};
 use mmtel_lex::{List, NoMemory, Text};
 use std::alloc::Global;
 use std::marker::Model;
@@ -11,18 +11,18 @@ use std::marker::Model;
 #[derive(Clone, Copy)]
 struct Piece {
     at: usize,
-    place: Span,
+    span: Span,
 }
 
 impl Piece {
     /// The place among the received bytes of a part of the edit, where it lies within this piece.
-    fn place_of(self, part: Span) -> Option<Span> {
+    fn span_of(self, part: Span) -> Option<Span> {
         let skipped = part.from.checked_sub(self.at)?;
         let end = skipped.checked_add(part.len)?;
-        if end > self.place.len {
+        if end > self.span.len {
             return None;
         }
-        let from = self.place.from.checked_add(skipped)?;
+        let from = self.span.from.checked_add(skipped)?;
         Some(Span {
             from,
             len: part.len,
@@ -30,13 +30,13 @@ impl Piece {
     }
 
     /// What remains of the piece where that many bytes at the start of the edit are removed.
-    fn behind(self, front: usize) -> Piece {
-        let skipped = front.saturating_sub(self.at).min(self.place.len);
+    fn after_prefix(self, prefix: usize) -> Piece {
+        let skipped = prefix.saturating_sub(self.at).min(self.span.len);
         Piece {
-            at: self.at.saturating_sub(front),
-            place: Span {
-                from: self.place.from.saturating_add(skipped),
-                len: self.place.len.saturating_sub(skipped),
+            at: self.at.saturating_sub(prefix),
+            span: Span {
+                from: self.span.from.saturating_add(skipped),
+                len: self.span.len.saturating_sub(skipped),
             },
         }
     }
@@ -94,12 +94,12 @@ impl Edit {
             from,
             len: piece.len(),
         };
-        self.pieces.push(alloc, Piece { at, place })?;
+        self.pieces.push(alloc, Piece { at, span: place })?;
         Ok(())
     }
 
     /// The place that a part of it was taken from, if the part lies within one piece.
-    fn place_of(&self, part: Span) -> Option<Span> {
+    fn span_of(&self, part: Span) -> Option<Span> {
         let pieces = self.pieces.items();
         let before = pieces.partition_point(
             |piece: &Piece| -> bool
@@ -107,35 +107,40 @@ impl Edit {
             { piece.at <= part.from },
         );
         let piece = pieces[..before].last()?;
-        piece.place_of(part)
+        piece.span_of(part)
     }
 
     /// What remains of the pieces where that many bytes at the start are removed.
-    fn pieces_behind(&self, alloc: Global, front: usize) -> Result<List<Piece>, NoMemory> {
+    fn pieces_after_prefix(&self, alloc: Global, prefix: usize) -> Result<List<Piece>, NoMemory> {
         let pieces = self.pieces.items();
-        let mut left = List::with_room(alloc, pieces.len())?;
+        let mut left = List::with_capacity(alloc, pieces.len())?;
         for piece in pieces {
-            left.push(alloc, piece.behind(front))?;
+            left.push(alloc, piece.after_prefix(prefix))?;
         }
         Ok(left)
     }
 
     /// A part of it, with its pieces.
     pub fn part(&self, alloc: Global, part: Span) -> Result<Edit, NoMemory>
-        ensures { IfOk result (λ e. e ≡ at_place self.now part) }
+        ensures { IfOk result (λ e. e ≡ bytes_at self.now part) }
     {
-        let text = Text::of(alloc, at_place(self.bytes(), part))?;
-        let pieces = self.pieces_behind(alloc, part.from)?;
+        let text = Text::of(alloc, bytes_at(self.bytes(), part))?;
+        let pieces = self.pieces_after_prefix(alloc, part.from)?;
         Ok(Edit { text, pieces })
     }
 
     /// A part of it: its place among the received bytes, if it was taken from there in one piece, otherwise an edit.
-    pub fn placed(&self, alloc: Global, received: &[u8], part: Span) -> Result<HeldValue, NoMemory>
-        ensures { IfOk result (λ v. value_of received.now v ≡ at_place self.now part) }
+    pub fn spanned_part(
+        &self,
+        alloc: Global,
+        received: &[u8],
+        part: Span,
+    ) -> Result<HeldValue, NoMemory>
+        ensures { IfOk result (λ v. value_of received.now v ≡ bytes_at self.now part) }
     {
-        let bytes = at_place(self.bytes(), part);
-        match self.place_of(part) {
-            Some(place) if at_place(received, place) == bytes => Ok(HeldValue::Received(place)),
+        let bytes = bytes_at(self.bytes(), part);
+        match self.span_of(part) {
+            Some(place) if bytes_at(received, place) == bytes => Ok(HeldValue::Received(place)),
             _ => Ok(HeldValue::Edited(Edit::of(Text::of(alloc, bytes)?))),
         }
     }

@@ -1,20 +1,20 @@
 //! What a value of History-Info is (RFC 7044 §5).
 ghost use Rattle.std.specs.Prelude.{◌≡◌, false};
 ghost use Rattle.std.specs.Option.{option_copied};
-ghost use Rattle.mmtel_message.specs.Entries.{dotted_step, is_dotted, is_place, is_entry, are_entries};
+ghost use Rattle.mmtel_message.specs.Entries.{dotted_step, is_dotted, is_index_value, is_entry, are_entries};
 ghost use Rattle.mmtel_message.specs.Values.{values_of};
 
 use crate::values::{Mode, next_part};
+use mmtel_base::{Class, trim};
 use mmtel_lex::name_addr_ref;
-use mmtel_scan::{Class, trim};
 
-fn dotted_step(digit: bool, b: u8) -> Option<bool>
-    ensures { result ≡ dotted_step digit b }
+fn dotted_step(digit: bool, byte: u8) -> Option<bool>
+    ensures { result ≡ dotted_step digit byte }
 {
-    if b.is_ascii_digit() {
+    if byte.is_ascii_digit() {
         return Some(true);
     }
-    if digit && b == b'.' {
+    if digit && byte == b'.' {
         return Some(false);
     }
     None
@@ -35,8 +35,8 @@ fn is_dotted(bytes: &[u8]) -> bool
 
 /// Whether the value of a parameter `index` is a place in History-Info: numbers separated by dots (RFC 7044 §5, index-val). There is none where the parameter is absent
 /// or has no value.
-pub fn is_place(value: Option<&[u8]>) -> bool
-    ensures { result ≡ is_place (option_copied value.entry) }
+pub fn is_index_value(value: Option<&[u8]>) -> bool
+    ensures { result ≡ is_index_value (option_copied value.entry) }
 {
     match value {
         None => false,
@@ -49,7 +49,7 @@ fn is_entry(value: &[u8]) -> bool
 {
     match name_addr_ref(value) {
         None => false,
-        Some(read) => is_place(read.param(b"index")),
+        Some(read) => is_index_value(read.param(b"index")),
     }
 }
 

@@ -6,14 +6,14 @@ ghost use Rattle.std.specs.Str.{str_eq_ignore_ascii_case};
 ghost use Rattle.mmtel_message.specs.Held.{held_line, held_lines, value_of};
 ghost use Rattle.mmtel_message.specs.Message.{Line};
 ghost use Rattle.mmtel_message.specs.Values.{base, values_of};
-ghost use Rattle.mmtel_message.specs.Expansion.{listed_names, merged_text, privacy_text, allow_text, at_first, lines_for, expanded_from, expanded};
+ghost use Rattle.mmtel_message.specs.Expansion.{listed_names, merged_text, privacy_text, allow_text, at_first, lines_for, expanded_from, expanded_lines};
 
 use crate::edits::Edit;
-use crate::held::{Held, HeldValue, Lines, place_of, placed, placed_part, value_of};
+use crate::held::{Held, HeldValue, Lines, span_of, spanned_part, spanned_value, value_of};
 use crate::messages::{has_line, is_named, line_texts};
 use crate::values::{Mode, joined_by, next_value, values_in};
+use mmtel_base::{Class, trim};
 use mmtel_lex::{List, NoMemory, Text};
-use mmtel_scan::{Class, trim};
 use std::alloc::Global;
 
 /// Whether a name is one of two.
@@ -27,7 +27,7 @@ fn is_either(name: &[u8], one: &[u8], other: &[u8]) -> bool
 }
 
 /// Whether the values of this name are written one per line.
-#[tactic(auto, using(crate::proofs::PartLaws::other_length))]
+#[tactic(auto, using(crate::proofs::PartTheorems::other_length))]
 fn is_listed(name: &[u8]) -> bool
     ensures { result ≡ list_any (λ listed. str_eq_ignore_ascii_case name.now listed) listed_names }
 {
@@ -70,7 +70,7 @@ fn add_values(
     let mut next = Some(0);
     'values: while let Some(from) = next {
         let (place, after) = next_value(Mode::Plain, text, from);
-        let one = placed_part(alloc, bytes, value, place)?;
+        let one = spanned_part(alloc, bytes, value, place)?;
         add_held(alloc, out, name, one)?;
         next = after;
     }
@@ -78,21 +78,21 @@ fn add_values(
 }
 
 /// The values of several texts as one list, with a separator between them.
-#[tactic(auto, using(crate::proofs::PartLaws::merged_none))]
+#[tactic(auto, using(crate::proofs::PartTheorems::merged_none))]
 fn merged_text(
     alloc: Global,
     mode: Mode,
-    parting: &[u8],
+    separator: &[u8],
     between: &[u8],
     texts: &[Text],
 ) -> Result<Text, NoMemory>
     requires { base mode ≡ mode }
-    ensures { IfOk result (λ t. t ≡ merged_text mode parting.now between.now texts.now) }
+    ensures { IfOk result (λ t. t ≡ merged_text mode separator.now between.now texts.now) }
 {
     match texts {
         [] => Ok(Text::new()),
         _ => {
-            let whole = joined_by(alloc, parting, texts)?;
+            let whole = joined_by(alloc, separator, texts)?;
             let values = values_in(alloc, mode, whole.bytes())?;
             let joined = joined_by(alloc, between, values.items())?;
             Text::of(alloc, trim(Class::Blank, joined.bytes()))
@@ -124,7 +124,7 @@ fn merged_value(
     ensures { IfOk result (λ v. value_of bytes.now v ≡ text.now) }
 {
     if value_of(bytes, first) == text {
-        return placed(alloc, bytes, first);
+        return spanned_value(alloc, bytes, first);
     }
     Ok(HeldValue::Edited(Edit::of(Text::of(alloc, text)?)))
 }
@@ -147,17 +147,17 @@ fn add_privacy(
     alloc: Global,
     out: &mut List<Held>,
     bytes: &[u8],
-    whole: &Lines<'_>,
+    all_lines: &Lines<'_>,
     before: &[Held],
     line: &Held,
 ) -> Result<(), NoMemory>
     ensures { OnOk result (held_lines bytes.now out.new ≡
-        held_lines bytes.now out.old ++ at_first (codes "Privacy") (privacy_text whole.now.values) (held_lines bytes.now before.now) (held_line bytes.now line.now)) }
+        held_lines bytes.now out.old ++ at_first (codes "Privacy") (privacy_text all_lines.now.values) (held_lines bytes.now before.now) (held_line bytes.now line.now)) }
 {
     if has_line(b"Privacy", &Lines::of(bytes, before, &[])) {
         return Ok(());
     }
-    let text = privacy_text(alloc, whole)?;
+    let text = privacy_text(alloc, all_lines)?;
     add_merged(alloc, out, bytes, text.bytes(), line)
 }
 
@@ -165,17 +165,17 @@ fn add_allow(
     alloc: Global,
     out: &mut List<Held>,
     bytes: &[u8],
-    whole: &Lines<'_>,
+    all_lines: &Lines<'_>,
     before: &[Held],
     line: &Held,
 ) -> Result<(), NoMemory>
     ensures { OnOk result (held_lines bytes.now out.new ≡
-        held_lines bytes.now out.old ++ at_first (codes "Allow") (allow_text whole.now.values) (held_lines bytes.now before.now) (held_line bytes.now line.now)) }
+        held_lines bytes.now out.old ++ at_first (codes "Allow") (allow_text all_lines.now.values) (held_lines bytes.now before.now) (held_line bytes.now line.now)) }
 {
     if has_line(b"Allow", &Lines::of(bytes, before, &[])) {
         return Ok(());
     }
-    let text = allow_text(alloc, whole)?;
+    let text = allow_text(alloc, all_lines)?;
     add_merged(alloc, out, bytes, text.bytes(), line)
 }
 
@@ -184,27 +184,27 @@ fn add_lines_for(
     alloc: Global,
     out: &mut List<Held>,
     bytes: &[u8],
-    whole: &Lines<'_>,
+    all_lines: &Lines<'_>,
     before: &[Held],
     line: &Held,
 ) -> Result<(), NoMemory>
     ensures { OnOk result (held_lines bytes.now out.new ≡ held_lines bytes.now out.old ++
-        lines_for (privacy_text whole.now.values) (allow_text whole.now.values) (held_lines bytes.now before.now) (held_line bytes.now line.now)) }
+        lines_for (privacy_text all_lines.now.values) (allow_text all_lines.now.values) (held_lines bytes.now before.now) (held_line bytes.now line.now)) }
 {
     let name = line.0.bytes();
     if name.is_empty() {
         return Ok(());
     }
     if is_named(name, b"Privacy") {
-        return add_privacy(alloc, out, bytes, whole, before, line);
+        return add_privacy(alloc, out, bytes, all_lines, before, line);
     }
     if is_named(name, b"Allow") {
-        return add_allow(alloc, out, bytes, whole, before, line);
+        return add_allow(alloc, out, bytes, all_lines, before, line);
     }
     if is_listed(name) {
         return add_values(alloc, out, bytes, name, &line.1);
     }
-    let value = placed(alloc, bytes, &line.1)?;
+    let value = spanned_value(alloc, bytes, &line.1)?;
     add_held(alloc, out, name, value)
 }
 
@@ -212,15 +212,15 @@ fn add_lines_for(
 fn expanded_in(
     alloc: Global,
     bytes: &[u8],
-    whole: &Lines<'_>,
+    all_lines: &Lines<'_>,
     lines: &[Held],
 ) -> Result<List<Held>, NoMemory>
     ensures { IfOk result (λ ls. held_lines bytes.now ls ≡
-        expanded_from (privacy_text whole.now.values) (allow_text whole.now.values) [] (held_lines bytes.now lines.now)) }
+        expanded_from (privacy_text all_lines.now.values) (allow_text all_lines.now.values) [] (held_lines bytes.now lines.now)) }
 {
-    let mut out = List::with_room(alloc, lines.len())?;
+    let mut out = List::with_capacity(alloc, lines.len())?;
     for i in 0..lines.len() {
-        add_lines_for(alloc, &mut out, bytes, whole, &lines[..i], &lines[i])?;
+        add_lines_for(alloc, &mut out, bytes, all_lines, &lines[..i], &lines[i])?;
     }
     Ok(out)
 }
@@ -229,16 +229,16 @@ fn expanded_in(
 ///
 /// A part of a value that is a place is a place. So is the merged text of Privacy or Allow where it equals the value of the first line of the name, as it does where that is
 /// the only one and is canonical. A part of an edit, as of a line that was folded, is a place where it was taken from the bytes in one piece.
-pub fn expanded(alloc: Global, bytes: &[u8], lines: &[Held]) -> Result<List<Held>, NoMemory>
-    ensures { IfOk result (λ ls. held_lines bytes.now ls ≡ expanded (held_lines bytes.now lines.now)) }
+pub fn expanded_lines(alloc: Global, bytes: &[u8], lines: &[Held]) -> Result<List<Held>, NoMemory>
+    ensures { IfOk result (λ ls. held_lines bytes.now ls ≡ expanded_lines (held_lines bytes.now lines.now)) }
 {
     let whole = Lines::of(bytes, lines, &[]);
     expanded_in(alloc, bytes, &whole, lines)
 }
 
 /// Whether a text may have further values, or blanks around its only one.
-#[tactic(auto, using(crate::proofs::PartLaws::one_value))]
-pub fn may_part(text: &[u8]) -> bool
+#[tactic(auto, using(crate::proofs::PartTheorems::one_value))]
+pub fn may_split(text: &[u8]) -> bool
     ensures { OnFalse result (values_of text.now ≡ text.now ∷ []) }
 {
     let (place, after) = next_value(Mode::Plain, text, 0);
@@ -265,18 +265,18 @@ fn may_change(bytes: &[u8], line: &Held) -> bool
     if is_named(name, b"Allow") {
         return true;
     }
-    if place_of(&line.1).is_none() {
+    if span_of(&line.1).is_none() {
         return true;
     }
     if is_listed(name) {
-        return may_part(value_of(bytes, &line.1));
+        return may_split(value_of(bytes, &line.1));
     }
     false
 }
 
 /// Whether each of the lines is in the canonical text as it is held.
-fn all_stand(bytes: &[u8], lines: &[Held]) -> bool
-    ensures { OnTrue result (expanded (held_lines bytes.now lines.now) ≡ held_lines bytes.now lines.now) }
+fn none_changes(bytes: &[u8], lines: &[Held]) -> bool
+    ensures { OnTrue result (expanded_lines (held_lines bytes.now lines.now) ≡ held_lines bytes.now lines.now) }
 {
     for i in 0..lines.len() {
         if may_change(bytes, &lines[i]) {
@@ -288,12 +288,12 @@ fn all_stand(bytes: &[u8], lines: &[Held]) -> bool
 
 /// The lines of the canonical text of a message that has these lines, which are consumed: these themselves where none of them changes.
 pub fn expanded_list(alloc: Global, bytes: &[u8], lines: List<Held>) -> Result<List<Held>, NoMemory>
-    ensures { IfOk result (λ ls. held_lines bytes.now ls ≡ expanded (held_lines bytes.now lines)) }
+    ensures { IfOk result (λ ls. held_lines bytes.now ls ≡ expanded_lines (held_lines bytes.now lines)) }
 {
-    if all_stand(bytes, lines.items()) {
+    if none_changes(bytes, lines.items()) {
         return Ok(lines);
     }
-    let built = expanded(alloc, bytes, lines.items());
+    let built = expanded_lines(alloc, bytes, lines.items());
     drop(lines);
     built
 }

@@ -2,10 +2,10 @@
 ghost use Rattle.std.specs.Prelude.{◌≡◌, ◌||◌, ◌&&◌, IfOk, is_none, not, [], nat_lt, ◌+◌, length, codes};
 ghost use Rattle.std.specs.Option.{option_copied};
 ghost use Rattle.mmtel_lex.specs.Reading.{name_addr_of};
-ghost use Rattle.mmtel_scan.specs.Numbers.{number_of};
+ghost use Rattle.mmtel_base.specs.Numbers.{number_of};
 ghost use Rattle.mmtel_message.specs.Entries.{are_entries};
-ghost use Rattle.mmtel_message.specs.Faults.{is_method, is_request, start_fault, is_readable, are_readable, is_one_readable, is_cookie, is_case, has_case, is_word};
-ghost use Rattle.mmtel_message.specs.Faults.{are_words, extension_rows, by_name, line_fault, fault_from, first_fault, or_absent, room_after};
+ghost use Rattle.mmtel_message.specs.Faults.{is_method, is_request, start_fault, is_readable, are_readable, is_one_readable, has_cookie, is_case, has_case, is_word};
+ghost use Rattle.mmtel_message.specs.Faults.{are_words, extension_fault_table, is_fault_by_name, line_fault, fault_from, first_fault, or_absent, remaining_after};
 ghost use Rattle.mmtel_lex.specs.Params.{param_value};
 ghost use Rattle.mmtel_message.specs.Message.{has_line, values_named};
 ghost use Rattle.mmtel_message.specs.declared.values.Mode.TheVariants.{Plain, Words};
@@ -16,8 +16,8 @@ use crate::field_refs::FiveRef;
 use crate::held::Lines;
 use crate::messages::{Start, has_line, is_named};
 use crate::values::{Mode, next_part};
+use mmtel_base::{Class, is_all, number_up_to, skip_text, trim};
 use mmtel_lex::{NoMemory, UriFault, name_addr_ref, uri_ref};
-use mmtel_scan::{Class, is_all, number_up_to, skip_text, trim};
 use std::alloc::Global;
 
 /// Whether it is the start line of a request of the method.
@@ -121,8 +121,8 @@ fn from_fault(start: &Start, five: &FiveRef<'_>) -> bool
     is_request(start) && five.from().param(b"tag").is_none()
 }
 
-fn is_cookie(value: Option<&[u8]>) -> bool
-    ensures { result ≡ is_cookie (option_copied value.entry) }
+fn has_cookie(value: Option<&[u8]>) -> bool
+    ensures { result ≡ has_cookie (option_copied value.entry) }
 {
     match value {
         None => false,
@@ -131,7 +131,7 @@ fn is_cookie(value: Option<&[u8]>) -> bool
 }
 
 fn via_fault(start: &Start, five: &FiveRef<'_>, before: &Lines<'_>) -> bool
-    ensures { result ≡ (is_request start.now && not (has_line (codes "Via") before.now.values) && not (is_cookie (param_value (codes "branch") five.now.via.params))) }
+    ensures { result ≡ (is_request start.now && not (has_line (codes "Via") before.now.values) && not (has_cookie (param_value (codes "branch") five.now.via.params))) }
 {
     if !is_request(start) {
         return false;
@@ -139,7 +139,7 @@ fn via_fault(start: &Start, five: &FiveRef<'_>, before: &Lines<'_>) -> bool
     if has_line(b"Via", before) {
         return false;
     }
-    !is_cookie(five.via().param(b"branch"))
+    !has_cookie(five.via().param(b"branch"))
 }
 
 fn is_case(value: Option<&[u8]>) -> bool
@@ -161,10 +161,10 @@ fn has_case(value: &[u8]) -> bool
 }
 
 /// How many more values a limit allows after these; None where these exceed it.
-fn room_after(room: usize, value: &[u8]) -> Option<usize>
-    ensures { result ≡ room_after room (length (values_of value.now)) }
+fn remaining_after(remaining: usize, value: &[u8]) -> Option<usize>
+    ensures { result ≡ remaining_after remaining (length (values_of value.now)) }
 {
-    let mut left = room;
+    let mut left = remaining;
     let mut rest = Some(value);
     'parts: while let Some(more) = rest {
         let (_, after) = next_part(Mode::Plain, more);
@@ -178,14 +178,14 @@ fn room_after(room: usize, value: &[u8]) -> Option<usize>
 }
 
 /// How many more values a limit allows after those of the lines of the name; None where these exceed it.
-fn room_behind(room: usize, name: &[u8], lines: &Lines<'_>) -> Option<usize>
-    ensures { result ≡ room_after room (length (values_named Plain name.now lines.now.values)) }
+fn remaining_behind(remaining: usize, name: &[u8], lines: &Lines<'_>) -> Option<usize>
+    ensures { result ≡ remaining_after remaining (length (values_named Plain name.now lines.now.values)) }
 {
-    let mut left = room;
+    let mut left = remaining;
     for i in 0..lines.len() {
         let (spelled, value) = lines.at(i);
         if is_named(spelled, name) {
-            left = room_after(left, value)?;
+            left = remaining_after(left, value)?;
         }
     }
     Some(left)
@@ -195,9 +195,9 @@ fn room_behind(room: usize, name: &[u8], lines: &Lines<'_>) -> Option<usize>
 fn is_over(before: &Lines<'_>, value: &[u8]) -> bool
     ensures { result ≡ nat_lt 32 (length (values_named Plain (codes "History-Info") before.now.values) + length (values_of value.now)) }
 {
-    match room_behind(32, b"History-Info", before) {
+    match remaining_behind(32, b"History-Info", before) {
         None => true,
-        Some(room) => room_after(room, value).is_none(),
+        Some(room) => remaining_after(room, value).is_none(),
     }
 }
 
@@ -231,7 +231,7 @@ fn are_words(value: &[u8]) -> bool
 
 /// Whether a line has a fault by the rules of the extensions.
 fn extension_fault(before: &Lines<'_>, name: &[u8], value: &[u8]) -> bool
-    ensures { result ≡ by_name (extension_rows before.now.values value.now) (name.now, value.now) }
+    ensures { result ≡ is_fault_by_name (extension_fault_table before.now.values value.now) (name.now, value.now) }
 {
     if is_named(name, b"P-Asserted-Identity") {
         return !are_readable(value);
@@ -255,12 +255,12 @@ fn extension_fault(before: &Lines<'_>, name: &[u8], value: &[u8]) -> bool
 fn line_fault(
     start: &Start,
     five: &FiveRef<'_>,
-    room: u64,
+    rest_len: u64,
     before: &Lines<'_>,
     name: &[u8],
     value: &[u8],
 ) -> bool
-    ensures { result ≡ line_fault start.now five.now room before.now.values (name.now, value.now) }
+    ensures { result ≡ line_fault start.now five.now rest_len before.now.values (name.now, value.now) }
 {
     if name.is_empty() {
         return true;
@@ -272,7 +272,7 @@ fn line_fault(
         return is_request(start) && number_fault(has_line(b"Max-Forwards", before), 255, value);
     }
     if is_named(name, b"Content-Length") {
-        return number_fault(has_line(b"Content-Length", before), room, value);
+        return number_fault(has_line(b"Content-Length", before), rest_len, value);
     }
     if is_named(name, b"From") {
         return from_fault(start, five);
@@ -293,12 +293,12 @@ fn line_fault(
 }
 
 /// The place of the first line with a fault, from 1.
-fn lines_fault(start: &Start, five: &FiveRef<'_>, room: u64, lines: &Lines<'_>) -> Option<usize>
-    ensures { result ≡ fault_from start.now five.now room [] lines.now.values }
+fn lines_fault(start: &Start, five: &FiveRef<'_>, rest_len: u64, lines: &Lines<'_>) -> Option<usize>
+    ensures { result ≡ fault_from start.now five.now rest_len [] lines.now.values }
 {
     for i in 0..lines.len() {
         let (name, value) = lines.at(i);
-        if line_fault(start, five, room, &lines.before(i), name, value) {
+        if line_fault(start, five, rest_len, &lines.before(i), name, value) {
             return Some(i + 1);
         }
     }
@@ -321,11 +321,16 @@ fn or_absent(start: &Start, lines: &Lines<'_>, found: Option<usize>) -> Option<u
 }
 
 /// The place of the first fault.
-pub fn first_fault(start: &Start, five: &FiveRef<'_>, room: u64, lines: &Lines<'_>) -> Option<usize>
-    ensures { result ≡ first_fault start.now five.now room lines.now.values }
+pub fn first_fault(
+    start: &Start,
+    five: &FiveRef<'_>,
+    rest_len: u64,
+    lines: &Lines<'_>,
+) -> Option<usize>
+    ensures { result ≡ first_fault start.now five.now rest_len lines.now.values }
 {
     if start_fault(start) {
         return Some(0);
     }
-    or_absent(start, lines, lines_fault(start, five, room, lines))
+    or_absent(start, lines, lines_fault(start, five, rest_len, lines))
 }

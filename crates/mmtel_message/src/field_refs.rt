@@ -2,16 +2,16 @@
 ghost use Rattle.std.specs.Prelude.{◌≡◌, IfOk};
 ghost use Rattle.std.specs.Option.{option_copied};
 ghost use Rattle.mmtel_lex.specs.Params.{param_value};
-ghost use Rattle.mmtel_message.specs.Fields.{after_blanks, before_rest, cseq_at, filled, first_part, five_at, via_at, via_by};
+ghost use Rattle.mmtel_message.specs.Fields.{after_blanks, before_rest, cseq_at, first_part, five_at, if_not_empty, via_at, via_by};
 
 use crate::fields::{CSeq, Five, Via};
 use crate::five_lines::five_lines;
 use crate::held::Lines;
 use crate::values::{Mode, next_part};
+use mmtel_base::{Class, number_up_to, skip_text, split_run, trim};
 use mmtel_lex::params::token_ref;
 use mmtel_lex::uris::{host_ref, port_ref};
 use mmtel_lex::{NameAddrRef, NoMemory, ParamsRef, Text, name_addr_ref, params_ref};
-use mmtel_scan::{Class, number_up_to, skip_text, split_run, trim};
 use std::alloc::Global;
 use std::marker::Model;
 
@@ -221,7 +221,7 @@ fn before_rest<'a>(bytes: &'a [u8], rest: &[u8]) -> &'a [u8]
 }
 
 fn not_empty(bytes: &[u8]) -> Option<&[u8]>
-    ensures { option_copied result ≡ filled bytes.now }
+    ensures { option_copied result ≡ if_not_empty bytes.now }
 {
     if bytes.is_empty() {
         return None;

@@ -1,5 +1,5 @@
 //! The five fields that each message has (RFC 3261 §8.1.1).
-ghost use Rattle.mmtel_lex.specs.Reading.{Gives};
+ghost use Rattle.mmtel_lex.specs.Reading.{IsResult};
 ghost use Rattle.mmtel_message.specs.Fields.{cseq_at, five_at, via_at};
 
 use crate::field_refs::{cseq_ref, five_ref, via_ref};
@@ -44,7 +44,7 @@ pub struct Five {
 ///
 /// `Malformed` where the bytes are no such value; and out of memory.
 pub fn read_via(alloc: Global, bytes: &[u8]) -> Result<Via, LexFault>
-    ensures exact { Gives (λ x. x) result (via_at bytes.now) }
+    ensures exact { IsResult (λ x. x) result (via_at bytes.now) }
 {
     match via_ref(bytes) {
         None => Err(LexFault::Malformed),
@@ -58,7 +58,7 @@ pub fn read_via(alloc: Global, bytes: &[u8]) -> Result<Via, LexFault>
 ///
 /// `Malformed` where the bytes are no such value; and out of memory.
 pub fn read_cseq(alloc: Global, bytes: &[u8]) -> Result<CSeq, LexFault>
-    ensures exact { Gives (λ x. x) result (cseq_at bytes.now) }
+    ensures exact { IsResult (λ x. x) result (cseq_at bytes.now) }
 {
     match cseq_ref(bytes) {
         None => Err(LexFault::Malformed),
@@ -72,7 +72,7 @@ pub fn read_cseq(alloc: Global, bytes: &[u8]) -> Result<CSeq, LexFault>
 ///
 /// `Malformed` where one of them cannot be read, or where one of them other than Via does not occur exactly once; and out of memory.
 pub fn read_five(alloc: Global, lines: &Lines<'_>) -> Result<Five, LexFault>
-    ensures exact { Gives (λ x. x) result (five_at lines.now.values) }
+    ensures exact { IsResult (λ x. x) result (five_at lines.now.values) }
 {
     match five_ref(lines) {
         None => Err(LexFault::Malformed),

@@ -79,7 +79,7 @@ pub struct FiveLines<'a> {
 
 impl<'a> FiveLines<'a> {
     /// Adds what a further line contributes. A line whose name has another length than these is of none of the five.
-    #[tactic(auto, using(crate::proofs::FiveLaws::first_over, crate::proofs::FiveLaws::only_over))]
+    #[tactic(auto, using(crate::proofs::FiveTheorems::first_over, crate::proofs::FiveTheorems::only_over))]
     fn add(&mut self, name: &[u8], value: &'a [u8])
         ensures via { (ls : List Line) → first_behind (codes "Via") (option_copied self.old.via) ((name.now, value.now) ∷ ls) ≡ first_behind (codes "Via") (option_copied self.new.via) ls }
         ensures from { (ls : List Line) → only_behind (codes "From") self.old.from ((name.now, value.now) ∷ ls) ≡ only_behind (codes "From") self.new.from ls }

@@ -2,8 +2,8 @@
 ghost use Rattle.std.specs.Prelude.{◌≡◌, ◌<◌, ◌≤◌, ◌+◌, ◌==◌, [], ◌∷◌, ◌++◌, Some, IfOk, IfSome, MatchOption, length, filter, map, take, drop, slice_get};
 ghost use Rattle.std.specs.Option.{option_map};
 ghost use Rattle.std.specs.Str.{str_eq_ignore_ascii_case};
-ghost use Rattle.mmtel_message.specs.Held.{at_place, lines_of, place_of, span_at, value_of};
-ghost use Rattle.mmtel_message.specs.Message.{named};
+ghost use Rattle.mmtel_message.specs.Held.{bytes_at, lines_of, span_at, span_of, value_of};
+ghost use Rattle.mmtel_message.specs.Message.{lines_named};
 
 use crate::edits::Edit;
 use crate::messages::{Line, is_named};
@@ -31,12 +31,12 @@ pub enum HeldValue {
 pub type Held = (Text, HeldValue);
 
 /// The bytes at a place.
-pub fn at_place(bytes: &[u8], place: Span) -> &[u8]
-    ensures { result.now ≡ at_place bytes.now place }
+pub fn bytes_at(bytes: &[u8], span: Span) -> &[u8]
+    ensures { result.now ≡ bytes_at bytes.now span }
 {
-    let from = place.from.min(bytes.len());
+    let from = span.from.min(bytes.len());
     let rest = &bytes[from..];
-    &rest[..place.len.min(rest.len())]
+    &rest[..span.len.min(rest.len())]
 }
 
 /// The bytes of a value.
@@ -44,18 +44,18 @@ pub fn value_of<'a>(received: &'a [u8], value: &'a HeldValue) -> &'a [u8]
     ensures { result.now ≡ value_of received.now value.now }
 {
     match value {
-        HeldValue::Received(place) => at_place(received, *place),
+        HeldValue::Received(place) => bytes_at(received, *place),
         HeldValue::Edited(edit) => edit.bytes(),
     }
 }
 
 /// The place among the received bytes of a part of what is at a place there.
-fn within(place: Span, received: &[u8], part: Span) -> Span
-    requires { part.from + part.len ≤ length (at_place received.now place) }
-    ensures { at_place received.now result ≡ at_place (at_place received.now place) part }
+fn inner_span(span: Span, received: &[u8], part: Span) -> Span
+    requires { part.from + part.len ≤ length (bytes_at received.now span) }
+    ensures { bytes_at received.now result ≡ bytes_at (bytes_at received.now span) part }
 {
     Span {
-        from: place.from + part.from,
+        from: span.from + part.from,
         len: part.len,
     }
 }
@@ -68,41 +68,45 @@ pub fn part_of(
     part: Span,
 ) -> Result<HeldValue, NoMemory>
     requires { part.from + part.len ≤ length (value_of received.now value.now) }
-    ensures { IfOk result (λ v. value_of received.now v ≡ at_place (value_of received.now value.now) part) }
+    ensures { IfOk result (λ v. value_of received.now v ≡ bytes_at (value_of received.now value.now) part) }
 {
     match value {
-        HeldValue::Received(place) => Ok(HeldValue::Received(within(*place, received, part))),
+        HeldValue::Received(place) => Ok(HeldValue::Received(inner_span(*place, received, part))),
         HeldValue::Edited(edit) => Ok(HeldValue::Edited(edit.part(alloc, part)?)),
     }
 }
 
 /// The same, as a line of a message keeps it: a place also where the part of an edit was taken from the received bytes in one piece.
-pub fn placed_part(
+pub fn spanned_part(
     alloc: Global,
     received: &[u8],
     value: &HeldValue,
     part: Span,
 ) -> Result<HeldValue, NoMemory>
     requires { part.from + part.len ≤ length (value_of received.now value.now) }
-    ensures { IfOk result (λ v. value_of received.now v ≡ at_place (value_of received.now value.now) part) }
+    ensures { IfOk result (λ v. value_of received.now v ≡ bytes_at (value_of received.now value.now) part) }
 {
     match value {
-        HeldValue::Received(place) => Ok(HeldValue::Received(within(*place, received, part))),
-        HeldValue::Edited(edit) => edit.placed(alloc, received, part),
+        HeldValue::Received(place) => Ok(HeldValue::Received(inner_span(*place, received, part))),
+        HeldValue::Edited(edit) => edit.spanned_part(alloc, received, part),
     }
 }
 
 /// The whole value, as a line of a message keeps it.
-pub fn placed(alloc: Global, received: &[u8], value: &HeldValue) -> Result<HeldValue, NoMemory>
+pub fn spanned_value(
+    alloc: Global,
+    received: &[u8],
+    value: &HeldValue,
+) -> Result<HeldValue, NoMemory>
     ensures { IfOk result (λ v. value_of received.now v ≡ value_of received.now value.now) }
 {
     let len = value_of(received, value).len();
-    placed_part(alloc, received, value, Span { from: 0, len })
+    spanned_part(alloc, received, value, Span { from: 0, len })
 }
 
 /// The place of a value among the received bytes; None for an edit.
-pub fn place_of(value: &HeldValue) -> Option<Span>
-    ensures { result ≡ place_of value.now }
+pub fn span_of(value: &HeldValue) -> Option<Span>
+    ensures { result ≡ span_of value.now }
 {
     match value {
         HeldValue::Received(place) => Some(*place),
@@ -138,7 +142,7 @@ pub struct NamedLine<'a> {
     /// Its value.
     pub value: &'a [u8],
     /// The place after it, from which the search for a further one begins.
-    pub after: usize,
+    pub next: usize,
 }
 
 /// The header lines of a message, in order.
@@ -151,14 +155,14 @@ pub struct Lines<'a> {
 
 impl<'a> Model for Lines<'a> {
     ghost use Rattle.std.specs.Prelude.{map};
-    ghost use Rattle.mmtel_message.specs.Held.{Lines, lines_of, place_of};
+    ghost use Rattle.mmtel_message.specs.Held.{Lines, lines_of, span_of};
 
     ghost Value = { Lines };
 
     ghost view = { λ l. record {
       values = lines_of l.received.now l.held.now l.added.now;
       received = l.received.now;
-      places = map (λ h. place_of h.1) l.held.now;
+      spans = map (λ h. span_of h.1) l.held.now;
     } };
 }
 
@@ -167,7 +171,7 @@ impl<'a> Lines<'a> {
     pub fn of(received: &'a [u8], held: &'a [Held], added: &'a [Line]) -> Lines<'a>
         ensures values { result.values ≡ lines_of received.now held.now added.now }
         ensures received { result.received ≡ received.now }
-        ensures places { result.places ≡ map (λ h. place_of h.1) held.now }
+        ensures places { result.spans ≡ map (λ h. span_of h.1) held.now }
     {
         Lines {
             received,
@@ -204,40 +208,40 @@ impl<'a> Lines<'a> {
         self.len() == 0
     }
 
-    fn item(&self, place: usize) -> (&'a [u8], &'a [u8])
-        requires { place < length self.now.values }
-        ensures { slice_get self.now.values place ≡ Some (result.0.now, result.1.now) }
+    fn item(&self, index: usize) -> (&'a [u8], &'a [u8])
+        requires { index < length self.now.values }
+        ensures { slice_get self.now.values index ≡ Some (result.0.now, result.1.now) }
     {
-        if place < self.held.len() {
-            let line = &self.held[place];
+        if index < self.held.len() {
+            let line = &self.held[index];
             return (line.0.bytes(), value_of(self.received, &line.1));
         }
-        let line = &self.added[place - self.held.len()];
+        let line = &self.added[index - self.held.len()];
         (line.0.bytes(), line.1.bytes())
     }
 
     /// The name and the value of the line at a place.
-    pub fn at(&self, place: usize) -> (&'a [u8], &'a [u8])
-        requires { place < length self.now.values }
-        ensures item { slice_get self.now.values place ≡ Some (result.0.now, result.1.now) }
+    pub fn at(&self, index: usize) -> (&'a [u8], &'a [u8])
+        requires { index < length self.now.values }
+        ensures item { slice_get self.now.values index ≡ Some (result.0.now, result.1.now) }
         // So it is the first of those from there on, and the last of those up to there.
-        ensures first { drop place self.now.values ≡ (result.0.now, result.1.now) ∷ drop (place + 1) self.now.values }
-        ensures last { take (place + 1) self.now.values ≡ take place self.now.values ++ (result.0.now, result.1.now) ∷ [] }
+        ensures first { drop index self.now.values ≡ (result.0.now, result.1.now) ∷ drop (index + 1) self.now.values }
+        ensures last { take (index + 1) self.now.values ≡ take index self.now.values ++ (result.0.now, result.1.now) ∷ [] }
     {
-        self.item(place)
+        self.item(index)
     }
 
     /// The first line of the name from a place on; the name is compared without case (RFC 3261 §7.3.1).
     pub fn next_named(&self, name: &[u8], from: usize) -> Option<NamedLine<'a>>
-        ensures line { MatchOption result (named name.now (drop from self.now.values) ≡ [])
-            (λ l. named name.now (drop from self.now.values) ≡ (l.name.now, l.value.now) ∷ named name.now (drop l.after self.now.values)) }
-        ensures later { IfSome result (λ l. (from < l.after) × (l.after ≤ length self.now.values)) }
+        ensures line { MatchOption result (lines_named name.now (drop from self.now.values) ≡ [])
+            (λ l. lines_named name.now (drop from self.now.values) ≡ (l.name.now, l.value.now) ∷ lines_named name.now (drop l.next self.now.values)) }
+        ensures later { IfSome result (λ l. (from < l.next) × (l.next ≤ length self.now.values)) }
     {
         match line_from(self.held, name, from) {
             Some((line, after)) => Some(NamedLine {
                 name: line.0.bytes(),
                 value: value_of(self.received, &line.1),
-                after,
+                next: after,
             }),
             None => {
                 let received = self.held.len();
@@ -246,7 +250,7 @@ impl<'a> Lines<'a> {
                     Some((line, after)) => Some(NamedLine {
                         name: line.0.bytes(),
                         value: line.1.bytes(),
-                        after: received + after,
+                        next: received + after,
                     }),
                 }
             }
@@ -254,21 +258,21 @@ impl<'a> Lines<'a> {
     }
 
     /// The lines before this place.
-    pub fn before(&self, place: usize) -> Lines<'a>
-        requires { place ≤ length self.now.values }
-        ensures { result.values ≡ take place self.now.values }
+    pub fn before(&self, index: usize) -> Lines<'a>
+        requires { index ≤ length self.now.values }
+        ensures { result.values ≡ take index self.now.values }
     {
-        if place < self.held.len() {
+        if index < self.held.len() {
             return Lines {
                 received: self.received,
-                held: &self.held[..place],
+                held: &self.held[..index],
                 added: &[],
             };
         }
         Lines {
             received: self.received,
             held: self.held,
-            added: &self.added[..place - self.held.len()],
+            added: &self.added[..index - self.held.len()],
         }
     }
 
@@ -280,13 +284,13 @@ impl<'a> Lines<'a> {
     }
 
     /// The place of the value of a line among the received bytes; None where the line is an edit or does not exist.
-    pub fn span(&self, place: usize) -> Option<Span>
-        ensures place { result ≡ span_at self.now.places place }
+    pub fn span(&self, index: usize) -> Option<Span>
+        ensures place { result ≡ span_at self.now.spans index }
         // The value is the bytes at that place.
-        ensures value { IfSome result (λ p. option_map (λ l. l.1) (slice_get self.now.values place) ≡ Some (at_place self.now.received p)) }
+        ensures value { IfSome result (λ p. option_map (λ l. l.1) (slice_get self.now.values index) ≡ Some (bytes_at self.now.received p)) }
     {
-        if place < self.held.len() {
-            return place_of(&self.held[place].1);
+        if index < self.held.len() {
+            return span_of(&self.held[index].1);
         }
         None
     }

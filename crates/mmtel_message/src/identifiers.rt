@@ -78,7 +78,7 @@ pub(crate) fn identifiers_in<'a>(lines: &Lines<'a>) -> Option<Identifiers<'a>>
 }
 
 /// The same as a message keeps it.
-pub struct KeptIdentifiers {
+pub struct OwnedIdentifiers {
     branch: Text,
     sent_by: Text,
     from_tag: Text,
@@ -88,9 +88,9 @@ pub struct KeptIdentifiers {
     method: Text,
 }
 
-impl Drop for KeptIdentifiers {
+impl Drop for OwnedIdentifiers {
     fn drop(self) {
-        let KeptIdentifiers {
+        let OwnedIdentifiers {
             branch: _,
             sent_by: _,
             from_tag: _,
@@ -102,7 +102,7 @@ impl Drop for KeptIdentifiers {
     }
 }
 
-impl Model for KeptIdentifiers {
+impl Model for OwnedIdentifiers {
     ghost use Rattle.mmtel_message.specs.Identifiers.{Identifiers};
 
     ghost Value = { Identifiers };
@@ -118,13 +118,13 @@ impl Model for KeptIdentifiers {
     } };
 }
 
-impl KeptIdentifiers {
+impl OwnedIdentifiers {
     /// What these five fields say.
-    pub(crate) fn of(alloc: Global, five: &FiveRef<'_>) -> Result<KeptIdentifiers, NoMemory>
+    pub(crate) fn of(alloc: Global, five: &FiveRef<'_>) -> Result<OwnedIdentifiers, NoMemory>
         ensures { IfOk result (λ kept. kept ≡ identifiers_of five.now) }
     {
         let said = identifiers_of(five);
-        Ok(KeptIdentifiers {
+        Ok(OwnedIdentifiers {
             branch: Text::of(alloc, said.branch)?,
             sent_by: Text::of(alloc, said.sent_by)?,
             from_tag: Text::of(alloc, said.from_tag)?,
@@ -136,7 +136,7 @@ impl KeptIdentifiers {
     }
 
     /// The kept identifiers.
-    pub(crate) fn lent(&self) -> Identifiers<'_>
+    pub(crate) fn borrow(&self) -> Identifiers<'_>
         ensures { result ≡ self.now }
     {
         Identifiers {

@@ -2,7 +2,6 @@
 #![tactic(auto)]
 
 mod addresses;
-mod answered;
 mod building;
 mod edits;
 mod entries;
@@ -14,7 +13,6 @@ mod five_lines;
 mod headers;
 mod held;
 mod identifiers;
-pub mod laws;
 mod line_values;
 mod lines;
 mod messages;
@@ -25,12 +23,14 @@ mod reading;
 mod replies;
 mod responses;
 mod starts;
+pub mod theorems;
+mod transaction_names;
 mod values;
 mod vias;
 
 pub use addresses::{addr_text, contact_text, ip_text, via_text};
 pub use building::{add_bytes, add_decimal, add_line, add_named, add_passed};
-pub use entries::is_place;
+pub use entries::is_index_value;
 pub use faults::{is_method, is_readable, is_request};
 pub use field_refs::{CSeqRef, FiveRef, ViaRef, cseq_ref, five_ref, via_ref};
 pub use fields::{CSeq, Five, Via, read_cseq, read_five, read_via};
@@ -45,6 +45,6 @@ pub use names::long_name;
 pub use phrases::phrase_of;
 pub use reading::{ReadFault, read, read_held};
 pub use replies::reply_with;
-pub use responses::{Reply, response, tagged};
+pub use responses::{Reply, response, tagged_value};
 pub use values::{Mode, joined_by, next_part, values_in};
-pub use vias::completed;
+pub use vias::completed_value;

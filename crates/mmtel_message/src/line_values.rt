@@ -15,7 +15,7 @@ fn next_value<'a>(lines: &Lines<'a>, name: &[u8], from: usize) -> Option<(&'a [u
 {
     match lines.next_named(name, from) {
         None => None,
-        Some(line) => Some((line.value, line.after)),
+        Some(line) => Some((line.value, line.next)),
     }
 }
 

@@ -1,17 +1,17 @@
 //! Splitting a message into lines.
 ghost use Rattle.std.specs.Prelude.{◌≡◌, ◌∷◌, ◌++◌, ◌+◌, ◌≤◌, true, false, Some, length, map, take, drop, reverse, IfOk, IfSome, MatchOption, OnOk};
-ghost use Rattle.mmtel_scan.specs.Classes.{IsAll, Stops};
-ghost use Rattle.mmtel_scan.specs.Scanning.{trimmed};
-ghost use Rattle.mmtel_scan.specs.declared.classes.Class.TheVariants.{Blank};
-ghost use Rattle.mmtel_message.specs.Held.{at_place, value_of};
-ghost use Rattle.mmtel_message.specs.Places.{IsLater, IsWithin, continues, rest_at};
-ghost use Rattle.mmtel_message.specs.Lines.{begins, first_break, last_line_end, whole_end, width, split, unfolded, unfolded_from, starts_blank};
+ghost use Rattle.mmtel_base.specs.Classes.{IsAll, Stops};
+ghost use Rattle.mmtel_base.specs.Scanning.{without_trailing};
+ghost use Rattle.mmtel_base.specs.declared.classes.Class.TheVariants.{Blank};
+ghost use Rattle.mmtel_message.specs.Held.{bytes_at, value_of};
+ghost use Rattle.mmtel_message.specs.Spans.{IsBehind, IsWithin, continues, rest_at};
+ghost use Rattle.mmtel_message.specs.Lines.{begins_with_break, first_break, last_line_end, whole_end, width, split, logical_lines, logical_lines_from, starts_blank};
 
 use crate::edits::Edit;
-use crate::held::{HeldValue, Span, at_place};
+use crate::held::{HeldValue, Span, bytes_at};
 use memchr::memchr;
+use mmtel_base::{Class, split_run, trim_end};
 use mmtel_lex::{List, NoMemory, Text};
-use mmtel_scan::{Class, split_run, trim_end};
 use std::alloc::Global;
 
 /// For this many lines there is capacity from the start: few messages have more, and a block of this size is quickly allocated again.
@@ -27,7 +27,7 @@ pub enum Break {
 impl Break {
     /// Whether the bytes begin with it.
     pub fn is_first(self, bytes: &[u8]) -> bool
-        ensures { result ≡ begins self bytes.now }
+        ensures { result ≡ begins_with_break self bytes.now }
     {
         match self {
             Break::Line => matches!(bytes, [b'\r', b'\n', ..]),
@@ -37,14 +37,14 @@ impl Break {
 }
 
 /// The first place where it occurs.
-pub fn place(mark: Break, bytes: &[u8]) -> Option<usize>
-    ensures place { result ≡ first_break mark bytes.now }
-    ensures within { IfSome result (λ n. n + width mark ≤ length bytes.now) }
+pub fn break_position(separator: Break, bytes: &[u8]) -> Option<usize>
+    ensures place { result ≡ first_break separator bytes.now }
+    ensures within { IfSome result (λ n. n + width separator ≤ length bytes.now) }
 {
     let mut from = 0;
     'ends: while let Some(skipped) = memchr(b'\r', &bytes[from..]) {
         let at = from + skipped;
-        if mark.is_first(&bytes[at..]) {
+        if separator.is_first(&bytes[at..]) {
             return Some(at);
         }
         from = at + 1;
@@ -71,7 +71,7 @@ pub fn whole_end(bytes: &[u8]) -> Option<usize>
     ensures place { result ≡ whole_end bytes.now }
     ensures within { IfSome result (λ n. n ≤ length bytes.now) }
 {
-    match place(Break::Head, bytes) {
+    match break_position(Break::Head, bytes) {
         Some(at) => Some(at),
         None => last_line_end(bytes),
     }
@@ -80,11 +80,11 @@ pub fn whole_end(bytes: &[u8]) -> Option<usize>
 /// The line that begins at a place, and where the next one begins, if a line end comes.
 fn next_line(head: &[u8], from: usize) -> (Span, Option<usize>)
     requires { from ≤ length head.now }
-    ensures lines { split (drop from head.now) ≡ at_place head.now result.0 ∷ rest_at head.now result.1 }
+    ensures lines { split (drop from head.now) ≡ bytes_at head.now result.0 ∷ rest_at head.now result.1 }
     ensures within { result.0.from + result.0.len ≤ length head.now }
-    ensures later { IfSome result.1 (λ n. IsLater from head.now n) }
+    ensures later { IfSome result.1 (λ n. IsBehind from head.now n) }
 {
-    match place(Break::Line, &head[from..]) {
+    match break_position(Break::Line, &head[from..]) {
         None => {
             let len = head.len() - from;
             (Span { from, len }, None)
@@ -94,7 +94,7 @@ fn next_line(head: &[u8], from: usize) -> (Span, Option<usize>)
 }
 
 /// Whether the line begins with a blank.
-fn is_blank_led(line: &[u8]) -> bool
+fn starts_blank(line: &[u8]) -> bool
     ensures { result ≡ starts_blank line.now }
 {
     match line {
@@ -104,12 +104,12 @@ fn is_blank_led(line: &[u8]) -> bool
 }
 
 /// Where the next line begins, if it continues the one before.
-fn continuing(head: &[u8], next: Option<usize>) -> Option<usize>
+fn next_if_folded(head: &[u8], next: Option<usize>) -> Option<usize>
     requires { IfSome next (λ n. n ≤ length head.now) }
     ensures { MatchOption result (continues head.now next ≡ false) (λ n. (next ≡ Some n) × (continues head.now next ≡ true)) }
 {
     match next {
-        Some(from) if is_blank_led(&head[from..]) => Some(from),
+        Some(from) if starts_blank(&head[from..]) => Some(from),
         _ => None,
     }
 }
@@ -124,7 +124,7 @@ fn add_trimmed(
 ) -> Result<(), NoMemory>
     requires gap { IsAll Blank gap.now }
     requires end { Stops Blank (reverse line.old) }
-    ensures { OnOk result (line.new ≡ trimmed Blank (line.old ++ gap.now ++ piece.now)) }
+    ensures { OnOk result (line.new ≡ without_trailing Blank (line.old ++ gap.now ++ piece.now)) }
 {
     let kept = trim_end(Class::Blank, piece);
     if kept.is_empty() {
@@ -134,28 +134,28 @@ fn add_trimmed(
 }
 
 /// The text of a line with those that continue it, the first of which begins at a place, and where the line after them begins.
-fn folded(
+fn logical_line(
     alloc: Global,
     head: &[u8],
     first: Span,
     next: usize,
 ) -> Result<(Edit, Option<usize>), NoMemory>
     requires { next ≤ length head.now }
-    ensures line { IfOk result (λ x. unfolded_from (at_place head.now first) (split (drop next head.now)) ≡ x.0 ∷ unfolded (rest_at head.now x.1)) }
+    ensures line { IfOk result (λ x. logical_lines_from (bytes_at head.now first) (split (drop next head.now)) ≡ x.0 ∷ logical_lines (rest_at head.now x.1)) }
     ensures later { IfOk result (λ x. IfSome x.1 (λ n. (next ≤ n) × (n ≤ length head.now))) }
 {
     // The line so far in three parts: a prefix without a blank at its end, the gap after it, and the piece read last,
     // whose blanks at its end are removed where another line continues it. The prefix only grows, so no byte is added twice.
     let mut front = Edit::of(Text::new());
     let mut gap: &[u8] = b"";
-    let mut piece = at_place(head, first);
+    let mut piece = bytes_at(head, first);
     let mut taken = first.from;
     let mut rest = Some(next);
-    'lines: while let Some(from) = continuing(head, rest) {
+    'lines: while let Some(from) = next_if_folded(head, rest) {
         let (line, after) = next_line(head, from);
         add_trimmed(alloc, &mut front, gap, piece, taken)?;
         gap = b" ";
-        piece = split_run(Class::Blank, at_place(head, line)).1;
+        piece = split_run(Class::Blank, bytes_at(head, line)).1;
         taken = (line.from + line.len).saturating_sub(piece.len());
         rest = after;
     }
@@ -170,15 +170,15 @@ fn whole_line(
     from: usize,
 ) -> Result<(HeldValue, Option<usize>), NoMemory>
     requires { from ≤ length head.now }
-    ensures line { IfOk result (λ x. unfolded (split (drop from head.now)) ≡ value_of head.now x.0 ∷ unfolded (rest_at head.now x.1)) }
+    ensures line { IfOk result (λ x. logical_lines (split (drop from head.now)) ≡ value_of head.now x.0 ∷ logical_lines (rest_at head.now x.1)) }
     ensures within { IfOk result (λ x. IsWithin head.now x.0) }
-    ensures later { IfOk result (λ x. IfSome x.1 (λ n. IsLater from head.now n)) }
+    ensures later { IfOk result (λ x. IfSome x.1 (λ n. IsBehind from head.now n)) }
 {
     let (line, after) = next_line(head, from);
-    match continuing(head, after) {
+    match next_if_folded(head, after) {
         None => Ok((HeldValue::Received(line), after)),
         Some(next) => {
-            let (edit, after) = folded(alloc, head, line, next)?;
+            let (edit, after) = logical_line(alloc, head, line, next)?;
             Ok((HeldValue::Edited(edit), after))
         }
     }
@@ -187,10 +187,10 @@ fn whole_line(
 /// The lines before a place of the bytes, each with those that continue it: the place of a line among the bytes, or the text that it forms with those that continue it.
 pub fn lines(alloc: Global, bytes: &[u8], end: usize) -> Result<List<HeldValue>, NoMemory>
     requires { end ≤ length bytes.now }
-    ensures { IfOk result (λ ls. map (value_of bytes.now) ls ≡ unfolded (split (take end bytes.now))) }
+    ensures { IfOk result (λ ls. map (value_of bytes.now) ls ≡ logical_lines (split (take end bytes.now))) }
 {
     let head = &bytes[..end];
-    let mut lines = List::with_room(alloc, USUAL_LINES)?;
+    let mut lines = List::with_capacity(alloc, USUAL_LINES)?;
     let mut rest = Some(0);
     'lines: while let Some(from) = rest {
         let (line, after) = whole_line(alloc, head, from)?;

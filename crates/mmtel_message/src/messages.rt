@@ -6,11 +6,11 @@ ghost use Rattle.mmtel_message.specs.Values.{base};
 ghost use Rattle.mmtel_message.specs.declared.values.Mode.TheVariants.{Plain};
 ghost use Rattle.mmtel_message.specs.Held.{held_lines, lines_of, value_of};
 ghost use Rattle.mmtel_message.specs.Identifiers.{identifiers_in};
-ghost use Rattle.mmtel_message.specs.Message.{is_line, has_line, first_value, dropped, replaced, line_texts, values_named};
+ghost use Rattle.mmtel_message.specs.Message.{is_line, has_line, first_value, lines_without, lines_with, line_texts, values_named};
 
 use crate::edits::Edit;
 use crate::held::{Held, HeldValue, Lines, Span, value_of};
-use crate::identifiers::{Identifiers, KeptIdentifiers, identifiers_in};
+use crate::identifiers::{Identifiers, OwnedIdentifiers, identifiers_in};
 use crate::values::{Mode, values_in};
 use mmtel_lex::{List, NoMemory, Text};
 use std::alloc::Global;
@@ -42,7 +42,7 @@ pub struct Msg {
     added: List<Line>,
     body: HeldValue,
     /// What its five fields say, where it was read and its lines were not edited since.
-    identifiers: Option<Box<KeptIdentifiers>>,
+    identifiers: Option<Box<OwnedIdentifiers>>,
 }
 
 impl Model for Msg {
@@ -74,7 +74,7 @@ pub fn is_line(line: &Line, name: &[u8]) -> bool
     is_named(line.0.bytes(), name)
 }
 
-fn place_of<V>(lines: &[(Text, V)], name: &[u8]) -> Option<usize>
+fn position_of<V>(lines: &[(Text, V)], name: &[u8]) -> Option<usize>
     ensures { result ≡ position (λ l. str_eq_ignore_ascii_case l.0 name.now) lines.now }
 {
     lines.iter().position(|line| is_named(line.0.bytes(), name))
@@ -134,7 +134,7 @@ pub fn line_texts(alloc: Global, lines: &Lines<'_>, name: &[u8]) -> Result<List<
     'lines: while let Some(line) = lines.next_named(name, from) {
         let value = Text::of(alloc, line.value)?;
         out.push(alloc, value)?;
-        from = line.after;
+        from = line.next;
     }
     Ok(out)
 }
@@ -148,7 +148,7 @@ pub fn has_line(name: &[u8], lines: &Lines<'_>) -> bool
 
 /// Removes the lines of the name.
 fn drop_lines(held: &mut List<Held>, added: &mut List<Line>, name: &[u8])
-    ensures { (s : List ℕ) → lines_of s held.new added.new ≡ dropped name.now (lines_of s held.old added.old) }
+    ensures { (s : List ℕ) → lines_of s held.new added.new ≡ lines_without name.now (lines_of s held.old added.old) }
 {
     drop_named(held, 0, name);
     drop_named(added, 0, name);
@@ -161,11 +161,11 @@ fn set_added(
     name: &[u8],
     value: Text,
 ) -> Result<(), NoMemory>
-    ensures ok { OnOk result (added.new ≡ replaced name.now value added.old) }
+    ensures ok { OnOk result (added.new ≡ lines_with name.now value added.old) }
     ensures err { OnErr result (added.new ≡ added.old) }
 {
     let spelled = Text::of(alloc, name)?;
-    match place_of(added.items(), name) {
+    match position_of(added.items(), name) {
         None => {
             added.push(alloc, (spelled, value))?;
             Ok(())
@@ -186,10 +186,10 @@ fn set_line(
     name: &[u8],
     value: Text,
 ) -> Result<(), NoMemory>
-    ensures ok { OnOk result ((s : List ℕ) → lines_of s held.new added.new ≡ replaced name.now value (lines_of s held.old added.old)) }
+    ensures ok { OnOk result ((s : List ℕ) → lines_of s held.new added.new ≡ lines_with name.now value (lines_of s held.old added.old)) }
     ensures err { OnErr result ((held.new ≡ held.old) × (added.new ≡ added.old)) }
 {
-    match place_of(held.items(), name) {
+    match position_of(held.items(), name) {
         None => {
             set_added(alloc, added, name, value)?;
             Ok(())
@@ -252,7 +252,7 @@ impl Msg {
         received: Text,
         held: List<Held>,
         body: HeldValue,
-        identifiers: Box<KeptIdentifiers>,
+        identifiers: Box<OwnedIdentifiers>,
     ) -> Msg
         requires { identifiers_in (held_lines received held) ≡ Some identifiers.value }
         ensures { result ≡ record { start = start; lines = held_lines received held; body = value_of received body } }
@@ -300,7 +300,7 @@ impl Msg {
     {
         match &self.identifiers {
             None => identifiers_in(&self.lines()),
-            Some(kept) => Some(kept.lent()),
+            Some(kept) => Some(kept.borrow()),
         }
     }
 
@@ -357,7 +357,7 @@ impl Msg {
 
     /// Removes the lines of the name.
     pub fn drop_all(&mut self, name: &[u8])
-        ensures { self.new ≡ record self.old { lines = dropped name.now self.old.lines } }
+        ensures { self.new ≡ record self.old { lines = lines_without name.now self.old.lines } }
     {
         self.identifiers = None;
         drop_lines(&mut self.held, &mut self.added, name);
@@ -369,7 +369,7 @@ impl Msg {
     ///
     /// Out of memory only; the message is then as before, and the value is dropped.
     pub fn set(&mut self, alloc: Global, name: &[u8], value: Text) -> Result<(), NoMemory>
-        ensures ok { OnOk result (self.new ≡ record self.old { lines = replaced name.now value self.old.lines }) }
+        ensures ok { OnOk result (self.new ≡ record self.old { lines = lines_with name.now value self.old.lines }) }
         ensures err { OnErr result (self.new ≡ self.old) }
     {
         self.identifiers = None;

@@ -2,13 +2,13 @@
 ghost use Rattle.std.specs.Prelude.{◌≡◌, ◌++◌, OnOk, IfOk, Ok};
 ghost use Rattle.mmtel_message.specs.Canonical.{IsCanonical, IsWithinLimits};
 ghost use Rattle.mmtel_message.specs.Held.{held_lines};
-ghost use Rattle.mmtel_message.specs.Reads.{reads};
+ghost use Rattle.mmtel_message.specs.Reads.{read_result};
 ghost use Rattle.mmtel_message.specs.Texts.{start_text, line_text, lines_text, message_text};
 
 use crate::held::{Held, Lines, value_of};
 use crate::messages::{Line, Msg, Start};
+use mmtel_base::add_number;
 use mmtel_lex::{NoMemory, Text};
-use mmtel_scan::add_number;
 use std::alloc::Global;
 
 fn add_start(alloc: Global, out: &mut Text, start: &Start) -> Result<(), NoMemory>
@@ -72,7 +72,7 @@ fn add_lines(alloc: Global, out: &mut Text, lines: &Lines<'_>) -> Result<(), NoM
 }
 
 /// How many bytes the start line takes, or a few more.
-fn start_room(start: &Start) -> usize {
+fn start_capacity(start: &Start) -> usize {
     match start {
         Start::Request { method, uri } => method
             .bytes()
@@ -87,53 +87,54 @@ fn start_room(start: &Start) -> usize {
 }
 
 /// The capacity for what is before and a line of this name and value.
-fn room_with(room: usize, name: &[u8], value: &[u8]) -> usize {
-    room.saturating_add(name.len())
+fn capacity_with(capacity: usize, name: &[u8], value: &[u8]) -> usize {
+    capacity
+        .saturating_add(name.len())
         .saturating_add(value.len())
         .saturating_add(b": \r\n".len())
 }
 
 /// The capacity for what is before and these lines, which were received.
-fn room_with_received(before: usize, received: &[u8], held: &[Held]) -> usize {
+fn capacity_with_received(before: usize, received: &[u8], held: &[Held]) -> usize {
     let mut room = before;
     for line in held {
-        room = room_with(room, line.0.bytes(), value_of(received, &line.1));
+        room = capacity_with(room, line.0.bytes(), value_of(received, &line.1));
     }
     room
 }
 
 /// The capacity for what is before and these lines, which were added.
-fn room_with_added(before: usize, added: &[Line]) -> usize {
+fn capacity_with_added(before: usize, added: &[Line]) -> usize {
     let mut room = before;
     for line in added {
-        room = room_with(room, line.0.bytes(), line.1.bytes());
+        room = capacity_with(room, line.0.bytes(), line.1.bytes());
     }
     room
 }
 
 /// How many bytes the lines take.
-fn lines_room(lines: &Lines<'_>) -> usize {
+fn lines_capacity(lines: &Lines<'_>) -> usize {
     let (received, held, added) = lines.parts();
-    room_with_added(room_with_received(0, received, held), added)
+    capacity_with_added(capacity_with_received(0, received, held), added)
 }
 
 /// The capacity for the text of a message. A text that exceeds it is still written.
-fn room_of(m: &Msg) -> usize {
-    start_room(m.start())
-        .saturating_add(lines_room(&m.lines()))
-        .saturating_add(m.body().len())
+fn capacity_of(message: &Msg) -> usize {
+    start_capacity(message.start())
+        .saturating_add(lines_capacity(&message.lines()))
+        .saturating_add(message.body().len())
         .saturating_add(b"\r\n\r\n".len())
 }
 
-fn printed(alloc: Global, m: &Msg) -> Result<Text, NoMemory>
-    ensures { IfOk result (λ t. t ≡ message_text m.now) }
+fn message_text(alloc: Global, message: &Msg) -> Result<Text, NoMemory>
+    ensures { IfOk result (λ t. t ≡ message_text message.now) }
 {
-    let mut out = Text::with_room(alloc, room_of(m))?;
-    add_start(alloc, &mut out, m.start())?;
+    let mut out = Text::with_capacity(alloc, capacity_of(message))?;
+    add_start(alloc, &mut out, message.start())?;
     out.push(alloc, b"\r\n")?;
-    add_lines(alloc, &mut out, &m.lines())?;
+    add_lines(alloc, &mut out, &message.lines())?;
     out.push(alloc, b"\r\n")?;
-    out.push(alloc, m.body())?;
+    out.push(alloc, message.body())?;
     Ok(out)
 }
 
@@ -146,8 +147,8 @@ impl Msg {
     pub fn text(&self, alloc: Global) -> Result<Text, NoMemory>
         ensures text { IfOk result (λ t. t ≡ message_text self.now) }
         // The text of a canonical message that fits into a datagram is read as that message.
-        ensures reads_back { IsCanonical self.now → IsWithinLimits self.now → IfOk result (λ t. reads t ≡ Ok self.now) }
+        ensures reads_back { IsCanonical self.now → IsWithinLimits self.now → IfOk result (λ t. read_result t ≡ Ok self.now) }
     {
-        printed(alloc, self)
+        message_text(alloc, self)
     }
 }

@@ -1,11 +1,11 @@
 //! Reading a message.
 ghost use Rattle.std.specs.Prelude.{◌≡◌, ◌≤◌, ◌<◌, ◌+◌, ℕ, List, Some, Ok, Err, IfOk, MatchResult, codes, drop, length, map, take};
-ghost use Rattle.mmtel_message.specs.Expansion.{expanded};
+ghost use Rattle.mmtel_message.specs.Expansion.{expanded_lines};
 ghost use Rattle.mmtel_message.specs.Headers.{header_line};
 ghost use Rattle.mmtel_message.specs.Held.{held_lines, value_of};
 ghost use Rattle.mmtel_message.specs.Canonical.{IsCanonical};
 ghost use Rattle.mmtel_message.specs.Identifiers.{identifiers_in};
-ghost use Rattle.mmtel_message.specs.Reads.{reads, Reads, Stops, large_of, large_reply, body_of, message_of, message_head, head_in_lines, head_in, after_head};
+ghost use Rattle.mmtel_message.specs.Reads.{read_result, IsReadResult, IsReadFault, large_of, large_reply, body_of, message_of, message_head, head_in_lines, head_in, after_head};
 ghost use Rattle.mmtel_message.specs.Replies.{reply_to};
 ghost use Rattle.mmtel_message.specs.declared.reading.ReadFault.TheVariants as fault;
 
@@ -14,13 +14,13 @@ use crate::faults::first_fault;
 use crate::field_refs::five_ref;
 use crate::headers::headers;
 use crate::held::{Held, HeldValue, Lines, Span, value_of};
-use crate::identifiers::KeptIdentifiers;
-use crate::lines::{Break, lines, place, whole_end};
+use crate::identifiers::OwnedIdentifiers;
+use crate::lines::{Break, break_position, lines, whole_end};
 use crate::messages::{Msg, Start, first_of};
 use crate::replies::reply_to;
 use crate::starts::start;
+use mmtel_base::number_up_to;
 use mmtel_lex::{LexFault, List, NoMemory, Text};
-use mmtel_scan::number_up_to;
 use std::alloc::Global;
 
 /// Why bytes are no message. There is a reply for a request other than ACK; its To has no tag yet.
@@ -40,7 +40,7 @@ pub enum ReadFault {
 impl From<NoMemory> for ReadFault {
     ghost from_gives = { λ _ e. e ≡ fault.NoMemory };
 
-    fn from(_e: NoMemory) -> ReadFault {
+    fn from(_error: NoMemory) -> ReadFault {
         ReadFault::NoMemory
     }
 }
@@ -60,8 +60,8 @@ fn body_len(lines: &Lines<'_>, rest: usize) -> usize
 }
 
 /// Refuses a message that has too many lines.
-fn too_many(alloc: Global, start: &Start, bytes: &[u8], lines: &[Held]) -> ReadFault
-    ensures { Stops result (Err (fault.TooMany (reply_to start.now 513 (codes "Message Too Large") (held_lines bytes.now lines.now)))) }
+fn too_many_fault(alloc: Global, start: &Start, bytes: &[u8], lines: &[Held]) -> ReadFault
+    ensures { IsReadFault result (Err (fault.TooMany (reply_to start.now 513 (codes "Message Too Large") (held_lines bytes.now lines.now)))) }
 {
     match reply_to(alloc, start, 513, b"Message Too Large", bytes, lines) {
         Ok(reply) => ReadFault::TooMany { reply },
@@ -70,8 +70,8 @@ fn too_many(alloc: Global, start: &Start, bytes: &[u8], lines: &[Held]) -> ReadF
 }
 
 /// Refuses a message that has a fault.
-fn bad(alloc: Global, start: &Start, bytes: &[u8], lines: &[Held], at: usize) -> ReadFault
-    ensures { Stops result (Err (fault.Bad at (reply_to start.now 400 (codes "Bad Request") (held_lines bytes.now lines.now)))) }
+fn bad_fault(alloc: Global, start: &Start, bytes: &[u8], lines: &[Held], at: usize) -> ReadFault
+    ensures { IsReadFault result (Err (fault.Bad at (reply_to start.now 400 (codes "Bad Request") (held_lines bytes.now lines.now)))) }
 {
     match reply_to(alloc, start, 400, b"Bad Request", bytes, lines) {
         Ok(reply) => ReadFault::Bad { at, reply },
@@ -80,7 +80,10 @@ fn bad(alloc: Global, start: &Start, bytes: &[u8], lines: &[Held], at: usize) ->
 }
 
 /// These identifiers in a box of their own.
-fn boxed(alloc: Global, identifiers: KeptIdentifiers) -> Result<Box<KeptIdentifiers>, NoMemory>
+fn boxed_identifiers(
+    alloc: Global,
+    identifiers: OwnedIdentifiers,
+) -> Result<Box<OwnedIdentifiers>, NoMemory>
     ensures { IfOk result (λ b. b.value ≡ identifiers) }
 {
     match Box::new(alloc, identifiers) {
@@ -93,19 +96,19 @@ fn boxed(alloc: Global, identifiers: KeptIdentifiers) -> Result<Box<KeptIdentifi
 }
 
 /// What the five fields say of a message whose head ends at a place of these bytes and has this start line and these header lines, where nothing is wrong with it.
-#[tactic(auto, using(crate::proofs::IdentifierLaws::read_whole))]
-fn looked_over(
+#[tactic(auto, using(crate::proofs::IdentifierTheorems::read_whole))]
+fn check_head(
     alloc: Global,
     start: &Start,
     bytes: &[u8],
     end: usize,
     lines: &[Held],
-) -> Result<Box<KeptIdentifiers>, ReadFault>
+) -> Result<Box<OwnedIdentifiers>, ReadFault>
     requires { end + 4 ≤ length bytes.now }
     ensures read { let hs = held_lines bytes.now lines.now in let rest = drop (end + 4) bytes.now in
         MatchResult result (λ _. after_head (message_head (Some start.now) hs) rest ≡ Ok (message_of start.now hs rest))
-        (λ e. Stops e (after_head (message_head (Some start.now) hs) rest)) }
-    ensures said { IfOk result (λ b. identifiers_in (expanded (held_lines bytes.now lines.now)) ≡ Some b.value) }
+        (λ e. IsReadFault e (after_head (message_head (Some start.now) hs) rest)) }
+    ensures said { IfOk result (λ b. identifiers_in (expanded_lines (held_lines bytes.now lines.now)) ≡ Some b.value) }
 {
     let room = bytes.len() - (end + 4);
     let whole = Lines::of(bytes, lines, &[]);
@@ -113,13 +116,13 @@ fn looked_over(
         None => Err(ReadFault::NotSip),
         Some(five) => {
             if lines.len() > 128 {
-                return Err(too_many(alloc, start, bytes, lines));
+                return Err(too_many_fault(alloc, start, bytes, lines));
             }
             match first_fault(start, &five, room as u64, &whole) {
-                Some(at) => Err(bad(alloc, start, bytes, lines, at)),
+                Some(at) => Err(bad_fault(alloc, start, bytes, lines, at)),
                 None => {
-                    let identifiers = KeptIdentifiers::of(alloc, &five)?;
-                    Ok(boxed(alloc, identifiers)?)
+                    let identifiers = OwnedIdentifiers::of(alloc, &five)?;
+                    Ok(boxed_identifiers(alloc, identifiers)?)
                 }
             }
         }
@@ -133,10 +136,10 @@ fn whole_message(
     bytes: Text,
     end: usize,
     lines: List<Held>,
-    identifiers: Box<KeptIdentifiers>,
+    identifiers: Box<OwnedIdentifiers>,
 ) -> Result<Msg, NoMemory>
     requires head { end + 4 ≤ length bytes }
-    requires said { identifiers_in (expanded (held_lines bytes lines)) ≡ Some identifiers.value }
+    requires said { identifiers_in (expanded_lines (held_lines bytes lines)) ≡ Some identifiers.value }
     ensures { IfOk result (λ m. m ≡ message_of start (held_lines bytes lines) (drop (end + 4) bytes)) }
 {
     let from = end + 4;
@@ -166,9 +169,9 @@ fn after_head(
     lines: List<Held>,
 ) -> Result<Msg, ReadFault>
     requires { end + 4 ≤ length bytes }
-    ensures { Reads result (after_head (message_head (Some start) (held_lines bytes lines)) (drop (end + 4) bytes)) }
+    ensures { IsReadResult result (after_head (message_head (Some start) (held_lines bytes lines)) (drop (end + 4) bytes)) }
 {
-    match looked_over(alloc, &start, bytes.bytes(), end, lines.items()) {
+    match check_head(alloc, &start, bytes.bytes(), end, lines.items()) {
         Err(fault) => {
             drop(lines);
             drop(bytes);
@@ -188,7 +191,7 @@ fn read_headers(
     lines: &[HeldValue],
 ) -> Result<Msg, ReadFault>
     requires { end + 4 ≤ length bytes }
-    ensures { Reads result (after_head (message_head (Some start) (map header_line (map (value_of bytes) lines.now))) (drop (end + 4) bytes)) }
+    ensures { IsReadResult result (after_head (message_head (Some start) (map header_line (map (value_of bytes) lines.now))) (drop (end + 4) bytes)) }
 {
     let headers = headers(alloc, bytes.bytes(), lines)?;
     after_head(alloc, start, bytes, end, headers)
@@ -197,7 +200,7 @@ fn read_headers(
 /// Reads a message whose head ends at a place of its bytes and has these lines.
 fn read_lines(alloc: Global, bytes: Text, end: usize, lines: &[HeldValue]) -> Result<Msg, ReadFault>
     requires { end + 4 ≤ length bytes }
-    ensures { Reads result (after_head (head_in_lines (map (value_of bytes) lines.now)) (drop (end + 4) bytes)) }
+    ensures { IsReadResult result (after_head (head_in_lines (map (value_of bytes) lines.now)) (drop (end + 4) bytes)) }
 {
     match lines {
         [] => Err(ReadFault::NotSip),
@@ -212,7 +215,7 @@ fn read_lines(alloc: Global, bytes: Text, end: usize, lines: &[HeldValue]) -> Re
 /// Reads a message whose head ends at a place of its bytes.
 fn read_head(alloc: Global, bytes: Text, end: usize) -> Result<Msg, ReadFault>
     requires { end + 4 ≤ length bytes }
-    ensures { Reads result (after_head (head_in (take end bytes)) (drop (end + 4) bytes)) }
+    ensures { IsReadResult result (after_head (head_in (take end bytes)) (drop (end + 4) bytes)) }
 {
     let lines = lines(alloc, bytes.bytes(), end)?;
     let read = read_lines(alloc, bytes, end, lines.items());
@@ -268,7 +271,7 @@ fn large_reply(alloc: Global, bytes: &[u8]) -> Result<Option<Msg>, NoMemory>
 /// Refuses a message of too many bytes.
 fn too_large(alloc: Global, bytes: &[u8]) -> Result<Msg, ReadFault>
     requires { 16384 < length bytes.now }
-    ensures { Reads result (Err (fault.TooLarge (large_reply (take 16384 bytes.now)))) }
+    ensures { IsReadResult result (Err (fault.TooLarge (large_reply (take 16384 bytes.now)))) }
 {
     let reply = large_reply(alloc, &bytes[..16384])?;
     Err(ReadFault::TooLarge { reply })
@@ -276,12 +279,12 @@ fn too_large(alloc: Global, bytes: &[u8]) -> Result<Msg, ReadFault>
 
 /// Reads a message.
 fn read_bytes(alloc: Global, bytes: Text) -> Result<Msg, ReadFault>
-    ensures { Reads result (reads bytes) }
+    ensures { IsReadResult result (read_result bytes) }
 {
     if bytes.bytes().len() > 16384 {
         return too_large(alloc, bytes.bytes());
     }
-    match place(Break::Head, bytes.bytes()) {
+    match break_position(Break::Head, bytes.bytes()) {
         None => Err(ReadFault::NotSip),
         Some(end) => read_head(alloc, bytes, end),
     }
@@ -296,7 +299,7 @@ fn read_bytes(alloc: Global, bytes: Text) -> Result<Msg, ReadFault>
 /// The first that applies of: `TooLarge` for over 16,384 bytes, `NotSip`, `TooMany` for over 128 header lines, `Bad` for the first fault in the order of lines. And out of memory.
 pub fn read_held(alloc: Global, bytes: Text) -> Result<Msg, ReadFault>
     // The result is that of the definition, with the reply that it gives.
-    ensures exact { Reads result (reads bytes) }
+    ensures exact { IsReadResult result (read_result bytes) }
     // What is read can be printed and is read again: see `Msg::text`.
     ensures canonical { IfOk result (λ m. IsCanonical m) }
 {
@@ -310,7 +313,7 @@ pub fn read_held(alloc: Global, bytes: Text) -> Result<Msg, ReadFault>
 /// Those of `read_held`.
 pub fn read(alloc: Global, bytes: &[u8]) -> Result<Msg, ReadFault>
     // The result is that of the definition, with the reply that it gives.
-    ensures exact { Reads result (reads bytes.now) }
+    ensures exact { IsReadResult result (read_result bytes.now) }
     // What is read can be printed and is read again: see `Msg::text`.
     ensures canonical { IfOk result (λ m. IsCanonical m) }
 {

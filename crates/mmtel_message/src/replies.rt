@@ -1,9 +1,9 @@
 //! The reply to a request that is refused when it is read (RFC 3261 §8.2.6).
 ghost use Rattle.std.specs.Prelude.{◌≡◌, IfOk};
 ghost use Rattle.mmtel_message.specs.Held.{held_lines};
-ghost use Rattle.mmtel_message.specs.Replies.{is_answered, reply_to, reply_with};
+ghost use Rattle.mmtel_message.specs.Replies.{is_answerable, reply_to, reply_with};
 
-use crate::expansion::expanded;
+use crate::expansion::expanded_lines;
 use crate::faults::{is_method, is_request};
 use crate::held::{Held, Lines};
 use crate::messages::{Msg, Start};
@@ -43,8 +43,8 @@ pub fn reply_with(
     response(alloc, &start, lines, &reply)
 }
 
-fn is_answered(start: &Start) -> bool
-    ensures { result ≡ is_answered start.now }
+fn is_answerable(start: &Start) -> bool
+    ensures { result ≡ is_answerable start.now }
 {
     if is_method(b"ACK", start) {
         return false;
@@ -64,10 +64,10 @@ pub fn reply_to(
 ) -> Result<Option<Msg>, NoMemory>
     ensures { IfOk result (λ m. m ≡ reply_to start.now code phrase.now (held_lines bytes.now lines.now)) }
 {
-    if !is_answered(start) {
+    if !is_answerable(start) {
         return Ok(None);
     }
-    let lines = expanded(alloc, bytes, lines)?;
+    let lines = expanded_lines(alloc, bytes, lines)?;
     let reply = reply_with(alloc, code, phrase, &Lines::of(bytes, lines.items(), &[]));
     drop(lines);
     Ok(Some(reply?))

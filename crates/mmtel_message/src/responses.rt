@@ -1,23 +1,23 @@
 //! Responses to requests (RFC 3261 §8.2.6, §12.1.1 and §18.2.1).
 ghost use Rattle.std.specs.Prelude.{◌≡◌, ◌∷◌, ◌++◌, [], Some, IfOk, OnOk, codes, map};
 ghost use Rattle.mmtel_lex.specs.Reading.{name_addr_of};
-ghost use Rattle.mmtel_message.specs.Message.{named};
-ghost use Rattle.mmtel_message.specs.Responses.{added_lines, contact_lines, makes_dialog, names_contact, own_lines, refreshes_target, response, route_lines};
-ghost use Rattle.mmtel_message.specs.Responses.{call_lines, completed_lines, has_tag, heard_lines, party_lines, tag_due, tagged, to_line, to_value, via_lines};
+ghost use Rattle.mmtel_message.specs.Message.{lines_named};
+ghost use Rattle.mmtel_message.specs.Responses.{added_lines, contact_lines, makes_dialog, names_contact, own_fields, refreshes_target, response, route_lines};
+ghost use Rattle.mmtel_message.specs.Responses.{call_lines, completed_lines, copied_lines, has_tag, party_lines, tag_of_response, tagged_value, to_line, to_value, via_lines};
 
 use crate::building::{add_bytes, add_decimal, add_line, append_lines, append_named};
 use crate::faults::is_method;
 use crate::held::Lines;
 use crate::messages::{Line, Msg, Start, is_named};
-use crate::vias::completed;
+use crate::vias::completed_value;
+use mmtel_base::{List, NoMemory, Text};
 use mmtel_lex::name_addr_ref;
-use mmtel_scan::{List, NoMemory, Text};
 use mmtel_types::Addr;
 use std::alloc::Global;
 use std::marker::Model;
 
 /// For how many lines a response has capacity at first.
-const ROOM: usize = 12;
+const LINES_CAPACITY: usize = 12;
 
 /// The parts of a response that its request does not determine.
 #[derive(Drop)]
@@ -70,7 +70,7 @@ fn add_completed(
     match vias {
         [] => Ok(()),
         [first, further @ ..] => {
-            let value = completed(alloc, source, first.1.bytes())?;
+            let value = completed_value(alloc, source, first.1.bytes())?;
             add_line(alloc, out, first.0.bytes(), value)?;
             append_lines(alloc, out, further)
         }
@@ -114,8 +114,8 @@ fn has_tag(value: &[u8]) -> bool
 /// # Errors
 ///
 /// Out of memory only.
-pub fn tagged(alloc: Global, value: Text, tag: &[u8]) -> Result<Text, NoMemory>
-    ensures value { IfOk result (λ t. t ≡ tagged value tag.now) }
+pub fn tagged_value(alloc: Global, value: Text, tag: &[u8]) -> Result<Text, NoMemory>
+    ensures value { IfOk result (λ t. t ≡ tagged_value value tag.now) }
 {
     let mut out = value;
     out.push(alloc, b";tag=")?;
@@ -134,7 +134,7 @@ fn to_value(alloc: Global, tag: &[u8], value: &[u8]) -> Result<Text, NoMemory>
                 return Text::of(alloc, value);
             }
             let value = Text::of(alloc, value)?;
-            tagged(alloc, value, tag)
+            tagged_value(alloc, value, tag)
         }
     }
 }
@@ -148,7 +148,7 @@ fn add_to_line(
     spelled: &[u8],
     value: &[u8],
 ) -> Result<(), NoMemory>
-    ensures { OnOk result (out.new ≡ out.old ++ map (to_line tag.now) (named (codes "To") ((spelled.now, value.now) ∷ []))) }
+    ensures { OnOk result (out.new ≡ out.old ++ map (to_line tag.now) (lines_named (codes "To") ((spelled.now, value.now) ∷ []))) }
 {
     if !is_named(spelled, b"To") {
         return Ok(());
@@ -164,7 +164,7 @@ fn add_to(
     tag: &[u8],
     lines: &Lines<'_>,
 ) -> Result<(), NoMemory>
-    ensures { OnOk result (out.new ≡ out.old ++ map (to_line tag.now) (named (codes "To") lines.now.values)) }
+    ensures { OnOk result (out.new ≡ out.old ++ map (to_line tag.now) (lines_named (codes "To") lines.now.values)) }
 {
     for i in 0..lines.len() {
         let (spelled, value) = lines.at(i);
@@ -197,15 +197,15 @@ fn add_call(alloc: Global, out: &mut List<Line>, lines: &Lines<'_>) -> Result<()
 }
 
 /// Adds the lines that are copied as received.
-#[tactic(auto, unfolding(crate::specs::Responses::heard_lines))]
-fn add_heard(
+#[tactic(auto, unfolding(crate::specs::Responses::copied_lines))]
+fn add_copied(
     alloc: Global,
     out: &mut List<Line>,
     source: Option<Addr>,
     tag: &[u8],
     lines: &Lines<'_>,
 ) -> Result<(), NoMemory>
-    ensures { OnOk result (out.new ≡ out.old ++ heard_lines source tag.now lines.now.values) }
+    ensures { OnOk result (out.new ≡ out.old ++ copied_lines source tag.now lines.now.values) }
 {
     add_vias(alloc, out, source, lines)?;
     add_parties(alloc, out, tag, lines)?;
@@ -270,15 +270,15 @@ fn add_contact(
 }
 
 /// Adds the response's own lines.
-#[tactic(auto, unfolding(crate::specs::Responses::own_lines))]
-fn add_own(
+#[tactic(auto, unfolding(crate::specs::Responses::own_fields))]
+fn add_own_fields(
     alloc: Global,
     out: &mut List<Line>,
     passed: &[Line],
     named: &[Line],
     body: &[u8],
 ) -> Result<(), NoMemory>
-    ensures { OnOk result (out.new ≡ out.old ++ own_lines passed.now named.now body.now) }
+    ensures { OnOk result (out.new ≡ out.old ++ own_fields passed.now named.now body.now) }
 {
     append_lines(alloc, out, passed)?;
     append_lines(alloc, out, named)?;
@@ -302,12 +302,12 @@ fn add_added(
 {
     add_routes(alloc, out, code, start, lines)?;
     add_contact(alloc, out, code, start, contact)?;
-    add_own(alloc, out, passed, named, body)
+    add_own_fields(alloc, out, passed, named, body)
 }
 
 /// The tag of a response of this code.
-fn tag_due(code: u16, tag: &[u8]) -> &[u8]
-    ensures { result.now ≡ tag_due code tag.now }
+fn tag_of_response(code: u16, tag: &[u8]) -> &[u8]
+    ensures { result.now ≡ tag_of_response code tag.now }
 {
     if code == 100 {
         return b"";
@@ -331,12 +331,12 @@ pub fn response(
 ) -> Result<Msg, NoMemory>
     ensures message { IfOk result (λ m. m ≡ response start.now lines.now.values reply.now) }
 {
-    let mut out = List::with_room(alloc, ROOM)?;
-    add_heard(
+    let mut out = List::with_capacity(alloc, LINES_CAPACITY)?;
+    add_copied(
         alloc,
         &mut out,
         reply.source,
-        tag_due(reply.code, reply.tag),
+        tag_of_response(reply.code, reply.tag),
         lines,
     )?;
     add_added(

@@ -1,21 +1,21 @@
 //! Start lines (RFC 3261 §7.1, §7.2 and §25.1).
 ghost use Rattle.std.specs.Prelude.{◌≡◌, Some};
-ghost use Rattle.mmtel_lex.specs.Reading.{Gives};
+ghost use Rattle.mmtel_lex.specs.Reading.{IsResult};
 ghost use Rattle.mmtel_message.specs.Starts.{status_at, request_at, start_at};
 ghost use Rattle.mmtel_message.specs.declared.messages.Start.TheVariants.{Request};
 
 use crate::headers::is_value;
 use crate::messages::Start;
+use mmtel_base::{Class, number_up_to, skip_byte, skip_text, split_once_at, split_run};
 use mmtel_lex::{LexFault, Text};
-use mmtel_scan::{Class, number_up_to, part, skip_byte, skip_text, split_run};
 use std::alloc::Global;
 
 /// Reads what follows `SIP/2.0 `.
 #[tactic(auto, unfolding(crate::specs::Starts::status_at))]
 fn status(alloc: Global, bytes: &[u8]) -> Result<Start, LexFault>
-    ensures { Gives (λ x. x) result (status_at bytes.now) }
+    ensures { IsResult (λ x. x) result (status_at bytes.now) }
 {
-    match part(b' ', bytes) {
+    match split_once_at(b' ', bytes) {
         None => Err(LexFault::Malformed),
         Some((digits, phrase)) => {
             if digits.len() != 3 {
@@ -43,7 +43,7 @@ fn status(alloc: Global, bytes: &[u8]) -> Result<Start, LexFault>
 
 /// The start line of a request of these parts.
 fn request_of(alloc: Global, method: &[u8], uri: &[u8]) -> Result<Start, LexFault>
-    ensures { Gives (λ x. x) result (Some (Request method.now uri.now)) }
+    ensures { IsResult (λ x. x) result (Some (Request method.now uri.now)) }
 {
     let method = Text::of(alloc, method)?;
     let uri = Text::of(alloc, uri)?;
@@ -53,7 +53,7 @@ fn request_of(alloc: Global, method: &[u8], uri: &[u8]) -> Result<Start, LexFaul
 /// Reads a request's start line.
 #[tactic(auto, unfolding(crate::specs::Starts::request_at, mmtel_lex::specs::Reading::token_at))]
 fn request(alloc: Global, bytes: &[u8]) -> Result<Start, LexFault>
-    ensures { Gives (λ x. x) result (request_at bytes.now) }
+    ensures { IsResult (λ x. x) result (request_at bytes.now) }
 {
     let (method, rest) = split_run(Class::Token, bytes);
     if method.is_empty() {
@@ -61,7 +61,7 @@ fn request(alloc: Global, bytes: &[u8]) -> Result<Start, LexFault>
     }
     match skip_byte(b' ', rest) {
         None => Err(LexFault::Malformed),
-        Some(rest) => match part(b' ', rest) {
+        Some(rest) => match split_once_at(b' ', rest) {
             None => Err(LexFault::Malformed),
             Some((uri, version)) => {
                 if uri.is_empty() {
@@ -79,7 +79,7 @@ fn request(alloc: Global, bytes: &[u8]) -> Result<Start, LexFault>
 /// Reads a start line.
 #[tactic(auto, unfolding(crate::specs::Starts::start_at))]
 pub fn start(alloc: Global, line: &[u8]) -> Result<Start, LexFault>
-    ensures { Gives (λ x. x) result (start_at line.now) }
+    ensures { IsResult (λ x. x) result (start_at line.now) }
 {
     match skip_text(b"SIP/2.0 ", line) {
         None => request(alloc, line),

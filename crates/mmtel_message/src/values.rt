@@ -3,13 +3,13 @@ ghost use Rattle.std.specs.Prelude.{◌≡◌, ◌∷◌, ◌++◌, ◌+◌, ◌
 ghost use Rattle.std.specs.List.{flat_map};
 ghost use Rattle.std.specs.Option.{option_copied};
 ghost use Rattle.mmtel_message.specs.Headers.{trim};
-ghost use Rattle.mmtel_message.specs.Held.{at_place};
-ghost use Rattle.mmtel_message.specs.Values.{mode_after, is_parting, base, parting, separator, parts, rest_parts, values_in, values_from, joined_by};
+ghost use Rattle.mmtel_message.specs.Held.{bytes_at};
+ghost use Rattle.mmtel_message.specs.Values.{mode_after, is_separator, base, next_separator, separator, parts, rest_parts, values_in, values_from, joined_by};
 
 use crate::held::Span;
 use memchr::memchr;
+use mmtel_base::{Class, split_run, trim, trim_end};
 use mmtel_lex::{List, NoMemory, Text};
-use mmtel_scan::{Class, split_run, trim, trim_end};
 use std::alloc::Global;
 
 /// Where in a text with several values a byte is, which decides whether it separates two of them.
@@ -65,8 +65,8 @@ impl Mode {
 }
 
 /// Whether the byte separates two values.
-fn is_parting(mode: Mode, byte: u8) -> bool
-    ensures { result ≡ is_parting mode byte }
+fn is_separator(mode: Mode, byte: u8) -> bool
+    ensures { result ≡ is_separator mode byte }
 {
     match mode {
         Mode::Plain => byte == b',',
@@ -86,13 +86,13 @@ fn base(mode: Mode) -> Mode
 }
 
 /// The place of the first byte that separates, searched byte by byte.
-fn walked_parting(mode: Mode, bytes: &[u8]) -> Option<usize>
-    ensures place { result ≡ parting mode bytes.now }
+fn walked_separator(mode: Mode, bytes: &[u8]) -> Option<usize>
+    ensures place { result ≡ next_separator mode bytes.now }
     ensures within { IfSome result (λ n. n < length bytes.now) }
 {
     let mut current = mode;
     for (i, byte) in bytes.iter().enumerate() {
-        if is_parting(current, *byte) {
+        if is_separator(current, *byte) {
             return Some(i);
         }
         current = current.after(*byte);
@@ -111,13 +111,13 @@ fn separator(mode: Mode) -> u8
 }
 
 /// The place of the first byte that separates. Most texts have no byte that may, which one search decides.
-fn parting(mode: Mode, bytes: &[u8]) -> Option<usize>
-    ensures place { result ≡ parting mode bytes.now }
+fn next_separator(mode: Mode, bytes: &[u8]) -> Option<usize>
+    ensures place { result ≡ next_separator mode bytes.now }
     ensures within { IfSome result (λ n. n < length bytes.now) }
 {
     match memchr(separator(mode), bytes) {
         None => None,
-        Some(_) => walked_parting(mode, bytes),
+        Some(_) => walked_separator(mode, bytes),
     }
 }
 
@@ -126,17 +126,17 @@ pub fn next_part(mode: Mode, bytes: &[u8]) -> (&[u8], Option<&[u8]>)
     ensures parts { parts mode bytes.now ≡ result.0.now ∷ rest_parts (base mode) (option_copied result.1) }
     ensures shorter { IfSome result.1 (λ rest. length rest.now < length bytes.now) }
 {
-    match parting(mode, bytes) {
+    match next_separator(mode, bytes) {
         None => (bytes, None),
         Some(at) => (&bytes[..at], Some(&bytes[at + 1..])),
     }
 }
 
 /// The place of the part of a text from one place to another, without the blanks around it.
-pub fn trimmed_place(text: &[u8], from: usize, to: usize) -> Span
+pub fn trimmed_span(text: &[u8], from: usize, to: usize) -> Span
     requires order { from ≤ to }
     requires within { to ≤ length text.now }
-    ensures bytes { at_place text.now result ≡ trim (take (to - from) (drop from text.now)) }
+    ensures bytes { bytes_at text.now result ≡ trim (take (to - from) (drop from text.now)) }
     ensures within { result.from + result.len ≤ length text.now }
 {
     let (blanks, rest) = split_run(Class::Blank, &text[from..to]);
@@ -150,14 +150,14 @@ pub fn trimmed_place(text: &[u8], from: usize, to: usize) -> Span
 pub fn next_value(mode: Mode, text: &[u8], from: usize) -> (Span, Option<usize>)
     requires base { base mode ≡ mode }
     requires within { from ≤ length text.now }
-    ensures values { values_in mode (drop from text.now) ≡ at_place text.now result.0 ∷ values_from mode text.now result.1 }
+    ensures values { values_in mode (drop from text.now) ≡ bytes_at text.now result.0 ∷ values_from mode text.now result.1 }
     ensures inside { result.0.from + result.0.len ≤ length text.now }
     ensures later { IfSome result.1 (λ n. from < n) }
     ensures next_within { IfSome result.1 (λ n. n ≤ length text.now) }
 {
-    match parting(mode, &text[from..]) {
-        None => (trimmed_place(text, from, text.len()), None),
-        Some(at) => (trimmed_place(text, from, from + at), Some(from + at + 1)),
+    match next_separator(mode, &text[from..]) {
+        None => (trimmed_span(text, from, text.len()), None),
+        Some(at) => (trimmed_span(text, from, from + at), Some(from + at + 1)),
     }
 }
 

@@ -2,12 +2,12 @@
 ghost use Rattle.std.specs.Prelude.{◌≡◌, ◌&&◌, ◌++◌, not, IfOk, OnOk, codes};
 ghost use Rattle.std.specs.List.{flat_map, list_any};
 ghost use Rattle.std.specs.Str.{str_eq_ignore_ascii_case};
-ghost use Rattle.mmtel_message.specs.Vias.{asks_port, completed, is_from, is_received, sourced, sourced_param_text, sourced_text, via_value};
+ghost use Rattle.mmtel_message.specs.Vias.{asks_port, completed_value, is_from, is_received, sourced_param_text, sourced_text, sourced_via, via_value};
 
 use crate::addresses::ip_text;
 use crate::fields::{Via, read_via};
+use mmtel_base::{NoMemory, Text, add_number};
 use mmtel_lex::{LexFault, Param};
-use mmtel_scan::{NoMemory, Text, add_number};
 use mmtel_types::Addr;
 use std::alloc::Global;
 
@@ -77,8 +77,8 @@ fn sourced_text(alloc: Global, source: Addr, via: &Via) -> Result<Text, NoMemory
 }
 
 /// The Via with the port in each empty `rport`, and last the address.
-fn sourced(alloc: Global, source: Addr, via: &Via) -> Result<Text, NoMemory>
-    ensures { IfOk result (λ t. t ≡ via_value (sourced source via.now)) }
+fn sourced_via(alloc: Global, source: Addr, via: &Via) -> Result<Text, NoMemory>
+    ensures { IfOk result (λ t. t ≡ via_value (sourced_via source via.now)) }
 {
     sourced_text(alloc, source, via)
 }
@@ -103,16 +103,16 @@ fn is_from(alloc: Global, source: Addr, via: &Via) -> Result<bool, NoMemory>
 /// # Errors
 ///
 /// Out of memory only.
-#[tactic(auto, unfolding(crate::specs::Vias::completed))]
-pub fn completed(alloc: Global, source: Addr, value: &[u8]) -> Result<Text, NoMemory>
-    ensures value { IfOk result (λ t. t ≡ completed source value.now) }
+#[tactic(auto, unfolding(crate::specs::Vias::completed_value))]
+pub fn completed_value(alloc: Global, source: Addr, value: &[u8]) -> Result<Text, NoMemory>
+    ensures value { IfOk result (λ t. t ≡ completed_value source value.now) }
 {
     match read_via(alloc, value) {
         Ok(via) => {
             if is_from(alloc, source, &via)? {
                 Text::of(alloc, value)
             } else {
-                sourced(alloc, source, &via)
+                sourced_via(alloc, source, &via)
             }
         }
         Err(LexFault::Malformed) => Text::of(alloc, value),

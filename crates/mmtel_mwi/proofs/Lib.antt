@@ -1,6 +1,6 @@
 mod Keys
-mod Mailing
+mod MailboxMaps
 mod Places
-mod Standing
+mod Operations
 mod Tables
-mod Told
+mod Reports

@@ -3,7 +3,7 @@ use Rattle.std.proofs.Common.{◌≡◌, Bool, ℕ, suc, ◌+◌, List, [], ◌�
 use Rattle.std.proofs.lemmas.Bool.{cases_Bool}
 use Rattle.std.specs.Prelude.{find, position}
 use Rattle.std.specs.Option.{option_map}
-use Rattle.mmtel_scan.proofs.Positions.{position_yes, position_no}
+use Rattle.mmtel_base.proofs.Positions.{position_yes, position_no}
 use Rattle.mmtel_mwi.specs.Boxes.{changed, without}
 
 same_some : {X : Type 0} (a b : X) → Some a ≡ Some b → a ≡ b

@@ -4,7 +4,7 @@ use Rattle.std.specs.Prelude.{◌≡◌, ℕ, List, Option, Some, None, Ok, Err,
 use Rattle.std.specs.Str.{bytes_eq, is_utf8}
 use Rattle.toml.specs.Data.{Data, Members, no_members, member}
 use Rattle.toml.specs.Parse.{parse_document}
-use Rattle.mmtel_sheet_grammar.specs.Answers.{Read, then_do}
+use Rattle.mmtel_sheet_grammar.specs.ReadResults.{Read, then_read}
 use Rattle.mmtel_sheet_grammar.specs.Elements.{number_at}
 use Rattle.mmtel_sheet_grammar.specs.declared.faults.SheetFault.{SheetFault}
 use Rattle.mmtel_sheet_grammar.specs.declared.faults.SheetFault.TheVariants.{NotToml, Unknown, Wrong, Many, NoMemory}
@@ -15,18 +15,18 @@ abbrev pub no_messages : Counts
 no_messages = record { fresh = 0; old = 0; urgent_fresh = 0; urgent_old = 0 }
 
 -- a key: an urgent count is at most the one that it is a part of
-abbrev pub count_read : List ℕ → Counts → Data → Read Counts
-count_read k c d =
-    if bytes_eq k (codes "new") then then_do (number_at 0 999_999_999 k d) (λ n. Ok (record c { fresh = n }))
-    else if bytes_eq k (codes "old") then then_do (number_at 0 999_999_999 k d) (λ n. Ok (record c { old = n }))
-    else if bytes_eq k (codes "urgent-new") then then_do (number_at 0 c.fresh k d) (λ n. Ok (record c { urgent_fresh = n }))
-    else if bytes_eq k (codes "urgent-old") then then_do (number_at 0 c.old k d) (λ n. Ok (record c { urgent_old = n }))
+abbrev pub counts_after_key : List ℕ → Counts → Data → Read Counts
+counts_after_key k c d =
+    if bytes_eq k (codes "new") then then_read (number_at 0 999_999_999 k d) (λ n. Ok (record c { fresh = n }))
+    else if bytes_eq k (codes "old") then then_read (number_at 0 999_999_999 k d) (λ n. Ok (record c { old = n }))
+    else if bytes_eq k (codes "urgent-new") then then_read (number_at 0 c.fresh k d) (λ n. Ok (record c { urgent_fresh = n }))
+    else if bytes_eq k (codes "urgent-old") then then_read (number_at 0 c.old k d) (λ n. Ok (record c { urgent_old = n }))
     else Err (Unknown k)
 
 -- the keys, one after another
 abbrev pub counts_from : Counts → Members → Read Counts
 counts_from c no_members = Ok c
-counts_from c (member k d ms) = then_do (count_read k c d) (λ e. counts_from e ms)
+counts_from c (member k d ms) = then_read (counts_after_key k c d) (λ e. counts_from e ms)
 
 -- the counts of a document, or its first fault
 abbrev pub counts_of : Members → Read Counts
@@ -40,14 +40,14 @@ document_counts (Some ms) = counts_of ms
 unfoldable pub counts_read : List ℕ → Read Counts
 counts_read bytes = if is_utf8 bytes then document_counts (parse_document bytes) else Err NotToml
 
-abbrev pub TellsFault : Read Counts → SheetFault → Type 0
-TellsFault wanted NotToml = wanted ≡ Err NotToml
-TellsFault wanted (Unknown key) = wanted ≡ Err (Unknown key)
-TellsFault wanted (Wrong key) = wanted ≡ Err (Wrong key)
-TellsFault wanted (Many key limit) = wanted ≡ Err (Many key limit)
-TellsFault wanted NoMemory = Unit {0}
+abbrev pub ReportsFault : Read Counts → SheetFault → Type 0
+ReportsFault wanted NotToml = wanted ≡ Err NotToml
+ReportsFault wanted (Unknown key) = wanted ≡ Err (Unknown key)
+ReportsFault wanted (Wrong key) = wanted ≡ Err (Wrong key)
+ReportsFault wanted (Many key limit) = wanted ≡ Err (Many key limit)
+ReportsFault wanted NoMemory = Unit {0}
 
 -- this is returned, unless memory runs out
-abbrev pub TellsCounts : Read Counts → Read Counts → Type 0
-TellsCounts wanted (Ok c) = wanted ≡ Ok c
-TellsCounts wanted (Err e) = TellsFault wanted e
+abbrev pub ReportsCounts : Read Counts → Read Counts → Type 0
+ReportsCounts wanted (Ok c) = wanted ≡ Ok c
+ReportsCounts wanted (Err e) = ReportsFault wanted e

@@ -1,18 +1,19 @@
 //! Mailboxes, and the subscriptions to them.
 ghost use Rattle.std.specs.Prelude.{◌≡◌, IfErr, IfOk, OnErr, OnOk, true, false, find, is_some};
 ghost use Rattle.std.specs.Option.{option_map};
-ghost use Rattle.mmtel_mwi.specs.Boxes.{answered, asked_by, counts_in, ended, ended_by, found, has_branch, heard, is_full, is_live, is_numbered, left, left_by, left_of};
-ghost use Rattle.mmtel_mwi.specs.Boxes.{next_sub, nothing, notice, peer_of, put, refreshed, refused_by, says, says_full, set_by, subscribed, subscribers_of, told};
+ghost use Rattle.mmtel_mwi.specs.Boxes.{counts_in, ended_leg, ended_leg_if, ended_leg_of, has_branch, is_full, is_live, is_numbered, number_with_dialog, pending_subscription, table_after_end, table_after_end_if, table_after_request, table_after_response};
+ghost use Rattle.mmtel_mwi.specs.Boxes.{empty_table, is_full_fault, next_sub, notify_request, peer_of, request_check, set_by, subscribers_of, subscription_refused_by, table_after_notify, table_after_refresh, with_counts, with_subscription};
 ghost use Rattle.mmtel_mwi.specs.Boxes.{with_table, without};
 
 use crate::counts::Counts;
 use crate::mailboxes::Mailboxes;
 use crate::subscriptions::{
-    Asked, Subscription, asked_with, held, named, place_asked, place_of, subscribers_in,
+    PendingNotify, Subscription, pending_with_branch, place_of, place_pending, subscribers_in,
+    subscription_numbered, subscription_with_dialog,
 };
+use mmtel_base::{List, NoMemory, Text};
 use mmtel_leg::{CallerLeg, DialogName, DialogueFault, Ended, Standing};
 use mmtel_message::Msg;
-use mmtel_scan::{List, NoMemory, Text};
 use mmtel_types::{Account, Addr, Cause, Moment, Peer, SubNo};
 use std::alloc::Global;
 use std::marker::Model;
@@ -35,7 +36,7 @@ pub struct Boxes {
     mailboxes: Mailboxes,
     made: u64,
     live: Vec<Subscription>,
-    asked: Vec<Asked>,
+    pending: Vec<PendingNotify>,
 }
 
 impl Model for Boxes {
@@ -47,26 +48,26 @@ impl Model for Boxes {
     ghost use Rattle.mmtel_mwi.specs.contracts.mailboxes.Mailboxes as boxes;
     ghost use Rattle.mmtel_mwi.specs.contracts.subscriptions.Asked as notice;
     ghost use Rattle.mmtel_mwi.specs.contracts.subscriptions.Subscription as subscription;
-    ghost use Rattle.mmtel_mwi.specs.declared.subscriptions.Asked.{Asked};
+    ghost use Rattle.mmtel_mwi.specs.declared.subscriptions.PendingNotify.{PendingNotify};
     ghost use Rattle.mmtel_mwi.specs.declared.subscriptions.Subscription.{Subscription};
 
     ghost Value = { BoxesView };
 
-    ghost coded = { code_by (Addr × (Mailboxes × (ℕ × (List Subscription × List Asked))))
-        (coded× addr.the_row.coded (coded× boxes.the_row.coded (coded× coded_ℕ (coded× (coded_list subscription.the_row.coded) (coded_list notice.the_row.coded)))))
-        (λ b. (b.sip, (b.table.mailboxes, (b.table.made, (b.table.live, b.table.asked)))))
-        (λ p. record { sip = p.0; table = record { mailboxes = p.1.0; made = p.1.1.0; live = p.1.1.1.0; asked = p.1.1.1.1 } }) (λ _. refl) };
+    ghost coded = { code_by (Addr × (Mailboxes × (ℕ × (List Subscription × List PendingNotify))))
+        (coded× addr.the_row.coded (coded× boxes.the_row.coded (coded× coded_ℕ (coded× (coded_list subscription.the_row.coded) (coded_list notify_request.the_row.coded)))))
+        (λ b. (b.sip, (b.table.mailboxes, (b.table.made, (b.table.live, b.table.pending)))))
+        (λ p. record { sip = p.0; table = record { mailboxes = p.1.0; made = p.1.1.0; live = p.1.1.1.0; pending = p.1.1.1.1 } }) (λ _. refl) };
 
     ghost view = { λ b. record {
       sip = b.sip;
-      table = record { mailboxes = b.mailboxes; made = b.made; live = b.live.items; asked = b.asked.items };
+      table = record { mailboxes = b.mailboxes; made = b.made; live = b.live.items; pending = b.pending.items };
     } };
 }
 
 /// Removes the subscription of this number, and ends it.
-fn take_out(live: &mut Vec<Subscription>, sub: SubNo) -> Option<Ended>
+fn remove_subscription(live: &mut Vec<Subscription>, sub: SubNo) -> Option<Ended>
     ensures rest { live.new.items ≡ without (is_numbered sub) live.old.items }
-    ensures left { result ≡ option_map left_of (find (is_numbered sub) live.old.items) }
+    ensures left { result ≡ option_map ended_leg (find (is_numbered sub) live.old.items) }
 {
     match place_of(live.as_slice(), sub) {
         None => None,
@@ -75,12 +76,12 @@ fn take_out(live: &mut Vec<Subscription>, sub: SubNo) -> Option<Ended>
 }
 
 /// Removes the NOTIFY with this branch from those that wait for a final response.
-fn settle(asked: &mut Vec<Asked>, branch: &[u8])
-    ensures { asked.new.items ≡ without (has_branch branch.now) asked.old.items }
+fn remove_pending(pending: &mut Vec<PendingNotify>, branch: &[u8])
+    ensures { pending.new.items ≡ without (has_branch branch.now) pending.old.items }
 {
-    match place_asked(asked.as_slice(), branch) {
+    match place_pending(pending.as_slice(), branch) {
         None => {}
-        Some(place) => drop(asked.remove(place)),
+        Some(place) => drop(pending.remove(place)),
     }
 }
 
@@ -93,7 +94,7 @@ fn beginning() -> Moment {
 }
 
 /// Spends what remains of the leg of a subscription, for which nobody is charged: a meter, if one ran, is closed and its CDR discarded. It allocates nothing.
-pub fn let_go(ended: Ended) {
+pub fn drop_ended(ended: Ended) {
     let Ended { meter } = ended;
     match meter {
         None => {}
@@ -104,14 +105,14 @@ pub fn let_go(ended: Ended) {
 impl Boxes {
     /// Nothing was uploaded for any mailbox, and nobody has subscribed, at a server with this address. It allocates nothing.
     pub fn new(alloc: Global, sip: Addr) -> Boxes
-        ensures nothing { result ≡ record { sip = sip; table = nothing } }
+        ensures nothing { result ≡ record { sip = sip; table = empty_table } }
     {
         Boxes {
             sip,
             mailboxes: Mailboxes::new(alloc),
             made: 0,
             live: Vec::new(alloc),
-            asked: Vec::new(alloc),
+            pending: Vec::new(alloc),
         }
     }
 
@@ -120,18 +121,18 @@ impl Boxes {
     /// # Errors
     ///
     /// Out of memory only; nothing has changed then.
-    pub fn put(&mut self, a: Account, c: Counts) -> Result<(), NoMemory>
-        ensures put { OnOk result (self.new ≡ with_table self.old (put a c self.old.table)) }
+    pub fn put(&mut self, account: Account, counts: Counts) -> Result<(), NoMemory>
+        ensures put { OnOk result (self.new ≡ with_table self.old (with_counts account counts self.old.table)) }
         ensures refused { OnErr result (self.new ≡ self.old) }
     {
-        self.mailboxes.put(a, c)
+        self.mailboxes.put(account, counts)
     }
 
     /// How many messages wait in the mailbox of the account; none where nothing was uploaded for it. It allocates nothing.
-    pub fn counts(&self, a: Account) -> Counts
-        ensures counts { result ≡ counts_in a self.now.table }
+    pub fn counts(&self, account: Account) -> Counts
+        ensures counts { result ≡ counts_in account self.now.table }
     {
-        self.mailboxes.counts(a)
+        self.mailboxes.counts(account)
     }
 
     /// Whether the maximum number of subscriptions is active. It allocates nothing.
@@ -149,14 +150,14 @@ impl Boxes {
     /// all numbers are used: 2^64 - 1 subscriptions are made in all.
     pub fn subscribe(
         &mut self,
-        a: Account,
+        account: Account,
         leg: CallerLeg<Standing>,
         until: Moment,
     ) -> Result<SubNo, (CallerLeg<Standing>, SubFault)>
         ensures number { IfOk result (λ sub. sub ≡ next_sub self.old.table) }
-        ensures subscribed { OnOk result (self.new ≡ with_table self.old (subscribed a leg until self.old.table)) }
+        ensures subscribed { OnOk result (self.new ≡ with_table self.old (with_subscription account leg until self.old.table)) }
         ensures room { OnOk result (is_full self.old.table ≡ false) }
-        ensures full { IfErr result (λ refused. says_full refused.1 ≡ is_full self.old.table) }
+        ensures full { IfErr result (λ refused. is_full_fault refused.1 ≡ is_full self.old.table) }
         ensures refused { OnErr result (self.new ≡ self.old) }
         ensures handed_back { IfErr result (λ refused. refused.0 ≡ leg) }
     {
@@ -171,7 +172,7 @@ impl Boxes {
         }
         let sub = SubNo(number);
         self.live
-            .push_reserved(Subscription::of(sub, a, leg, until));
+            .push_reserved(Subscription::of(sub, account, leg, until));
         self.made = number;
         Ok(sub)
     }
@@ -179,24 +180,24 @@ impl Boxes {
     /// The active subscription whose dialog has this Call-ID, this tag of the server and this tag of the other side (RFC 3261 §12); None exactly where there is none. It
     /// allocates nothing.
     pub fn find(&self, call_id: &[u8], local: &[u8], remote: &[u8]) -> Option<SubNo>
-        ensures found { result ≡ found call_id.now local.now remote.now self.now.table }
+        ensures found { result ≡ number_with_dialog call_id.now local.now remote.now self.now.table }
     {
         let name = DialogName {
             call_id,
             local,
             remote,
         };
-        match named(&self.live, name) {
+        match subscription_with_dialog(&self.live, name) {
             None => None,
             Some(one) => Some(one.number),
         }
     }
 
     /// The peer of the subscriber; None exactly where the subscription is not active. It allocates nothing.
-    pub fn peer(&self, s: SubNo) -> Option<Peer>
-        ensures peer { result ≡ peer_of s self.now.table }
+    pub fn peer(&self, sub: SubNo) -> Option<Peer>
+        ensures peer { result ≡ peer_of sub self.now.table }
     {
-        match held(&self.live, s) {
+        match subscription_numbered(&self.live, sub) {
             None => None,
             Some(one) => Some(one.leg.peer()),
         }
@@ -204,10 +205,10 @@ impl Boxes {
 
     /// The number of the SUBSCRIBE that set until when the subscription is active, counted from 1 within the subscription; None exactly where it is not active. A timer that an
     /// earlier SUBSCRIBE set has no effect any more. It allocates nothing.
-    pub fn set_by(&self, s: SubNo) -> Option<u64>
-        ensures set_by { result ≡ set_by s self.now.table }
+    pub fn set_by(&self, sub: SubNo) -> Option<u64>
+        ensures set_by { result ≡ set_by sub self.now.table }
     {
-        match held(&self.live, s) {
+        match subscription_numbered(&self.live, sub) {
             None => None,
             Some(one) => Some(one.set),
         }
@@ -218,27 +219,27 @@ impl Boxes {
     /// # Errors
     ///
     /// `OldCSeq` where its CSeq number is lower than that of the last request that was accepted (RFC 3261 §12.2.2); nothing has changed then.
-    pub fn heard(&mut self, s: SubNo, m: &Msg) -> Result<(), DialogueFault>
-        requires { is_live s self.old.table ≡ true }
-        ensures answer { result ≡ says s m.now self.old.table }
-        ensures heard { OnOk result (self.new ≡ with_table self.old (heard s m.now self.old.table)) }
+    pub fn heard(&mut self, sub: SubNo, request: &Msg) -> Result<(), DialogueFault>
+        requires { is_live sub self.old.table ≡ true }
+        ensures answer { result ≡ request_check sub request.now self.old.table }
+        ensures received { OnOk result (self.new ≡ with_table self.old (table_after_request sub request.now self.old.table)) }
         ensures refused { OnErr result (self.new ≡ self.old) }
     {
-        match place_of(&self.live, s) {
+        match place_of(&self.live, sub) {
             None => unreachable!(),
-            Some(place) => self.live[place].hear(m),
+            Some(place) => self.live[place].receive(request),
         }
     }
 
     /// Sets a new moment until which a subscription is active; false exactly where it is not active. It allocates nothing.
-    pub fn refresh(&mut self, s: SubNo, until: Moment) -> bool
-        ensures live { result ≡ is_live s self.old.table }
-        ensures refreshed { self.new ≡ with_table self.old (refreshed s until self.old.table) }
+    pub fn refresh(&mut self, sub: SubNo, until: Moment) -> bool
+        ensures live { result ≡ is_live sub self.old.table }
+        ensures refreshed { self.new ≡ with_table self.old (table_after_refresh sub until self.old.table) }
     {
-        match place_of(&self.live, s) {
+        match place_of(&self.live, sub) {
             None => false,
             Some(place) => {
-                self.live[place].last(until);
+                self.live[place].renew_until(until);
                 true
             }
         }
@@ -249,10 +250,10 @@ impl Boxes {
     /// # Errors
     ///
     /// Out of memory only.
-    pub fn subscribers(&self, alloc: Global, a: Account) -> Result<List<SubNo>, NoMemory>
-        ensures subscribers { IfOk result (λ l. l ≡ subscribers_of a self.now.table) }
+    pub fn subscribers(&self, alloc: Global, account: Account) -> Result<List<SubNo>, NoMemory>
+        ensures subscribers { IfOk result (λ l. l ≡ subscribers_of account self.now.table) }
     {
-        subscribers_in(alloc, &self.live, a)
+        subscribers_in(alloc, &self.live, account)
     }
 
     /// The NOTIFY that reports to the subscriber how many messages wait, with this branch after the magic cookie (RFC 6665 §4.2.2); None exactly where the subscription is not
@@ -264,26 +265,26 @@ impl Boxes {
     pub fn tell(
         &mut self,
         alloc: Global,
-        s: SubNo,
+        sub: SubNo,
         last: bool,
         branch: &Text,
         now: Moment,
     ) -> Result<Option<Msg>, NoMemory>
-        ensures notice { IfOk result (λ m. m ≡ notice self.old.sip s last branch.now now self.old.table) }
-        ensures told { OnOk result (self.new ≡ with_table self.old (told s branch.now self.old.table)) }
+        ensures notice { IfOk result (λ m. m ≡ notify_request self.old.sip sub last branch.now now self.old.table) }
+        ensures reported { OnOk result (self.new ≡ with_table self.old (table_after_notify sub branch.now self.old.table)) }
         ensures refused { OnErr result (self.new ≡ self.old) }
     {
-        let Some(place) = place_of(&self.live, s) else {
+        let Some(place) = place_of(&self.live, sub) else {
             return Ok(None);
         };
         let counts = self.mailboxes.counts(self.live[place].account);
-        self.asked.reserve(1)?;
+        self.pending.reserve(1)?;
         let kept = branch.copied(alloc)?;
-        match self.live[place].tell(alloc, self.sip, branch, last, now, &counts) {
+        match self.live[place].notify(alloc, self.sip, branch, last, now, &counts) {
             Ok(message) => {
-                self.asked.push_reserved(Asked {
+                self.pending.push_reserved(PendingNotify {
                     branch: kept,
-                    sub: s,
+                    sub: sub,
                 });
                 Ok(Some(message))
             }
@@ -295,29 +296,29 @@ impl Boxes {
     }
 
     /// Ends a subscription and returns what remains of its leg; None exactly where it is not active. It allocates nothing.
-    pub fn end(&mut self, s: SubNo) -> Option<Ended>
-        ensures left { result ≡ left s self.old.table }
-        ensures ended { self.new ≡ with_table self.old (ended s self.old.table) }
+    pub fn end(&mut self, sub: SubNo) -> Option<Ended>
+        ensures left { result ≡ ended_leg_of sub self.old.table }
+        ensures ended { self.new ≡ with_table self.old (table_after_end sub self.old.table) }
     {
-        take_out(&mut self.live, s)
+        remove_subscription(&mut self.live, sub)
     }
 
     /// Whether a NOTIFY with this branch after the magic cookie has no final response yet. It allocates nothing.
-    pub fn waits(&self, branch: &[u8]) -> bool
-        ensures waits { result ≡ is_some (asked_by branch.now self.now.table) }
+    pub fn is_pending(&self, branch: &[u8]) -> bool
+        ensures waits { result ≡ is_some (pending_subscription branch.now self.now.table) }
     {
-        asked_with(&self.asked, branch).is_some()
+        pending_with_branch(&self.pending, branch).is_some()
     }
 
     /// Ends the subscription whose NOTIFY with this branch is refused, if this status refuses it.
     fn refuse(&mut self, branch: &[u8], code: u16) -> Option<Ended>
-        ensures left { result ≡ left_by (refused_by branch.now code self.old.table) self.old.table }
-        ensures ended { self.new ≡ with_table self.old (ended_by (refused_by branch.now code self.old.table) self.old.table) }
+        ensures left { result ≡ ended_leg_if (subscription_refused_by branch.now code self.old.table) self.old.table }
+        ensures ended { self.new ≡ with_table self.old (table_after_end_if (subscription_refused_by branch.now code self.old.table) self.old.table) }
     {
         if code < 300 {
             return None;
         }
-        match asked_with(&self.asked, branch) {
+        match pending_with_branch(&self.pending, branch) {
             None => None,
             Some(one) => {
                 let sub = one.sub;
@@ -329,14 +330,14 @@ impl Boxes {
     /// The NOTIFY with this branch got a response with this status, 408 where it timed out. A final response is the last, and one from 300 ends the subscription (RFC 6665
     /// §4.2.2). It allocates nothing.
     pub fn answered(&mut self, branch: &[u8], code: u16) -> Option<Ended>
-        ensures left { result ≡ left_by (refused_by branch.now code self.old.table) self.old.table }
-        ensures answered { self.new ≡ with_table self.old (answered branch.now code self.old.table) }
+        ensures left { result ≡ ended_leg_if (subscription_refused_by branch.now code self.old.table) self.old.table }
+        ensures answered { self.new ≡ with_table self.old (table_after_response branch.now code self.old.table) }
     {
         if code < 200 {
             return None;
         }
         let ended = self.refuse(branch, code);
-        settle(&mut self.asked, branch);
+        remove_pending(&mut self.pending, branch);
         ended
     }
 
@@ -347,13 +348,13 @@ impl Boxes {
             mailboxes,
             made: _,
             live,
-            asked,
+            pending: asked,
         } = self;
         drop(mailboxes);
         drop(asked);
         let mut live = live;
         'given: while let Some(one) = live.pop() {
-            let_go(one.leave());
+            drop_ended(one.leave());
         }
         live.destroy_empty();
     }

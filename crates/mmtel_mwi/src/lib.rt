@@ -4,20 +4,20 @@
 
 mod boxes;
 mod counts;
-mod laws;
 mod mailboxes;
-mod notices;
+mod notifies;
 mod reading;
 mod subscribing;
 mod subscriptions;
+mod theorems;
 
-pub use boxes::{Boxes, SUBSCRIPTIONS, SubFault, let_go};
+pub use boxes::{Boxes, SUBSCRIPTIONS, SubFault, drop_ended};
 pub use counts::Counts;
-pub use laws::{
-    a_refresh_makes_no_subscription, notices_tell_what_was_said_last, numbers_are_given_once,
+pub use mmtel_types::SubNo;
+pub use notifies::summary;
+pub use reading::read_counts;
+pub use subscribing::{SubscribeRequest, granted_seconds, refusal};
+pub use theorems::{
+    a_refresh_makes_no_subscription, notifies_have_the_last_counts, numbers_are_given_once,
     the_last_upload_counts,
 };
-pub use mmtel_types::SubNo;
-pub use notices::summary;
-pub use reading::read_counts;
-pub use subscribing::{Asks, granted, refusal};

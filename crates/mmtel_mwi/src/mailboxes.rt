@@ -1,10 +1,10 @@
 //! The counts that were uploaded for each mailbox.
 ghost use Rattle.std.specs.Prelude.{◌≡◌, OnErr, OnOk};
 ghost use Rattle.std.specs.FinMap as finite;
-ghost use Rattle.mmtel_mwi.specs.Boxes.{or_none};
+ghost use Rattle.mmtel_mwi.specs.Boxes.{or_zero};
 
 use crate::counts::Counts;
-use mmtel_scan::NoMemory;
+use mmtel_base::NoMemory;
 use mmtel_types::Account;
 use std::alloc::Global;
 use std::collections::BTreeMap;
@@ -54,7 +54,7 @@ impl Mailboxes {
 
     /// The counts that were uploaded last for it; no message waits where nothing was uploaded.
     pub fn counts(&self, account: Account) -> Counts
-        ensures { result ≡ or_none (finite.get self.now account.0) }
+        ensures { result ≡ or_zero (finite.get self.now account.0) }
     {
         match self.kept.get(&account.0) {
             None => Counts::none(),

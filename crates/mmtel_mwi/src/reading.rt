@@ -1,10 +1,10 @@
 //! Reading the counts of a mailbox.
 ghost use Rattle.std.specs.Prelude.{Err, IsErr};
 ghost use Rattle.toml.specs.View.{view, table_view};
-ghost use Rattle.mmtel_sheet_grammar.specs.Answers.{Answers};
+ghost use Rattle.mmtel_sheet_grammar.specs.ReadResults.{IsReadResult};
 ghost use Rattle.mmtel_sheet_grammar.specs.Elements.{number_at};
 ghost use Rattle.mmtel_sheet_grammar.specs.declared.faults.SheetFault.TheVariants as fault;
-ghost use Rattle.mmtel_mwi.specs.Counting.{TellsCounts, count_read, counts_of, counts_read};
+ghost use Rattle.mmtel_mwi.specs.Counting.{ReportsCounts, counts_after_key, counts_of, counts_read};
 
 use crate::counts::Counts;
 use mmtel_lex::Text;
@@ -13,11 +13,11 @@ use std::alloc::Global;
 use toml::{Table, Value};
 
 /// The largest count of a mailbox.
-const MOST: u32 = 999_999_999;
+const MAX_COUNT: u32 = 999_999_999;
 
 /// The value at the key is refused as wrong.
 fn wrong(alloc: Global, key: &str) -> Result<u32, SheetFault>
-    ensures fault { Answers (Err (fault.Wrong key.now)) result }
+    ensures fault { IsReadResult (Err (fault.Wrong key.now)) result }
     ensures refused { IsErr result }
 {
     match Text::of(alloc, key.as_bytes()) {
@@ -28,7 +28,7 @@ fn wrong(alloc: Global, key: &str) -> Result<u32, SheetFault>
 
 /// The key is refused as not listed.
 fn unknown(alloc: Global, key: &str) -> Result<Counts, SheetFault>
-    ensures fault { Answers (Err (fault.Unknown key.now)) result }
+    ensures fault { IsReadResult (Err (fault.Unknown key.now)) result }
     ensures refused { IsErr result }
 {
     match Text::of(alloc, key.as_bytes()) {
@@ -38,14 +38,14 @@ fn unknown(alloc: Global, key: &str) -> Result<Counts, SheetFault>
 }
 
 /// A number of messages, up to a maximum.
-fn count(alloc: Global, key: &str, value: &Value, most: u32) -> Result<u32, SheetFault>
-    ensures { Answers (number_at 0 most key.now (view value.now)) result }
+fn count(alloc: Global, key: &str, value: &Value, max: u32) -> Result<u32, SheetFault>
+    ensures { IsReadResult (number_at 0 max key.now (view value.now)) result }
 {
     let Value::Integer(number) = value else {
         return wrong(alloc, key);
     };
     let number = *number;
-    if 0 <= number && number <= i64::from(most) {
+    if 0 <= number && number <= i64::from(max) {
         Ok(number as u32)
     } else {
         wrong(alloc, key)
@@ -54,13 +54,13 @@ fn count(alloc: Global, key: &str, value: &Value, most: u32) -> Result<u32, Shee
 
 /// The counts after one more key was read.
 fn with_key(alloc: Global, counts: Counts, key: &str, value: &Value) -> Result<Counts, SheetFault>
-    ensures exact { Answers (count_read key.now counts (view value.now)) result }
+    ensures exact { IsReadResult (counts_after_key key.now counts (view value.now)) result }
 {
     if key == "new" {
-        let fresh = count(alloc, key, value, MOST)?;
+        let fresh = count(alloc, key, value, MAX_COUNT)?;
         Ok(Counts { fresh, ..counts })
     } else if key == "old" {
-        let old = count(alloc, key, value, MOST)?;
+        let old = count(alloc, key, value, MAX_COUNT)?;
         Ok(Counts { old, ..counts })
     } else if key == "urgent-new" {
         let urgent_fresh = count(alloc, key, value, counts.fresh)?;
@@ -81,7 +81,7 @@ fn with_key(alloc: Global, counts: Counts, key: &str, value: &Value) -> Result<C
 
 /// The counts of a document.
 fn counts(alloc: Global, table: &Table) -> Result<Counts, SheetFault>
-    ensures exact { Answers (counts_of (table_view table.now)) result }
+    ensures exact { IsReadResult (counts_of (table_view table.now)) result }
 {
     let mut counts = Counts::none();
     'members: for (key, value) in table.iter() {
@@ -97,9 +97,9 @@ fn counts(alloc: Global, table: &Table) -> Result<Counts, SheetFault>
 ///
 /// `NotToml` exactly where the bytes are not UTF-8 or not TOML. Else the first fault of the keys, in byte order: `Unknown` where a key is none of these, `Wrong` where its value
 /// is no such number. `NoMemory` where memory ran out.
-#[tactic(auto, using(crate::proofs::Told::told, crate::proofs::Told::told_nothing))]
+#[tactic(auto, using(crate::proofs::Reports::reported_counts, crate::proofs::Reports::reported_not_toml))]
 pub fn read_counts(alloc: Global, bytes: &[u8]) -> Result<Counts, SheetFault>
-    ensures exact { TellsCounts (counts_read bytes.now) result }
+    ensures exact { ReportsCounts (counts_read bytes.now) result }
 {
     match toml::table_from_slice(alloc, bytes) {
         Ok(table) => counts(alloc, &table),

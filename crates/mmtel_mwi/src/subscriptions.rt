@@ -1,16 +1,16 @@
 //! Subscriptions, and the NOTIFYs that have no final response.
 ghost use Rattle.std.specs.Prelude.{◌≡◌, ◌<◌, ◌++◌, IfOk, IfSome, OnErr, OnOk, find, length, position};
 ghost use Rattle.std.specs.Option.{option_copied};
-ghost use Rattle.mmtel_leg.specs.Dialogues.{hears};
+ghost use Rattle.mmtel_leg.specs.Dialogues.{receive_result};
 ghost use Rattle.mmtel_leg.specs.declared.dialogues.InFlight.TheVariants as in_flight;
-ghost use Rattle.mmtel_mwi.specs.Boxes.{has_branch, having_heard, having_told, is_named, is_numbered, lasting, left_of, number_if, subscribers_in, subscription};
-ghost use Rattle.mmtel_mwi.specs.Notices.{notice_in, seconds_left};
+ghost use Rattle.mmtel_mwi.specs.Boxes.{ended_leg, has_branch, is_named, is_numbered, number_if, renewed_subscription, subscribers_in, subscription, subscription_after_notify, subscription_after_request};
+ghost use Rattle.mmtel_mwi.specs.Notifies.{notify_request_in, remaining_seconds};
 
 use crate::counts::Counts;
-use crate::notices::{notice, seconds_left};
+use crate::notifies::{notify_request, remaining_seconds};
+use mmtel_base::{List, NoMemory, Text};
 use mmtel_leg::{CallerLeg, DialogName, DialogueFault, Ended, InFlight, Standing};
 use mmtel_message::Msg;
-use mmtel_scan::{List, NoMemory, Text};
 use mmtel_types::{Account, Addr, Moment, SubNo};
 use std::alloc::Global;
 
@@ -30,7 +30,7 @@ pub struct Subscription {
 
 /// A NOTIFY that has no final response.
 #[derive(Drop)]
-pub struct Asked {
+pub struct PendingNotify {
     /// Its branch after the magic cookie.
     pub branch: Text,
     /// The number of its subscription.
@@ -46,20 +46,23 @@ pub fn place_of(live: &[Subscription], sub: SubNo) -> Option<usize>
 }
 
 /// The subscription of this number.
-pub fn held(live: &[Subscription], sub: SubNo) -> Option<&Subscription>
+pub fn subscription_numbered(live: &[Subscription], sub: SubNo) -> Option<&Subscription>
     ensures { option_copied result ≡ find (is_numbered sub) live.now }
 {
     live.iter().find(|one| one.number.0 == sub.0)
 }
 
-fn is_named(one: &Subscription, name: DialogName<'_>) -> bool
-    ensures { result ≡ is_named name.entry.call_id.now name.entry.local.now name.entry.remote.now one.now }
+fn is_named(subscription: &Subscription, name: DialogName<'_>) -> bool
+    ensures { result ≡ is_named name.entry.call_id.now name.entry.local.now name.entry.remote.now subscription.now }
 {
-    name.is_of(one.leg.dialogue())
+    name.is_of(subscription.leg.dialogue())
 }
 
 /// The subscription whose dialog has this name.
-pub fn named<'a>(live: &'a [Subscription], name: DialogName<'_>) -> Option<&'a Subscription>
+pub fn subscription_with_dialog<'a>(
+    live: &'a [Subscription],
+    name: DialogName<'_>,
+) -> Option<&'a Subscription>
     ensures { option_copied result ≡ find (is_named name.entry.call_id.now name.entry.local.now name.entry.remote.now) live.now }
 {
     live.iter().find(|one| is_named(one, name))
@@ -69,15 +72,15 @@ pub fn named<'a>(live: &'a [Subscription], name: DialogName<'_>) -> Option<&'a S
 fn add_number(
     alloc: Global,
     out: &mut List<SubNo>,
-    one: &Subscription,
+    subscription: &Subscription,
     account: Account,
 ) -> Result<(), NoMemory>
-    ensures { OnOk result (out.new ≡ out.old ++ number_if account one.now) }
+    ensures { OnOk result (out.new ≡ out.old ++ number_if account subscription.now) }
 {
-    if one.account.0 != account.0 {
+    if subscription.account.0 != account.0 {
         return Ok(());
     }
-    out.push(alloc, one.number)?;
+    out.push(alloc, subscription.number)?;
     Ok(())
 }
 
@@ -96,7 +99,7 @@ pub fn subscribers_in(
     Ok(out)
 }
 
-impl Asked {
+impl PendingNotify {
     fn has_branch(&self, branch: &[u8]) -> bool
         ensures { result ≡ has_branch branch.now self.now }
     {
@@ -105,18 +108,21 @@ impl Asked {
 }
 
 /// The place of the NOTIFY with this branch.
-pub fn place_asked(asked: &[Asked], branch: &[u8]) -> Option<usize>
-    ensures place { result ≡ position (has_branch branch.now) asked.now }
-    ensures within { IfSome result (λ at. at < length asked.now) }
+pub fn place_pending(pending: &[PendingNotify], branch: &[u8]) -> Option<usize>
+    ensures place { result ≡ position (has_branch branch.now) pending.now }
+    ensures within { IfSome result (λ at. at < length pending.now) }
 {
-    asked.iter().position(|one| one.has_branch(branch))
+    pending.iter().position(|one| one.has_branch(branch))
 }
 
 /// The NOTIFY with this branch.
-pub fn asked_with<'a>(asked: &'a [Asked], branch: &[u8]) -> Option<&'a Asked>
-    ensures { option_copied result ≡ find (has_branch branch.now) asked.now }
+pub fn pending_with_branch<'a>(
+    pending: &'a [PendingNotify],
+    branch: &[u8],
+) -> Option<&'a PendingNotify>
+    ensures { option_copied result ≡ find (has_branch branch.now) pending.now }
 {
-    asked.iter().find(|one| one.has_branch(branch))
+    pending.iter().find(|one| one.has_branch(branch))
 }
 
 impl Subscription {
@@ -139,24 +145,24 @@ impl Subscription {
     }
 
     /// One more SUBSCRIBE sets until when it is active.
-    pub fn last(&mut self, until: Moment)
-        ensures { self.new ≡ lasting until self.old }
+    pub fn renew_until(&mut self, until: Moment)
+        ensures { self.new ≡ renewed_subscription until self.old }
     {
         self.until = until;
         self.set = self.set.saturating_add(1);
     }
 
     /// Accepts a request of its subscriber, or refuses it.
-    pub fn hear(&mut self, request: &Msg) -> Result<(), DialogueFault>
-        ensures answer { result ≡ hears self.old.leg.dialogue request.now in_flight.None }
-        ensures heard { OnOk result (self.new ≡ having_heard request.now self.old) }
+    pub fn receive(&mut self, request: &Msg) -> Result<(), DialogueFault>
+        ensures answer { result ≡ receive_result self.old.leg.dialogue request.now in_flight.None }
+        ensures received { OnOk result (self.new ≡ subscription_after_request request.now self.old) }
         ensures refused { OnErr result (self.new ≡ self.old) }
     {
         self.leg.heard(request, InFlight::None)
     }
 
     /// The NOTIFY to its subscriber, with these counts of the mailbox.
-    pub fn tell(
+    pub fn notify(
         &mut self,
         alloc: Global,
         sip: Addr,
@@ -165,17 +171,17 @@ impl Subscription {
         now: Moment,
         counts: &Counts,
     ) -> Result<Msg, NoMemory>
-        ensures message { IfOk result (λ m. m ≡ notice_in sip self.old.leg.dialogue branch.now last (seconds_left self.old.until now) counts.now) }
-        ensures told { OnOk result (self.new ≡ having_told self.old) }
+        ensures message { IfOk result (λ m. m ≡ notify_request_in sip self.old.leg.dialogue branch.now last (remaining_seconds self.old.until now) counts.now) }
+        ensures reported { OnOk result (self.new ≡ subscription_after_notify self.old) }
         ensures refused { OnErr result (self.new ≡ self.old) }
     {
-        let seconds = seconds_left(self.until, now);
-        notice(alloc, sip, &mut self.leg, branch, last, seconds, counts)
+        let seconds = remaining_seconds(self.until, now);
+        notify_request(alloc, sip, &mut self.leg, branch, last, seconds, counts)
     }
 
     /// Ends it, and returns what remains of its leg.
     pub fn leave(self) -> Ended
-        ensures { result ≡ left_of self }
+        ensures { result ≡ ended_leg self }
     {
         let Subscription {
             number: _,

@@ -11,54 +11,54 @@ use Rattle.mmtel_sheet_values.specs.View.{is_registered as is_in_table}
 use Rattle.mmtel_sheet_values.specs.declared.values.Sheet.{Sheet}
 use Rattle.mmtel_sheet_values.specs.declared.values.Who.{Who}
 use Rattle.mmtel_identity.specs.Restriction.{is_caller_restricted}
-use Rattle.mmtel_targets.specs.Served.{is_registered}
-use Rattle.mmtel_targets.specs.declared.served.RegistrationState.{RegistrationState}
-use Rattle.mmtel_targets.specs.declared.served.Served.{Served}
-use Rattle.mmtel_precedence.specs.Services.{AccountState, DueDiversion}
+use Rattle.mmtel_served_user.specs.ServedUser.{is_registered}
+use Rattle.mmtel_served_user.specs.declared.served_user.RegistrationState.{RegistrationState}
+use Rattle.mmtel_served_user.specs.declared.served_user.Served.{Served}
+use Rattle.mmtel_precedence.specs.Services.{DueDiversionView, ServedAccountView}
 
 -- ---- inputs
 
 -- how an attempt that was offered ended
-pub data End : Type 0 where
+pub data AttemptEndView : Type 0 where
   -- a 2xx
-  Answer : End
+  Answer : AttemptEndView
   -- the caller abandoned the call
-  Cancel : End
+  Cancel : AttemptEndView
   -- the caller did not acknowledge a reliable response that it was sent (RFC 3262 §3)
-  Unacknowledged : End
+  Unacknowledged : AttemptEndView
   -- a 486 or 600: user determined user busy
-  UserBusy : (code : ℕ) → End
+  UserBusy : (code : ℕ) → AttemptEndView
   -- a 408, 500 or 503 before it rang, or a transaction timeout, which counts as a 408
-  NotReachable : (code : ℕ) → End
+  NotReachable : (code : ℕ) → AttemptEndView
   -- it rang for too long
-  NoReply : End
+  NoReply : AttemptEndView
   -- a 302 to this target: communication deflection, before or after it rang
-  Deflection : (target : Uri) → (rang : Bool) → End
+  Deflection : (target : Uri) → (rang : Bool) → AttemptEndView
   -- any other final response
-  Other : (code : ℕ) → End
+  Other : (code : ℕ) → AttemptEndView
 
 -- an end, and its moment
-pub record Ended : Type 0 where
+pub record EndedAttempt : Type 0 where
   pub at : ℕ
-  pub how : End
+  pub how : AttemptEndView
 
 -- the state when the call reached a target: the moment; and, by the numbers of accounts, the records in force and the ends of registrations, and the live calls: one for each that
 -- is the account's own, including this call, and one for each that is offered to it, never including this call
-pub record Standing : Type 0 where
+pub record SnapshotView : Type 0 where
   pub at : ℕ
   pub sheets : ℕ → Option Sheet
-  pub ends : ℕ → Option ℕ
+  pub registration_ends : ℕ → Option ℕ
   pub live : ℕ → ℕ
 
 -- a call
-pub record Call : Type 0 where
+pub record CallInputs : Type 0 where
   -- the words of its Privacy (RFC 3323); which users the server serves in it (the session cases of RFC 5502), and the registration state of its target that was given with the
   -- call, if one was
   pub privacy : PrivacySet
   pub served : Served
   pub registration : Option RegistrationState
   -- of the caller: whether the identity part of a condition is true of it, and whether it has an identity at all
-  pub asks : Who → Bool
+  pub identity_matches : Who → Bool
   pub has_identity : Bool
   -- the kinds of media that it offers
   pub media : List (List ℕ)
@@ -71,44 +71,44 @@ pub record Call : Type 0 where
   pub account_of : Uri → Option Account
   pub peer_of : Uri → Option Peer
   -- its first target
-  pub first : Uri
+  pub first_target : Uri
   -- the state when it was opened, which is when it reached its first target; and when it reached the target of its next diversion after so many others
-  pub opening : Standing
-  pub later : ℕ → Standing
+  pub opening_snapshot : SnapshotView
+  pub later_snapshots : ℕ → SnapshotView
 
 -- ---- derived values
 
 -- the state when it reached a target after k diversions
-abbrev pub standing_after : Call → (k : ℕ) → Standing
-standing_after call zero = call.opening
-standing_after call (suc k) = call.later k
+abbrev pub snapshot_after : CallInputs → (k : ℕ) → SnapshotView
+snapshot_after call zero = call.opening_snapshot
+snapshot_after call (suc k) = call.later_snapshots k
 
 -- the record of an account; an account without one counts as one whose record is empty
-abbrev pub sheet_at : Standing → Account → Sheet
+abbrev pub sheet_at : SnapshotView → Account → Sheet
 sheet_at standing account = unwrap_or (standing.sheets account.0) empty_sheet
 
 -- the record of the account that is served as the caller, if one is, as it was at the opening
-abbrev pub origin_sheet : Call → Option Sheet
-origin_sheet call = option_map (sheet_at call.opening) call.served.origin
+abbrev pub origin_sheet : CallInputs → Option Sheet
+origin_sheet call = option_map (sheet_at call.opening_snapshot) call.served.origin
 
 -- the caller's identity is restricted (OIR, TS 24.607 §4.5.2)
-abbrev pub caller_hides : Call → Bool
+abbrev pub caller_hides : CallInputs → Bool
 caller_hides call = is_caller_restricted call.privacy (origin_sheet call)
 
 -- the account is registered: as was given with the call, or else until its registration ends
-abbrev pub is_registered_at : Standing → (told : Option RegistrationState) → Account → Bool
-is_registered_at standing told account = is_registered told (is_in_table (standing.ends account.0) standing.at)
+abbrev pub is_registered_at : SnapshotView → (told : Option RegistrationState) → Account → Bool
+is_registered_at standing told account = is_registered told (is_in_table (standing.registration_ends account.0) standing.at)
 
 -- the account in that state
-abbrev pub account_in : Standing → (told : Option RegistrationState) → Account → AccountState
-account_in standing told account = record { sheet = sheet_at standing account; registered = is_registered_at standing told account; live = standing.live account.0 }
+abbrev pub account_at_snapshot : SnapshotView → (told : Option RegistrationState) → Account → ServedAccountView
+account_at_snapshot standing told account = record { sheet = sheet_at standing account; registered = is_registered_at standing told account; live = standing.live account.0 }
 
 -- a target in the state when the call reached it
-pub record Reach : Type 0 where
+pub record ReachedTargetView : Type 0 where
   -- the moment
   pub at : ℕ
   -- the account that is served there
-  pub served : Option AccountState
+  pub served : Option ServedAccountView
   -- it is of the home domain and of no account, and no telephone number that is the target of a diversion
   pub is_unknown : Bool
   -- the peer that is the route to it, if there is one
@@ -117,33 +117,33 @@ pub record Reach : Type 0 where
 -- ---- outcome
 
 -- whether a call that reached a target was offered to it, and whether as waiting
-pub data Offer : Type 0 where
-  NotOffered : Offer
-  Offered : (waiting : Bool) → Offer
+pub data OfferState : Type 0 where
+  NotOffered : OfferState
+  Offered : (waiting : Bool) → OfferState
 
 -- a target that the call reached, the diversion that led there, with its forward and its cause, and whether it was offered
-pub record Target : Type 0 where
+pub record OutcomeTarget : Type 0 where
   pub uri : Uri
-  pub by : Option DueDiversion
-  pub offer : Offer
+  pub diversion : Option DueDiversionView
+  pub offer : OfferState
 
-pub data Result : Type 0 where
-  Pending : Result
-  Answered : Result
-  Final : (cause : Cause) → Result
+pub data CallResult : Type 0 where
+  Pending : CallResult
+  Answered : CallResult
+  Final : (cause : Cause) → CallResult
 
 pub record Outcome : Type 0 where
-  pub targets : List Target
-  pub result : Result
+  pub targets : List OutcomeTarget
+  pub result : CallResult
 
 -- a call that is refused before it reaches a target
-abbrev pub refused_at_once : Cause → Outcome
-refused_at_once cause = record { targets = []; result = Final cause }
+abbrev pub refused_outcome : Cause → Outcome
+refused_outcome cause = record { targets = []; result = Final cause }
 
 -- the last target of a call
-abbrev pub last_reached : Target → Result → Outcome
-last_reached target result = record { targets = target ∷ []; result = result }
+abbrev pub outcome_at_last_target : OutcomeTarget → CallResult → Outcome
+outcome_at_last_target target result = record { targets = target ∷ []; result = result }
 
 -- a target before others
-abbrev pub then_reached : Target → Outcome → Outcome
-then_reached target outcome = record { targets = target ∷ outcome.targets; result = outcome.result }
+abbrev pub outcome_after_target : OutcomeTarget → Outcome → Outcome
+outcome_after_target target outcome = record { targets = target ∷ outcome.targets; result = outcome.result }

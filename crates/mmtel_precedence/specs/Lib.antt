@@ -1,5 +1,5 @@
 -- definitions that public contracts cite: the decisions, the outcome of a whole call, and the theorems
-pub mod Told
+pub mod Views
 pub mod Services
 pub mod Verdicts
 pub mod Calls
@@ -8,8 +8,8 @@ pub mod Targets
 pub mod Opening
 pub mod Outcome
 pub mod Moves
-pub mod Turns
+pub mod NextSteps
 pub mod Extension
-pub mod Laws
+pub mod Theorems
 
 -- Definitions that only private functions cite: none.

@@ -6,17 +6,17 @@ use Rattle.mmtel_types.specs.declared.causes.Cause.{Cause}
 use Rattle.mmtel_types.specs.declared.causes.Cause.TheVariants as causes
 use Rattle.mmtel_sheet_values.specs.declared.values.Forward.{Forward}
 use Rattle.mmtel_sheet_values.specs.declared.values.Sheet.{Sheet}
-use Rattle.mmtel_rules.specs.Circumstances.{Circumstances}
+use Rattle.mmtel_rules.specs.Facts.{FactsView}
 use Rattle.mmtel_rules.specs.declared.values.When.TheVariants as event
 use Rattle.mmtel_diversion.specs.Bound.{is_within}
-use Rattle.mmtel_diversion.specs.Diversion.{Chosen, deflection_of, diversion_of}
+use Rattle.mmtel_diversion.specs.Diversion.{ChosenDiversion, deflection_of, diversion_of}
 use Rattle.mmtel_precedence.specs.declared.attempts.Failure.{Failure}
 use Rattle.mmtel_precedence.specs.declared.attempts.Failure.TheVariants as failures
 use Rattle.mmtel_precedence.specs.declared.endings.Ending.{Ending}
 use Rattle.mmtel_precedence.specs.declared.endings.Ending.TheVariants.{Arrived, UserBusy, NotReachable, NoReply, Deflected, Other}
 use Rattle.mmtel_precedence.specs.declared.verdicts.Verdict.{Verdict}
 use Rattle.mmtel_precedence.specs.declared.verdicts.Verdict.TheVariants as verdicts
-use Rattle.mmtel_precedence.specs.Services.{AccountState, DueDiversion, Says, Nothing, Refuses, Diverts, bars_outgoing, bound_of, due_of, due_on, first_said, own_bound}
+use Rattle.mmtel_precedence.specs.Services.{ServedAccountView, DueDiversionView, ServiceDecision, Nothing, Refuses, Diverts, bars_outgoing, bound_of, due_of, due_on, first_decision, own_bound}
 use Rattle.mmtel_precedence.specs.Services.{services_on_arrival}
 
 -- what is done with the call
@@ -29,20 +29,20 @@ pub data Decision : Type 0 where
   Ends : (cause : Cause) → Decision
 
 -- a verdict of the program, as seen here
-abbrev pub shown : Verdict → Decision
-shown (verdicts.Offer waiting) = Offers waiting
-shown (verdicts.Divert None cause) = Forwards None cause
-shown (verdicts.Divert (Some forward) cause) = Forwards (Some forward.now) cause
-shown (verdicts.Refuse cause) = Ends cause
+abbrev pub verdict_view : Verdict → Decision
+verdict_view (verdicts.Offer waiting) = Offers waiting
+verdict_view (verdicts.Divert None cause) = Forwards None cause
+verdict_view (verdicts.Divert (Some forward) cause) = Forwards (Some forward.now) cause
+verdict_view (verdicts.Refuse cause) = Ends cause
 
 -- by the decision of the services; a call waits where the user has another one
-abbrev pub decision_by : Says → (live : ℕ) → Decision
+abbrev pub decision_by : ServiceDecision → (live : ℕ) → Decision
 decision_by Nothing live = Offers (nat_lt 0 live)
 decision_by (Refuses cause) live = Ends cause
 decision_by (Diverts due) live = Forwards (Some due.forward) due.cause
 
 -- the diversion that the rules require, else the cause
-abbrev pub forwards_or : Option DueDiversion → Cause → Decision
+abbrev pub forwards_or : Option DueDiversionView → Cause → Decision
 forwards_or None cause = Ends cause
 forwards_or (Some due) cause = Forwards (Some due.forward) due.cause
 
@@ -52,8 +52,8 @@ deflects_or None = Ends (causes.Relayed 480)
 deflects_or (Some cause) = Forwards None cause
 
 -- the decision
-abbrev pub verdict_of : Circumstances → AccountState → Ending → Decision
-verdict_of c account Arrived = decision_by (first_said (services_on_arrival c account)) account.live
+abbrev pub verdict_of : FactsView → ServedAccountView → Ending → Decision
+verdict_of c account Arrived = decision_by (first_decision (services_on_arrival c account)) account.live
 verdict_of c account (UserBusy code) = forwards_or (due_on c event.Busy account.sheet) (causes.Relayed code)
 verdict_of c account (NotReachable code) = forwards_or (due_on c event.NotReachable account.sheet) (causes.Unreachable code)
 verdict_of c account NoReply = forwards_or (due_on c event.NoAnswer account.sheet) causes.NoReply
@@ -71,18 +71,18 @@ abbrev pub refusal_at_bound : (received done bound cause : ℕ) → Option Cause
 refusal_at_bound received done bound cause = if is_within received done bound then None else Some (too_many cause)
 
 -- why a diversion is refused, if it is: first by the outgoing barring of the account that diverts, where the new target is the other party; then by the bound
-abbrev pub go_on_of : Circumstances → Sheet → (received done bound cause : ℕ) → Option Cause
+abbrev pub go_on_of : FactsView → Sheet → (received done bound cause : ℕ) → Option Cause
 go_on_of c sheet received done bound cause = if bars_outgoing c sheet then Some causes.OutgoingBarred else refusal_at_bound received done bound cause
 
 -- the same of one that is due, by the record of the account that diverts, if one is served: its bound is the lesser of the configured one and that of the account
-abbrev pub refusal_before_diversion : Circumstances → Option Sheet → (received done configured : ℕ) → DueDiversion → Option Cause
+abbrev pub refusal_before_diversion : FactsView → Option Sheet → (received done configured : ℕ) → DueDiversionView → Option Cause
 refusal_before_diversion c None received done configured due = refusal_at_bound received done (bound_of configured due.bound) due.cause
 refusal_before_diversion c (Some sheet) received done configured due = go_on_of c sheet received done (bound_of configured due.bound) due.cause
 
 -- ---- definitions that only private functions cite
 
 -- the diversion that the rules require after an attempt that failed so
-abbrev pub diversion_after : Circumstances → Sheet → Failure → Option Chosen
+abbrev pub diversion_after : FactsView → Sheet → Failure → Option ChosenDiversion
 diversion_after c sheet (failures.UserBusy code) = diversion_of c event.Busy sheet
 diversion_after c sheet (failures.NotReachable code) = diversion_of c event.NotReachable sheet
 diversion_after c sheet failures.NoReply = diversion_of c event.NoAnswer sheet
@@ -95,5 +95,5 @@ cause_of (failures.NotReachable code) = causes.Unreachable code
 cause_of failures.NoReply = causes.NoReply
 cause_of (failures.Other code) = causes.Relayed code
 
-abbrev pub verdict_after : Circumstances → Sheet → Failure → Decision
+abbrev pub verdict_after : FactsView → Sheet → Failure → Decision
 verdict_after c sheet failure = forwards_or (option_map (due_of (own_bound sheet)) (diversion_after c sheet failure)) (cause_of failure)

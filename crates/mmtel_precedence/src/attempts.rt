@@ -2,7 +2,7 @@
 ghost use Rattle.std.specs.Prelude.{◌≡◌, ◌≤◌, Some};
 ghost use Rattle.std.specs.Option.{option_copied};
 ghost use Rattle.mmtel_precedence.specs.Attempts.{end_by, end_by_final, end_by_redirection, is_redirection, is_unreachable, is_user_busy, rings};
-ghost use Rattle.mmtel_precedence.specs.Told.{told_end, told_timeout};
+ghost use Rattle.mmtel_precedence.specs.Views.{attempt_end_view, attempt_timeout_view};
 ghost use Rattle.mmtel_precedence.specs.Verdicts.{cause_of};
 
 use mmtel_lex::Uri;
@@ -13,7 +13,7 @@ use mmtel_types::Cause;
 #[derive(Clone, Copy, Debug, PartialEq, Eq)]
 pub enum AttemptTimeout {
     /// Timer B of the client transaction: no response at all (RFC 3261 §17.1.1.2).
-    Silence,
+    TransactionTimeout,
     /// The no-reply time of the record, which begins with the first ringing response.
     NoReplyTime,
     /// The maximum time of an attempt, which begins with the offer.
@@ -84,7 +84,7 @@ fn is_unreachable(code: u16) -> bool
 
 /// How a redirection ends the attempt.
 fn end_by_redirection<'a>(code: u16, target: Option<&'a Uri>, rang: bool) -> AttemptEnd<'a>
-    ensures { told_end result ≡ end_by_redirection code (option_copied target.entry) rang }
+    ensures { attempt_end_view result ≡ end_by_redirection code (option_copied target.entry) rang }
 {
     match target {
         Some(target) if code == 302 => AttemptEnd::Deflected { target, rang },
@@ -98,7 +98,7 @@ fn end_by_redirection<'a>(code: u16, target: Option<&'a Uri>, rang: bool) -> Att
 /// as a 480. Any other status is a failure with that status. It allocates nothing.
 pub fn end_by_final<'a>(code: u16, target: Option<&'a Uri>, rang: bool) -> AttemptEnd<'a>
     requires { 300 ≤ code }
-    ensures exact { told_end result ≡ end_by_final code (option_copied target.entry) rang }
+    ensures exact { attempt_end_view result ≡ end_by_final code (option_copied target.entry) rang }
 {
     if is_user_busy(code) {
         return AttemptEnd::Failed(Failure::UserBusy(code));
@@ -115,12 +115,12 @@ pub fn end_by_final<'a>(code: u16, target: Option<&'a Uri>, rang: bool) -> Attem
 /// How a timer that fired ends an attempt, which rang before or did not: a transaction timeout, which counts as 408, as a target that cannot be reached; the no-reply time as no
 /// reply, and so the maximum time where it rang, else as a target that cannot be reached. It allocates nothing.
 pub fn end_by_timeout(timeout: AttemptTimeout, rang: bool) -> AttemptEnd<'static>
-    ensures exact { Some (told_end result) ≡ end_by (told_timeout timeout) rang }
+    ensures exact { Some (attempt_end_view result) ≡ end_by (attempt_timeout_view timeout) rang }
 {
     match timeout {
         AttemptTimeout::NoReplyTime => AttemptEnd::Failed(Failure::NoReply),
         AttemptTimeout::LongestTime if rang => AttemptEnd::Failed(Failure::NoReply),
         AttemptTimeout::LongestTime => AttemptEnd::Failed(Failure::NotReachable(408)),
-        AttemptTimeout::Silence => AttemptEnd::Failed(Failure::NotReachable(408)),
+        AttemptTimeout::TransactionTimeout => AttemptEnd::Failed(Failure::NotReachable(408)),
     }
 }

@@ -6,19 +6,19 @@
 #![tactic(auto)]
 
 mod attempts;
-mod deciding;
+mod decisions;
 mod endings;
-pub mod laws;
+mod next_steps;
 mod openings;
-mod reaches;
-mod turns;
+mod reached_targets;
+pub mod theorems;
 mod verdicts;
 
 pub use attempts::{AttemptEnd, AttemptTimeout, Failure, end_by_final, end_by_timeout, rings};
-pub use deciding::{go_on, refusal_before_diversion, verdict};
+pub use decisions::{go_on, refusal_before_diversion, verdict};
 pub use endings::{CallFacts, Ending};
-pub use mmtel_targets::Served;
-pub use openings::refused_at_opening;
-pub use reaches::{Reached, ServedAccount, party_of};
-pub use turns::{AfterEnding, Onward, Turn, turn_at, turn_on};
+pub use mmtel_served_user::Served;
+pub use next_steps::{DueDiversion, NextStep, StepAfterAttempt, next_step_at, step_after_attempt};
+pub use openings::refusal_on_opening;
+pub use reached_targets::{ReachedTarget, ServedAccount, party_of};
 pub use verdicts::Verdict;

@@ -1,4 +1,4 @@
-mod AnswerLaws
-mod EventLaws
-mod RackLaws
-mod Standing
+mod ResponseTheorems
+mod EventTheorems
+mod RackTheorems
+mod Representation

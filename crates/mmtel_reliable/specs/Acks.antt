@@ -4,7 +4,7 @@ use Rattle.std.specs.List.{list_any}
 use Rattle.std.specs.Option.{option_map}
 use Rattle.mmtel_reliable.specs.Racks.{greatest_number}
 use Rattle.mmtel_reliable.specs.declared.racks.Rack.{Rack}
-use Rattle.mmtel_reliable.specs.declared.acks.Answer.{Answer}
+use Rattle.mmtel_reliable.specs.declared.acks.ReliableResponse.{ReliableResponse}
 
 -- the responses to one INVITE of a caller, as far as they were relayed
 pub record AcksView : Type 0 where
@@ -15,15 +15,15 @@ pub record AcksView : Type 0 where
   -- the callee's number of the last response of this attempt
   pub last_relayed : Option ℕ
   -- the responses of this attempt that are not acknowledged, the oldest first
-  pub waiting : List Answer
+  pub waiting : List ReliableResponse
 
 -- one of these responses has this own number
-abbrev pub has_own : ℕ → List Answer → Bool
+abbrev pub has_own : ℕ → List ReliableResponse → Bool
 has_own own = list_any (λ answer. answer.own == own)
 
 -- none was relayed
-abbrev pub no_answers : ℕ → AcksView
-no_answers cseq = record { cseq = cseq; given = 0; last_relayed = None; waiting = [] }
+abbrev pub no_responses : ℕ → AcksView
+no_responses cseq = record { cseq = cseq; given = 0; last_relayed = None; waiting = [] }
 
 -- how many responses may wait at most (RFC 3262 leaves it to whoever relays them)
 abbrev pub most_waiting : ℕ
@@ -41,31 +41,31 @@ abbrev pub own_number : ℕ → AcksView → Option ℕ
 own_number rseq acks =
     if comes_next rseq acks.last_relayed && nat_lt (length acks.waiting) most_waiting && nat_lt acks.given greatest_number then Some (acks.given + 1) else None
 
-abbrev pub with_answer : ℕ → Option ℕ → AcksView → AcksView
-with_answer rseq None acks = acks
-with_answer rseq (Some own) acks =
+abbrev pub with_response : ℕ → Option ℕ → AcksView → AcksView
+with_response rseq None acks = acks
+with_response rseq (Some own) acks =
     record acks { given = own; last_relayed = Some rseq; waiting = acks.waiting ++ (record { own = own; callee = rseq }) ∷ [] }
 
 abbrev pub after_relay : ℕ → AcksView → AcksView
-after_relay rseq acks = with_answer rseq (own_number rseq acks) acks
+after_relay rseq acks = with_response rseq (own_number rseq acks) acks
 
 -- ---- a PRACK of the caller
 
 -- it acknowledges this response to the INVITE of this CSeq number (§3)
-abbrev pub is_named : Rack → ℕ → Answer → Bool
-is_named rack cseq answer = rack.answer == answer.own && rack.cseq == cseq && rack.invite
+abbrev pub is_acknowledged_by : Rack → ℕ → ReliableResponse → Bool
+is_acknowledged_by rack cseq answer = rack.answer == answer.own && rack.cseq == cseq && rack.invite
 
 -- the response that it acknowledges, which is the one that has waited longest
-abbrev pub named : Rack → ℕ → List Answer → Option Answer
-named rack cseq [] = None
-named rack cseq (first ∷ rest) = if is_named rack cseq first then Some first else None
+abbrev pub response_acknowledged_by : Rack → ℕ → List ReliableResponse → Option ReliableResponse
+response_acknowledged_by rack cseq [] = None
+response_acknowledged_by rack cseq (first ∷ rest) = if is_acknowledged_by rack cseq first then Some first else None
 
 -- the callee's number of that response
 abbrev pub callee_number : Rack → AcksView → Option ℕ
-callee_number rack acks = option_map (λ answer. answer.callee) (named rack acks.cseq acks.waiting)
+callee_number rack acks = option_map (λ answer. answer.callee) (response_acknowledged_by rack acks.cseq acks.waiting)
 
 abbrev pub after_ack : Rack → AcksView → AcksView
-after_ack rack acks = if is_some (named rack acks.cseq acks.waiting) then record acks { waiting = drop 1 acks.waiting } else acks
+after_ack rack acks = if is_some (response_acknowledged_by rack acks.cseq acks.waiting) then record acks { waiting = drop 1 acks.waiting } else acks
 
 -- ---- the next attempt of the call
 

@@ -1,6 +1,6 @@
 -- What the clauses of public functions cite, which a user of the crate has to trust.
 pub mod Racks
 pub mod Acks
-pub mod Histories
+pub mod Traces
 
 -- What private functions alone cite: nothing.

@@ -1,10 +1,10 @@
 //! The reliable provisional responses that are relayed to a caller, and their acknowledgement (RFC 3262 §3, §4).
 ghost use Rattle.std.specs.Prelude.{◌≡◌, [], ◌∷◌, IfOk, List};
-ghost use Rattle.mmtel_reliable.specs.Acks.{after_ack, after_relay, callee_number, comes_next, has_own, is_named, next_attempt, no_answers, own_number};
-ghost use Rattle.mmtel_reliable.specs.Histories.{Acknowledges, Deed, Leaves, Relays, Stands};
+ghost use Rattle.mmtel_reliable.specs.Acks.{after_ack, after_relay, callee_number, comes_next, has_own, is_acknowledged_by, next_attempt, no_responses, own_number};
+ghost use Rattle.mmtel_reliable.specs.Traces.{Acknowledges, AcksOperation, LeavesAttempt, Relays, Represents};
 
 use crate::racks::{GREATEST_NUMBER, Rack};
-use mmtel_scan::NoMemory;
+use mmtel_base::NoMemory;
 use std::alloc::Global;
 use std::collections::VecDeque;
 use std::marker::Model;
@@ -14,7 +14,7 @@ const MOST_WAITING: usize = 16;
 
 /// A reliable provisional response that was relayed.
 #[derive(Clone, Copy, Debug, PartialEq, Eq)]
-pub struct Answer {
+pub struct ReliableResponse {
     /// The server's own number, which the RSeq line sent to the caller has.
     pub own: u32,
     /// The callee's number, which the RSeq line received from the callee had.
@@ -29,7 +29,7 @@ pub struct Acks {
     cseq: u32,
     given: u32,
     last_relayed: Option<u32>,
-    waiting: VecDeque<Answer>,
+    waiting: VecDeque<ReliableResponse>,
 }
 
 impl Model for Acks {
@@ -52,8 +52,8 @@ impl Acks {
     ///
     /// Out of memory only.
     pub fn new(alloc: Global, cseq: u32) -> Result<Acks, NoMemory>
-        ensures none { IfOk result (λ acks. acks ≡ no_answers cseq) }
-        ensures stands { IfOk result (λ acks. Stands acks []) }
+        ensures none { IfOk result (λ acks. acks ≡ no_responses cseq) }
+        ensures stands { IfOk result (λ acks. Represents acks []) }
     {
         let waiting = VecDeque::with_capacity(alloc, MOST_WAITING)?;
         Ok(Acks {
@@ -71,7 +71,7 @@ impl Acks {
     pub fn relay(&mut self, rseq: u32) -> Option<u32>
         ensures number { result ≡ own_number rseq self.old }
         ensures after { self.new ≡ after_relay rseq self.old }
-        ensures stands { (deeds : List Deed) → Stands self.old deeds → Stands self.new (Relays rseq ∷ deeds) }
+        ensures stands { (deeds : List AcksOperation) → Represents self.old deeds → Represents self.new (Relays rseq ∷ deeds) }
     {
         if !comes_next(rseq, self.last_relayed)
             || self.waiting.len() >= MOST_WAITING
@@ -80,7 +80,10 @@ impl Acks {
             return None;
         }
         let own = self.given + 1;
-        match self.waiting.push_back(Answer { own, callee: rseq }) {
+        match self
+            .waiting
+            .push_back(ReliableResponse { own, callee: rseq })
+        {
             Ok(()) => {}
             Err(_) => unreachable!(),
         }
@@ -95,10 +98,10 @@ impl Acks {
     pub fn acked(&mut self, rack: &Rack) -> Option<u32>
         ensures number { result ≡ callee_number rack.now self.old }
         ensures after { self.new ≡ after_ack rack.now self.old }
-        ensures stands { (deeds : List Deed) → Stands self.old deeds → Stands self.new (Acknowledges rack.now ∷ deeds) }
+        ensures stands { (deeds : List AcksOperation) → Represents self.old deeds → Represents self.new (Acknowledges rack.now ∷ deeds) }
     {
         match self.waiting.front() {
-            Some(first) if is_named(rack, self.cseq, *first) => {
+            Some(first) if is_acknowledged_by(rack, self.cseq, *first) => {
                 let callee = first.callee;
                 let _ = self.waiting.pop_front();
                 Some(callee)
@@ -110,7 +113,7 @@ impl Acks {
     /// Leaves the attempt: none of its responses waits any longer, and the next callee may begin with any number. Own numbers continue.
     pub fn next_attempt(&mut self)
         ensures after { self.new ≡ next_attempt self.old }
-        ensures stands { (deeds : List Deed) → Stands self.old deeds → Stands self.new (Leaves ∷ deeds) }
+        ensures stands { (deeds : List AcksOperation) → Represents self.old deeds → Represents self.new (LeavesAttempt ∷ deeds) }
     {
         self.waiting.clear();
         self.last_relayed = None;
@@ -137,8 +140,8 @@ fn comes_next(rseq: u32, last: Option<u32>) -> bool
 }
 
 /// Whether a PRACK acknowledges this response to the INVITE of this CSeq number.
-fn is_named(rack: &Rack, cseq: u32, answer: Answer) -> bool
-    ensures { result ≡ is_named rack.now cseq answer }
+fn is_acknowledged_by(rack: &Rack, cseq: u32, response: ReliableResponse) -> bool
+    ensures { result ≡ is_acknowledged_by rack.now cseq response }
 {
-    rack.answer == answer.own && rack.cseq == cseq && rack.invite
+    rack.answer == response.own && rack.cseq == cseq && rack.invite
 }

@@ -2,8 +2,8 @@
 #![tactic(auto)]
 
 mod acks;
-pub mod laws;
 mod racks;
+pub mod theorems;
 
-pub use acks::{Acks, Answer};
+pub use acks::{Acks, ReliableResponse};
 pub use racks::{Rack, read_rack};

@@ -5,8 +5,8 @@ ghost use Rattle.mmtel_lex.specs.declared.faults.LexFault.TheVariants.{Malformed
 ghost use Rattle.mmtel_reliable.specs.Racks.{IsRack, rack_of};
 ghost use Rattle.mmtel_reliable.specs.declared.racks.Rack.{Rack as RackValue};
 
+use mmtel_base::{Class, is_all, number_up_to, split_once_at};
 use mmtel_lex::LexFault;
-use mmtel_scan::{Class, is_all, number_up_to, part};
 
 /// The greatest number of an RSeq or of a CSeq: both are below 2^31 (RFC 3262 §7.1, RFC 3261 §8.1.1.5).
 pub(crate) const GREATEST_NUMBER: u32 = 2_147_483_647;
@@ -43,8 +43,8 @@ pub fn read_rack(bytes: &[u8]) -> Result<Rack, LexFault>
 fn rack_in(bytes: &[u8]) -> Option<Rack>
     ensures { result ≡ rack_of bytes.now }
 {
-    let (answer, rest) = part(b' ', bytes)?;
-    let (cseq, method) = part(b' ', rest)?;
+    let (answer, rest) = split_once_at(b' ', bytes)?;
+    let (cseq, method) = split_once_at(b' ', rest)?;
     let answer = number_up_to(u64::from(GREATEST_NUMBER), answer)?;
     let cseq = number_up_to(u64::from(GREATEST_NUMBER), cseq)?;
     if method.is_empty() || !is_all(Class::Token, method) {

@@ -5,18 +5,18 @@
 //! settings, as `settings` says; `=status:` is the expected status in place of 0, and with `=cut` the listing ends without its last line end. For a script that begins with
 //! `=server` no program is run but a server, as `serving` says. Where the tests are proved a further run costs its bytes alone.
 
-use crate::pages::{Page, add_lines, are_alike};
-use crate::runs::tell;
-use crate::serving::tell_served;
-use crate::settings::setting;
-use mmtel_scan::part;
-use mmtel_told::cut;
+use crate::pages::{Page, add_lines, are_equal};
+use crate::runs::write_report;
+use crate::script_settings::setting;
+use crate::server_tables::write_served;
+use mmtel_base::split_once_at;
+use mmtel_test_tables::split_or_all;
 use std::alloc::Global;
 
 /// What follows a line that begins with `~`, up to the next such line, and what follows that one's `~`; None where there is no line.
 pub fn piece(text: &[u8]) -> Option<(&[u8], &[u8])> {
-    let (_, text) = part(b'\n', text)?;
-    Some(cut(b'~', text))
+    let (_, text) = split_once_at(b'\n', text)?;
+    Some(split_or_all(b'~', text))
 }
 
 /// Two pieces, and what follows them.
@@ -27,11 +27,11 @@ pub fn two(text: &[u8]) -> Option<(&[u8], &[u8], &[u8])> {
 }
 
 /// Writes the result of a script.
-fn tell_script(page: &mut Page, script: &[u8]) {
+fn write_script(page: &mut Page, script: &[u8]) {
     if setting(script, b"server").is_some() {
-        tell_served(page, script);
+        write_served(page, script);
     } else {
-        tell(page, script, true);
+        write_report(page, script, true);
     }
 }
 
@@ -42,8 +42,8 @@ pub fn writes(alloc: Global, script: &[u8], listing: &[u8]) -> bool {
     due.add(b"\n");
     due.add(listing);
     let mut page = Page::new(alloc);
-    tell_script(&mut page, script);
-    let alike = are_alike(&page, &due);
+    write_script(&mut page, script);
+    let alike = are_equal(&page, &due);
     drop(page);
     drop(due);
     alike

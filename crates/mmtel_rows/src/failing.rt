@@ -7,8 +7,8 @@ use crate::asserting::assert_right;
 use crate::calls::call_runs;
 use crate::cases::{piece, two, writes};
 use crate::pages::{Page, add_lines, add_short, is_well, next_line};
-use mmtel_scan::{part, plain_number, skip_text};
-use mmtel_told::cut;
+use mmtel_base::{plain_number, skip_text, split_once_at};
+use mmtel_test_tables::split_or_all;
 use std::alloc::Global;
 
 /// The keeper is bound by its first call; it is migrated by its second, and loaded by its third, or asked for its rows by its second. The link is bound by its first call; each
@@ -273,7 +273,7 @@ fn add_front(page: &mut Page, lines: &[u8], digits: &[u8]) {
 fn add_due(page: &mut Page, whole: &[u8], due: &[u8]) {
     let mut rest = due;
     for _ in 0..12 {
-        match part(b';', rest) {
+        match split_once_at(b';', rest) {
             None => break,
             Some((line, later)) => {
                 match skip_text(b"+", line) {
@@ -291,8 +291,8 @@ fn add_due(page: &mut Page, whole: &[u8], due: &[u8]) {
 
 /// Whether the script with the settings of a row has the result of the row.
 fn is_right(alloc: Global, script: &[u8], whole: &[u8], row: &[u8]) -> bool {
-    let (settings, rest) = cut(b'/', row);
-    let (status, due) = cut(b'/', rest);
+    let (settings, rest) = split_or_all(b'/', row);
+    let (status, due) = split_or_all(b'/', rest);
     let mut case = Page::new(alloc);
     case.add(b"=status:");
     case.add(status);
@@ -310,7 +310,7 @@ fn is_right(alloc: Global, script: &[u8], whole: &[u8], row: &[u8]) -> bool {
 fn wrong_row(alloc: Global, script: &[u8], whole: &[u8], rows: &[u8]) -> usize {
     let mut rest = rows;
     for number in 0..100 {
-        match part(b'\n', rest) {
+        match split_once_at(b'\n', rest) {
             None => return 0,
             Some((row, later)) => {
                 if !is_right(alloc, script, whole, row) {

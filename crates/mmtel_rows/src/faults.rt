@@ -4,8 +4,8 @@ use crate::asserting::assert_right;
 use crate::calls::call_runs;
 use crate::cases::{two, writes, wrong_run};
 use crate::pages::{Page, add_lines, add_short, is_well};
-use mmtel_scan::part;
-use mmtel_told::cut;
+use mmtel_base::split_once_at;
+use mmtel_test_tables::split_or_all;
 use std::alloc::Global;
 
 /// The bytes of a datagram, an INVITE of Erin to bob.
@@ -164,8 +164,8 @@ const CHARGES: &[u8] =
 
 /// Whether it is as a row says, after a run of this script.
 fn is_charged(alloc: Global, script: &[u8], row: &[u8]) -> bool {
-    let (keeps, rest) = cut(b'|', row);
-    let (status, lines) = cut(b'|', rest);
+    let (keeps, rest) = split_or_all(b'|', row);
+    let (status, lines) = split_or_all(b'|', rest);
     let mut case = Page::new(alloc);
     case.add(b"=then:charges|server.cfg\n=keeps:");
     case.add(keeps);
@@ -184,7 +184,7 @@ fn is_charged(alloc: Global, script: &[u8], row: &[u8]) -> bool {
 fn wrong_charge(alloc: Global, script: &[u8], table: &[u8]) -> usize {
     let mut rest = table;
     for number in 0..100 {
-        match part(b'\n', rest) {
+        match split_once_at(b'\n', rest) {
             None => return 0,
             Some((row, later)) => {
                 if !is_charged(alloc, script, row) {

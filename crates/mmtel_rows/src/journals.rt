@@ -5,7 +5,7 @@ use crate::cases::{is_right, two};
 use crate::faults::failing_runs;
 use crate::pages::{Page, is_well};
 use crate::uploads::upload_runs;
-use mmtel_scan::part;
+use mmtel_base::split_once_at;
 use std::alloc::Global;
 
 /// Whether a run of this script over a journal, on a disk of which these calls fail, lists what is expected.
@@ -24,7 +24,7 @@ fn wrong_over_journals(alloc: Global, table: &[u8], numbers: &[u8]) -> usize {
     let mut rest = table;
     let mut lines = numbers;
     for number in 0..100 {
-        let Some((failing, more)) = part(b'\n', lines) else {
+        let Some((failing, more)) = split_once_at(b'\n', lines) else {
             return 0;
         };
         match two(rest) {

@@ -6,8 +6,6 @@
 #![tactic(auto)]
 
 #[cfg(test)]
-mod alarms;
-#[cfg(test)]
 mod asserting;
 #[cfg(test)]
 mod calls;
@@ -16,13 +14,15 @@ mod cases;
 #[cfg(test)]
 mod checks;
 #[cfg(test)]
-mod courses;
+mod composing;
+#[cfg(test)]
+mod conferences;
 #[cfg(test)]
 mod damaged;
 #[cfg(test)]
 mod devices;
 #[cfg(test)]
-mod digesting;
+mod dispositions;
 #[cfg(test)]
 mod failing;
 #[cfg(test)]
@@ -36,41 +36,41 @@ mod links;
 #[cfg(test)]
 mod mailboxes;
 #[cfg(test)]
+mod noninterference;
+#[cfg(test)]
 mod openings;
 #[cfg(test)]
 mod pages;
 #[cfg(test)]
 mod pairs;
 #[cfg(test)]
+mod parsing;
+#[cfg(test)]
 mod registration;
 #[cfg(test)]
 mod reliable;
 #[cfg(test)]
-mod replying;
-#[cfg(test)]
 mod requests;
-#[cfg(test)]
-mod rooms;
 #[cfg(test)]
 mod runs;
 #[cfg(test)]
-mod secrets;
+mod script_settings;
 #[cfg(test)]
-mod served;
+mod serve_runs;
 #[cfg(test)]
-mod serves;
+mod server_steps;
+#[cfg(test)]
+mod server_tables;
 #[cfg(test)]
 mod services;
 #[cfg(test)]
-mod serving;
-#[cfg(test)]
 mod sessions;
 #[cfg(test)]
-mod settings;
-#[cfg(test)]
-mod standing;
+mod snapshots;
 #[cfg(test)]
 mod steps;
+#[cfg(test)]
+mod timers;
 #[cfg(test)]
 mod uploads;
 #[cfg(test)]

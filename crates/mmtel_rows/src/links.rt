@@ -1,11 +1,11 @@
 //! Links in memory: their inputs and outputs.
 
 use crate::pages::{Page, add_script, add_short};
-use crate::settings::{behind_settings, config, numbers, setting, value};
+use crate::script_settings::{behind_settings, config, numbers, setting, value};
+use mmtel_base::List;
 use mmtel_cli::{Directory, Event, ScriptLink, read_directory};
 use mmtel_link::MemoryLink;
-use mmtel_scan::List;
-use mmtel_told::cut;
+use mmtel_test_tables::split_or_all;
 
 /// The inputs from the peers of a configuration.
 fn heard_of(page: &mut Page, script: &[u8], directory: &Directory) -> Option<ScriptLink> {
@@ -13,7 +13,7 @@ fn heard_of(page: &mut Page, script: &[u8], directory: &Directory) -> Option<Scr
     add_script(&mut lines, behind_settings(script), true);
     let link = ScriptLink::read(page.alloc, lines.bytes(), &directory.peers);
     drop(lines);
-    page.noted(link)
+    page.value_or_fail(link)
 }
 
 /// The inputs.
@@ -22,7 +22,7 @@ pub fn heard(page: &mut Page, script: &[u8]) -> Option<ScriptLink> {
     add_short(&mut text, value(script, b"peer:"));
     let directory = read_directory(page.alloc, text.bytes());
     drop(text);
-    let directory = page.noted(directory)?;
+    let directory = page.value_or_fail(directory)?;
     let heard = heard_of(page, script, &directory);
     drop(directory);
     heard
@@ -90,43 +90,43 @@ pub fn link(page: &mut Page, script: &[u8]) -> MemoryLink {
 }
 
 /// Writes the first line of a text that was sent.
-fn tell_first(page: &mut Page, text: &[u8]) {
-    let (line, _) = cut(b'\r', text);
+fn write_first(page: &mut Page, text: &[u8]) {
+    let (line, _) = split_or_all(b'\r', text);
     page.add(line);
     page.add(b"\n");
 }
 
 /// Writes a text that was sent, its lines after `|`, except the first.
-fn tell_whole(page: &mut Page, text: &[u8]) {
+fn write_whole(page: &mut Page, text: &[u8]) {
     let mut lines = Page::new(page.alloc);
     lines.add_ended(b'\r', text, b"");
     let text = lines.bytes();
     page.add_ended(b'\n', text.strip_suffix(b"\n").unwrap_or(text), b"\n|");
     page.add(b"\n");
-    page.keep(!lines.has_failed());
+    page.fail_unless(!lines.has_failed());
     drop(lines);
 }
 
 /// Writes a text that was sent, and whether it was lost.
-fn tell_given(page: &mut Page, text: &[u8], lost: bool, whole: bool) {
+fn write_delivered(page: &mut Page, text: &[u8], lost: bool, whole: bool) {
     if lost {
         page.add(b"lost ");
     }
     if whole {
-        tell_whole(page, text);
+        write_whole(page, text);
     } else {
-        tell_first(page, text);
+        write_first(page, text);
     }
 }
 
 /// Writes the outputs of a link: each datagram after the port to which it goes, and then the replies.
-pub fn tell_link(page: &mut Page, link: &MemoryLink, whole: bool) {
+pub fn write_link(page: &mut Page, link: &MemoryLink, whole: bool) {
     for sent in link.offers() {
         page.add_number(u64::from(sent.to.port));
         page.add(b" ");
-        tell_given(page, sent.text.bytes(), sent.lost, whole);
+        write_delivered(page, sent.text.bytes(), sent.lost, whole);
     }
     for replied in link.replies() {
-        tell_given(page, replied.text.bytes(), replied.lost, whole);
+        write_delivered(page, replied.text.bytes(), replied.lost, whole);
     }
 }

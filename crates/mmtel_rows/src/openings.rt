@@ -5,10 +5,10 @@ ghost use Rattle.std.specs.Prelude.{◌≡◌, ◌<◌};
 use crate::asserting::assert_right;
 use crate::cases::{two, wrong_run};
 use crate::links::heard;
-use crate::pages::{Page, add_lines, are_alike};
-use crate::serving::{add_listing, server};
+use crate::pages::{Page, add_lines, are_equal};
+use crate::server_tables::{add_listing, server};
+use mmtel_base::List;
 use mmtel_cli::{MemoryKeeper, ScriptLink, Server, drive};
-use mmtel_scan::List;
 use mmtel_timers::Steps;
 use std::alloc::Global;
 use std::marker::Brand;
@@ -107,7 +107,7 @@ fn add_driven<L: Ledger>(
     );
     server.give_up();
     drop(keeper);
-    page.keep(match driven {
+    page.fail_unless(match driven {
         Ok(end) => end == (turns == 2),
         Err(_) => false,
     });
@@ -148,7 +148,7 @@ fn is_offered(alloc: Global, script: &[u8], listing: &[u8]) -> bool {
     }
     let mut due = Page::new(alloc);
     add_due(&mut due, listing);
-    let alike = are_alike(&page, &due);
+    let alike = are_equal(&page, &due);
     drop(page);
     drop(due);
     alike

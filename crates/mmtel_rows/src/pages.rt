@@ -1,14 +1,14 @@
 //! Texts while they are built: short lines, scripts, and whether two of them are equal.
 
-use mmtel_scan::{part, plain_number, skip_text};
-use mmtel_told::cut;
-pub use mmtel_told::{Told as Page, next_line};
+use mmtel_base::{plain_number, skip_text, split_once_at};
+use mmtel_test_tables::split_or_all;
+pub use mmtel_test_tables::{Transcript as Page, next_line};
 
 /// Adds short lines: `;` ends one by LF, and `^;` by CR LF.
 pub fn add_short(page: &mut Page, lines: &[u8]) {
     let mut text = Page::new(page.alloc);
     text.add_ended(b'^', lines, b"\r");
-    page.keep(!text.has_failed());
+    page.fail_unless(!text.has_failed());
     page.add_ended(b';', text.bytes(), b"\n");
     drop(text);
 }
@@ -25,7 +25,7 @@ fn end_line(page: &mut Page) {
 fn add_joined(page: &mut Page, bytes: &[u8]) {
     let mut rest = bytes;
     for _ in 0..100 {
-        match part(b'\\', rest) {
+        match split_once_at(b'\\', rest) {
             None => break,
             Some((before, later)) => {
                 page.add(before);
@@ -44,7 +44,7 @@ fn add_joined(page: &mut Page, bytes: &[u8]) {
 pub fn add_lines(page: &mut Page, lines: &[u8]) {
     let mut rest = lines;
     for _ in 0..10_000 {
-        match part(b'|', rest) {
+        match split_once_at(b'|', rest) {
             None => break,
             Some((line, later)) => {
                 add_joined(page, line);
@@ -66,10 +66,10 @@ fn repeat(page: &mut Page, digits: &[u8], lines: &[u8]) {
 
 /// Adds the meaning of `THIS^THAT`, of which the one or the other is chosen, or of `NUMBER*LINES`, which are added so many times.
 fn choose(page: &mut Page, both: &[u8], first: bool) {
-    match part(b'^', both) {
+    match split_once_at(b'^', both) {
         Some((this, that)) => add_lines(page, if first { this } else { that }),
         None => {
-            let (digits, lines) = part(b'*', both).unwrap_or((b"1", both));
+            let (digits, lines) = split_once_at(b'*', both).unwrap_or((b"1", both));
             repeat(page, digits, lines);
         }
     }
@@ -79,10 +79,10 @@ fn choose(page: &mut Page, both: &[u8], first: bool) {
 pub fn add_script(page: &mut Page, script: &[u8], first: bool) {
     let mut rest = script;
     for _ in 0..100 {
-        match part(b'{', rest) {
+        match split_once_at(b'{', rest) {
             None => break,
             Some((plain, later)) => {
-                let (both, later) = cut(b'}', later);
+                let (both, later) = split_or_all(b'}', later);
                 add_lines(page, plain);
                 choose(page, both, first);
                 rest = later;
@@ -112,7 +112,7 @@ pub fn is_well(page: Page) -> bool {
 }
 
 /// Whether they have the same text, which is not empty, and neither failed.
-pub fn are_alike(page: &Page, other: &Page) -> bool {
+pub fn are_equal(page: &Page, other: &Page) -> bool {
     !page.has_failed()
         && !other.has_failed()
         && !page.bytes().is_empty()

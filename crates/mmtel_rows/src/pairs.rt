@@ -3,9 +3,9 @@
 //! A script stands for two: where it has `{this^that}`, one of them has the first part and the other the second.
 
 use crate::cases::piece;
-use crate::pages::{Page, are_alike, are_apart};
-use crate::runs::tell;
-use mmtel_scan::part;
+use crate::pages::{Page, are_apart, are_equal};
+use crate::runs::write_report;
+use mmtel_base::split_once_at;
 use std::alloc::Global;
 
 /// Writes the part of a listing for the second peer.
@@ -13,7 +13,7 @@ fn show(view: &mut Page, listing: &[u8]) {
     let mut rest = listing;
     let mut is_shown = false;
     for _ in 0..1_000 {
-        match part(b'\n', rest) {
+        match split_once_at(b'\n', rest) {
             None => break,
             Some((line, later)) => {
                 if line.starts_with(b"at ") {
@@ -40,9 +40,9 @@ fn show_listing(view: &mut Page, written: &[u8]) {
 /// What is sent to the second peer in one of the two runs, whose status is to be 0.
 fn seen(alloc: Global, script: &[u8], first: bool) -> Page {
     let mut page = Page::new(alloc);
-    tell(&mut page, script, first);
+    write_report(&mut page, script, first);
     let mut view = Page::new(alloc);
-    view.keep(!page.has_failed());
+    view.fail_unless(!page.has_failed());
     show_listing(&mut view, page.bytes());
     drop(page);
     view
@@ -53,7 +53,7 @@ fn is_due(alloc: Global, script: &[u8], due: bool) -> bool {
     let one = seen(alloc, script, true);
     let other = seen(alloc, script, false);
     let right = if due {
-        are_alike(&one, &other)
+        are_equal(&one, &other)
     } else {
         are_apart(&one, &other)
     };

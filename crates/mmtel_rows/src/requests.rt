@@ -1,10 +1,10 @@
 //! A configuration, and messages as they are received under it.
 
 use crate::pages::Page;
-use mmtel_answers::Hearing;
+use mmtel_compose::ReceivedMessage;
 use mmtel_directory::{Directory, read_directory};
 use mmtel_message::read;
-use mmtel_told::cut;
+use mmtel_test_tables::split_or_all;
 use mmtel_types::{Addr, Peer};
 
 /// The server's address.
@@ -27,7 +27,7 @@ account 7 sip:bob@home.example
 /// The configuration.
 pub fn directory(page: &mut Page) -> Option<Directory> {
     let read = read_directory(page.alloc, CONFIGURATION);
-    page.noted(read)
+    page.value_or_fail(read)
 }
 
 /// An address of the host itself.
@@ -39,10 +39,10 @@ pub fn address(port: u16) -> Addr {
 }
 
 /// The message of these bytes, received from peer 1, which is trusted or not.
-pub fn hearing(page: &mut Page, bytes: &[u8], trusted: bool) -> Option<Hearing> {
+pub fn received_message(page: &mut Page, bytes: &[u8], trusted: bool) -> Option<ReceivedMessage> {
     let message = read(page.alloc, bytes);
-    let message = page.noted(message)?;
-    Some(Hearing {
+    let message = page.value_or_fail(message)?;
+    Some(ReceivedMessage {
         peer: Peer(1),
         source: address(5071),
         trusted,
@@ -67,7 +67,7 @@ pub fn add_request_to(page: &mut Page, to: &[u8], start: &[u8], further: &[u8]) 
 
 /// The same with a body.
 pub fn add_request_with(page: &mut Page, to: &[u8], start: &[u8], further: &[u8], body: &[u8]) {
-    let (method, _) = cut(b' ', start);
+    let (method, _) = split_or_all(b' ', start);
     page.add(start);
     page.add(
         b" SIP/2.0\r\nVia: SIP/2.0/UDP 127.0.0.1:5071;branch=z9hG4bKa1\r\nFrom: <sip:alice@home.example>;tag=a\r\nTo: ",

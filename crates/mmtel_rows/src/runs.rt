@@ -2,14 +2,14 @@
 //!
 //! A script may begin with `settings`, which configure the devices, and which of their calls fail.
 
-use crate::links::{link, tell_link};
+use crate::links::{link, write_link};
 use crate::pages::{Page, add_script, add_short};
-use crate::settings::{
+use crate::script_settings::{
     behind_settings, bytes_of, config, first_setting, named, numbers, of_pair, setting,
 };
+use mmtel_base::{List, Text, plain_number, skip_text, split_once_at};
 use mmtel_cli::{Keeper, MemoryFiles, MemoryKeeper, MemorySink, run};
 use mmtel_journal::{JournalKeeper, MemoryDisk, make};
-use mmtel_scan::{List, Text, part, plain_number, skip_text};
 use mmtel_types::Account;
 
 /// The words of a replay, with the token of the listings.
@@ -82,7 +82,7 @@ fn store<K: Keeper>(page: &mut Page, keeper: &mut K, record: &[u8]) {
         None => 0,
     };
     let stored = keeper.store(page.alloc, Account(account), text.bytes());
-    page.keep(stored.is_ok() && !text.has_failed());
+    page.fail_unless(stored.is_ok() && !text.has_failed());
     drop(text);
 }
 
@@ -107,9 +107,9 @@ fn journal(page: &mut Page, script: &[u8]) -> Option<JournalKeeper<MemoryDisk>> 
     let failing = numbers(page, script, b"disk:");
     let mut disk = MemoryDisk::new(page.alloc, failing);
     let made = make(&mut disk);
-    page.keep(made.is_ok());
+    page.fail_unless(made.is_ok());
     let opened = JournalKeeper::open(page.alloc, disk);
-    page.noted(opened)
+    page.value_or_fail(opened)
 }
 
 fn add_word(page: &mut Page, words: &mut List<Text>, word: &[u8]) {
@@ -123,7 +123,7 @@ fn add_word(page: &mut Page, words: &mut List<Text>, word: &[u8]) {
 fn add_words(page: &mut Page, texts: &mut List<Text>, words: &[u8]) {
     let mut rest = words;
     for _ in 0..12 {
-        match part(b'|', rest) {
+        match split_once_at(b'|', rest) {
             None => break,
             Some((word, later)) => {
                 add_word(page, texts, word);
@@ -144,7 +144,7 @@ fn texts(page: &mut Page, words: &[u8]) -> List<Text> {
 }
 
 /// Writes the status of a run of these words over these files, a line end, what the run writes to the sink, and the outputs of the link.
-fn tell_over<K: Keeper>(
+fn write_over<K: Keeper>(
     page: &mut Page,
     script: &[u8],
     words: &[Text],
@@ -156,13 +156,13 @@ fn tell_over<K: Keeper>(
     let status = run(page.alloc, words, files, &mut link, keeper, sink);
     page.add_number(u64::from(status));
     page.add(b"\n");
-    page.add(sink.taken());
-    tell_link(page, &link, setting(script, b"whole").is_some());
+    page.add(sink.written());
+    write_link(page, &link, setting(script, b"whole").is_some());
     drop(link);
 }
 
 /// The same over a sink as the settings describe it.
-fn tell_to_sink<K: Keeper>(
+fn write_to_sink<K: Keeper>(
     page: &mut Page,
     script: &[u8],
     words: &[Text],
@@ -176,17 +176,17 @@ fn tell_to_sink<K: Keeper>(
         Err(_) => page.fail(),
         Ok(sink) => {
             let mut sink = sink;
-            tell_over(page, script, words, files, keeper, &mut sink);
+            write_over(page, script, words, files, keeper, &mut sink);
             drop(sink);
         }
     }
 }
 
 /// The same of these words, over files as the settings describe them.
-fn tell_run<K: Keeper>(page: &mut Page, script: &[u8], first: bool, words: &[u8], keeper: &mut K) {
+fn write_run<K: Keeper>(page: &mut Page, script: &[u8], first: bool, words: &[u8], keeper: &mut K) {
     let words = texts(page, words);
     let mut files = files(page, script, first);
-    tell_to_sink(page, script, words.items(), &mut files, keeper);
+    write_to_sink(page, script, words.items(), &mut files, keeper);
     drop(files);
     drop(words);
 }
@@ -200,44 +200,44 @@ fn run_before<K: Keeper>(
     keeper: &mut K,
 ) {
     let mut before = Page::new(page.alloc);
-    tell_run(&mut before, script, first, words, keeper);
+    write_run(&mut before, script, first, words, keeper);
     let status = setting(script, b"before:").unwrap_or(b"0");
-    page.keep(before.bytes().starts_with(status));
+    page.fail_unless(before.bytes().starts_with(status));
     drop(before);
 }
 
 /// Writes the one run, or the second of two over one keeper.
-fn tell_runs<K: Keeper>(page: &mut Page, script: &[u8], first: bool, keeper: &mut K) {
+fn write_runs<K: Keeper>(page: &mut Page, script: &[u8], first: bool, keeper: &mut K) {
     let words = setting(script, b"words:").unwrap_or(REPLAY);
     match setting(script, b"then:") {
-        None => tell_run(page, script, first, words, keeper),
+        None => write_run(page, script, first, words, keeper),
         Some(then) => {
             run_before(page, script, first, words, keeper);
-            tell_run(page, script, first, then, keeper);
+            write_run(page, script, first, then, keeper);
         }
     }
 }
 
 /// Writes the runs over a keeper that holds the records that the settings name.
-fn tell_keeping<K: Keeper>(page: &mut Page, script: &[u8], first: bool, keeper: &mut K) {
+fn write_keeping<K: Keeper>(page: &mut Page, script: &[u8], first: bool, keeper: &mut K) {
     store_all(page, keeper, script);
-    tell_runs(page, script, first, keeper);
+    write_runs(page, script, first, keeper);
 }
 
 /// Writes the runs over a keeper over a journal.
-fn tell_over_journal(page: &mut Page, script: &[u8], first: bool) {
+fn write_over_journal(page: &mut Page, script: &[u8], first: bool) {
     if let Some(mut keeper) = journal(page, script) {
-        tell_keeping(page, script, first, &mut keeper);
+        write_keeping(page, script, first, &mut keeper);
         drop(keeper);
     }
 }
 
 /// Writes the status of the run of a script, with the first or the second of each two, a line end, and what the run writes; where there is a second run, those of that one.
-pub fn tell(page: &mut Page, script: &[u8], first: bool) {
+pub fn write_report(page: &mut Page, script: &[u8], first: bool) {
     if setting(script, b"journal").is_some() {
-        return tell_over_journal(page, script, first);
+        return write_over_journal(page, script, first);
     }
     let mut keeper = MemoryKeeper::new(numbers(page, script, b"keeps:"));
-    tell_keeping(page, script, first, &mut keeper);
+    write_keeping(page, script, first, &mut keeper);
     drop(keeper);
 }

@@ -3,7 +3,7 @@
 use crate::asserting::assert_right;
 use crate::cases::writes;
 use crate::pages::{Page, is_well};
-use mmtel_told::cut;
+use mmtel_test_tables::split_or_all;
 use std::alloc::Global;
 
 /// What a run of each list of words, separated here by `|`, writes. The name of the configuration is that of a file whose first line is bad, so that a run ends with its number,
@@ -182,7 +182,7 @@ fn status_of(due: &[u8]) -> u64 {
 
 /// Whether the words of a row make a run write the row's result, over three files.
 fn is_right(alloc: Global, row: &[u8]) -> bool {
-    let (due, words) = cut(b'|', row);
+    let (due, words) = split_or_all(b'|', row);
     let mut case = Page::new(alloc);
     case.add(b"=file:c bad;\n=file:- ;bad;\n=file:-c ;;bad;\n=status:");
     case.add_number(status_of(due));
@@ -204,7 +204,7 @@ fn wrong_row(alloc: Global, table: &[u8]) -> usize {
         if rest.is_empty() {
             return 0;
         }
-        let (row, later) = cut(b'\n', rest);
+        let (row, later) = split_or_all(b'\n', rest);
         if !is_right(alloc, row) {
             return number + 1;
         }

@@ -1,3 +1,3 @@
-pub mod AlikeLaws
-pub mod Places
-pub mod RuleLaws
+pub mod IdentityPartTheorems
+pub mod LeastIndex
+pub mod RuleTheorems

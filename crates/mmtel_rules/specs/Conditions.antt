@@ -12,7 +12,7 @@ use Rattle.mmtel_sheet_values.specs.declared.values.EventWord.TheVariants as Eve
 use Rattle.mmtel_sheet_values.specs.declared.values.Weekly.{Weekly}
 use Rattle.mmtel_sheet_values.specs.declared.values.Who.{Who}
 use Rattle.mmtel_sheet_values.specs.declared.values.Window.{Window}
-use Rattle.mmtel_rules.specs.Circumstances.{Circumstances}
+use Rattle.mmtel_rules.specs.Facts.{FactsView}
 use Rattle.mmtel_rules.specs.declared.values.When.{When}
 use Rattle.mmtel_rules.specs.declared.values.When.TheVariants.{Arrival, Busy, NoAnswer, NotReachable}
 
@@ -92,11 +92,11 @@ event_holds when None = is_arrival when
 event_holds when (Some event) = is_event event when
 
 -- the parts on where the call goes, whether it was diverted before, and the hours of the week
-abbrev pub further_holds : Circumstances → Condition → Bool
+abbrev pub further_holds : FactsView → Condition → Bool
 further_holds k c = fact_holds k.diverted c.diverted && (fact_holds k.abroad c.abroad && weekly_holds k.now c.weekly)
 
 -- each part that is present holds
-unfoldable pub condition_holds : Circumstances → When → Condition → Bool
+unfoldable pub condition_holds : FactsView → When → Condition → Bool
 condition_holds k when c =
-    who_holds k.asks c.identity && (fact_holds k.restricted c.anonymous && (window_holds k.now c.window
+    who_holds k.identity_matches c.identity && (fact_holds k.restricted c.anonymous && (window_holds k.now c.window
     && (media_holds k.media c.media && (further_holds k c && event_holds when c.event))))

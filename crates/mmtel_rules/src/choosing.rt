@@ -1,6 +1,6 @@
 //! Which rule of a list decides.
 ghost use Rattle.std.specs.Prelude.{◌≡◌};
-ghost use Rattle.mmtel_rules.specs.Circumstances.{known};
+ghost use Rattle.mmtel_rules.specs.Facts.{facts_view};
 ghost use Rattle.mmtel_rules.specs.Rules.{allows, barred_by, first_that_holds, is_let_through, lets_through};
 
 use crate::conditions::holds;
@@ -8,12 +8,12 @@ use crate::values::{Facts, When};
 use mmtel_sheet_values::{Action, Rule};
 
 /// The least index of a rule that holds; None exactly where none does. It allocates nothing.
-pub fn first(rules: &[Rule], f: &Facts, when: When) -> Option<usize>
-    ensures exact { let facts = f.entry.now in result ≡ first_that_holds (known facts) when rules.now }
+pub fn first(rules: &[Rule], call_facts: &Facts, when: When) -> Option<usize>
+    ensures exact { let facts = call_facts.entry.now in result ≡ first_that_holds (facts_view facts) when rules.now }
 {
     rules
         .iter()
-        .position(|rule| holds(&rule.condition, f, when))
+        .position(|rule| holds(&rule.condition, call_facts, when))
 }
 
 /// Whether the rule allows calls.
@@ -27,26 +27,31 @@ fn allows(rule: &Rule) -> bool
 }
 
 /// Whether the rule holds as the call arrives at a registered user, and allows it.
-fn lets_through(rule: &Rule, f: &Facts) -> bool
-    ensures { let facts = f.entry.now in result ≡ lets_through (known facts) rule.now }
+fn lets_through(rule: &Rule, call_facts: &Facts) -> bool
+    ensures { let facts = call_facts.entry.now in result ≡ lets_through (facts_view facts) rule.now }
 {
-    allows(rule) && holds(&rule.condition, f, When::Arrival { registered: true })
+    allows(rule)
+        && holds(
+            &rule.condition,
+            call_facts,
+            When::Arrival { registered: true },
+        )
 }
 
 /// Whether one of the rules allows the call.
-fn is_let_through(rules: &[Rule], f: &Facts) -> bool
-    ensures { let facts = f.entry.now in result ≡ is_let_through (known facts) rules.now }
+fn is_let_through(rules: &[Rule], call_facts: &Facts) -> bool
+    ensures { let facts = call_facts.entry.now in result ≡ is_let_through (facts_view facts) rules.now }
 {
-    rules.iter().any(|rule| lets_through(rule, f))
+    rules.iter().any(|rule| lets_through(rule, call_facts))
 }
 
 /// The least index of a rule that holds as the call arrives at a registered user, where no rule that holds then allows the call; None exactly where none holds or one of
 /// them allows it (TS 24.611 §4.9.1 and RFC 4745 §10). It allocates nothing.
-pub fn all_bar(rules: &[Rule], f: &Facts) -> Option<usize>
-    ensures exact { let facts = f.entry.now in result ≡ barred_by (known facts) rules.now }
+pub fn all_bar(rules: &[Rule], call_facts: &Facts) -> Option<usize>
+    ensures exact { let facts = call_facts.entry.now in result ≡ barred_by (facts_view facts) rules.now }
 {
-    if is_let_through(rules, f) {
+    if is_let_through(rules, call_facts) {
         return None;
     }
-    first(rules, f, When::Arrival { registered: true })
+    first(rules, call_facts, When::Arrival { registered: true })
 }

@@ -2,7 +2,7 @@
 ghost use Rattle.std.specs.Prelude.{◌≡◌, ◌<◌};
 ghost use Rattle.mmtel_rules.specs.Conditions.{condition_holds, event_holds, fact_holds, further_holds, hours_hold, is_event, is_offered, is_one_offered, local_minutes};
 ghost use Rattle.mmtel_rules.specs.Conditions.{media_holds, minute_of_day, weekday, weekly_holds, window_holds};
-ghost use Rattle.mmtel_rules.specs.Circumstances.{known};
+ghost use Rattle.mmtel_rules.specs.Facts.{facts_view};
 
 use crate::identities::identity_holds;
 use crate::values::{Facts, When};
@@ -64,19 +64,19 @@ fn weekly_holds(weekly: &Option<Weekly>, now: Moment) -> bool
 }
 
 /// Whether the fact is true, where the condition requires it.
-fn fact_holds(is_so: bool, asked: bool) -> bool
-    ensures { result ≡ fact_holds is_so asked }
+fn fact_holds(is_so: bool, requested: bool) -> bool
+    ensures { result ≡ fact_holds is_so requested }
 {
-    !asked || is_so
+    !requested || is_so
 }
 
 /// Whether the call goes where the condition says, was diverted as it says, and arrives at its hours of the week.
-fn further_holds(c: &Condition, f: &Facts) -> bool
-    ensures { let facts = f.entry.now in result ≡ further_holds (known facts) c.now }
+fn further_holds(condition: &Condition, call_facts: &Facts) -> bool
+    ensures { let facts = call_facts.entry.now in result ≡ further_holds (facts_view facts) condition.now }
 {
-    fact_holds(f.diverted, c.diverted)
-        && fact_holds(f.abroad, c.abroad)
-        && weekly_holds(&c.weekly, f.now)
+    fact_holds(call_facts.diverted, condition.diverted)
+        && fact_holds(call_facts.abroad, condition.abroad)
+        && weekly_holds(&condition.weekly, call_facts.now)
 }
 
 /// Whether the kind of media is offered.
@@ -127,17 +127,17 @@ fn event_holds(event: Option<EventWord>, when: When) -> bool
 
 /// Whether the condition holds: each part of it that is present does (RFC 4745 §6, TS 24.604 §4.9.1). It allocates nothing.
 #[tactic(auto, unfolding(crate::specs::Conditions::condition_holds))]
-pub fn holds(c: &Condition, f: &Facts, when: When) -> bool
-    ensures exact { let facts = f.entry.now in result ≡ condition_holds (known facts) when c.now }
+pub fn holds(condition: &Condition, call_facts: &Facts, when: When) -> bool
+    ensures exact { let facts = call_facts.entry.now in result ≡ condition_holds (facts_view facts) when condition.now }
 {
-    let asked = match &c.identity {
+    let asked = match &condition.identity {
         None => true,
-        Some(who) => identity_holds(f.caller, who),
+        Some(who) => identity_holds(call_facts.caller, who),
     };
     asked
-        && fact_holds(f.restricted, c.anonymous)
-        && window_holds(&c.window, f.now)
-        && media_holds(&c.media, f.media.items())
-        && further_holds(c, f)
-        && event_holds(c.event, when)
+        && fact_holds(call_facts.restricted, condition.anonymous)
+        && window_holds(&condition.window, call_facts.now)
+        && media_holds(&condition.media, call_facts.media.items())
+        && further_holds(condition, call_facts)
+        && event_holds(condition.event, when)
 }

@@ -1,21 +1,21 @@
 //! Which targets are abroad.
 ghost use Rattle.std.specs.Prelude.{◌≡◌};
 ghost use Rattle.std.specs.Option.{option_copied};
-ghost use Rattle.mmtel_lex.specs.Identity.{has_user_phone, is_mark, reduced};
-ghost use Rattle.mmtel_rules.specs.Abroad.{are_digits, begins, behind_plus, global_digits, is_abroad, of_user};
+ghost use Rattle.mmtel_lex.specs.Identity.{has_user_phone, is_visual_separator, without_separators};
+ghost use Rattle.mmtel_rules.specs.Abroad.{are_digits, digits_after_plus, global_digits, is_abroad, is_prefix_of, user_digits};
 
+use mmtel_base::{Class, is_all};
 use mmtel_lex::{Param, Text, Uri, param_value};
-use mmtel_scan::{Class, is_all};
 
-fn is_mark(byte: u8) -> bool
-    ensures { result ≡ is_mark byte }
+fn is_visual_separator(byte: u8) -> bool
+    ensures { result ≡ is_visual_separator byte }
 {
     byte == b'-' || byte == b'.' || byte == b'(' || byte == b')'
 }
 
 /// Whether the number, without its visual separators, begins with these digits.
-fn begins(digits: &[u8], number: &[u8]) -> bool
-    ensures { result ≡ begins digits.now (reduced number.now) }
+fn is_prefix_of(digits: &[u8], number: &[u8]) -> bool
+    ensures { result ≡ is_prefix_of digits.now (without_separators number.now) }
 {
     let mut wanted = digits;
     let mut rest = number;
@@ -26,7 +26,7 @@ fn begins(digits: &[u8], number: &[u8]) -> bool
         let [byte, bytes_left @ ..] = rest else {
             return false;
         };
-        if !is_mark(*byte) {
+        if !is_visual_separator(*byte) {
             if digit != byte {
                 return false;
             }
@@ -52,8 +52,8 @@ fn has_user_phone(params: &[Param]) -> bool
 }
 
 /// What follows the `+`.
-fn behind_plus(bytes: &[u8]) -> Option<&[u8]>
-    ensures { option_copied result ≡ behind_plus bytes.now }
+fn digits_after_plus(bytes: &[u8]) -> Option<&[u8]>
+    ensures { option_copied result ≡ digits_after_plus bytes.now }
 {
     match bytes {
         [b'+', rest @ ..] => Some(rest),
@@ -62,8 +62,8 @@ fn behind_plus(bytes: &[u8]) -> Option<&[u8]>
 }
 
 /// The digits of the number that a sip URI with this user and these parameters represents.
-fn of_user<'a>(user: &'a Option<Text>, params: &[Param]) -> Option<&'a [u8]>
-    ensures { option_copied result ≡ of_user user.now params.now }
+fn user_digits<'a>(user: &'a Option<Text>, params: &[Param]) -> Option<&'a [u8]>
+    ensures { option_copied result ≡ user_digits user.now params.now }
 {
     let Some(user) = user else {
         return None;
@@ -71,7 +71,7 @@ fn of_user<'a>(user: &'a Option<Text>, params: &[Param]) -> Option<&'a [u8]>
     if !has_user_phone(params) {
         return None;
     }
-    match behind_plus(user.bytes()) {
+    match digits_after_plus(user.bytes()) {
         Some(digits) if are_digits(digits) => Some(digits),
         _ => None,
     }
@@ -82,8 +82,8 @@ fn global_digits(uri: &Uri) -> Option<&[u8]>
     ensures { option_copied result ≡ global_digits uri.now }
 {
     match uri {
-        Uri::Sip { user, params, .. } => of_user(user, params.items()),
-        Uri::Tel { number, .. } => behind_plus(number.bytes()),
+        Uri::Sip { user, params, .. } => user_digits(user, params.items()),
+        Uri::Tel { number, .. } => digits_after_plus(number.bytes()),
     }
 }
 
@@ -95,7 +95,7 @@ pub fn abroad(uri: &Uri, country: Option<&Text>) -> bool
         return false;
     };
     match global_digits(uri) {
-        Some(digits) => !begins(country.bytes(), digits),
+        Some(digits) => !is_prefix_of(country.bytes(), digits),
         None => false,
     }
 }

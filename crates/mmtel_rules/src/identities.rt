@@ -1,14 +1,14 @@
 //! The identity part of a rule.
 ghost use Rattle.std.specs.Prelude.{◌≡◌};
-ghost use Rattle.mmtel_rules.specs.Identities.{has_domain, identity_holds, is_in_domain, is_named, many_holds, names};
+ghost use Rattle.mmtel_rules.specs.Identities.{has_identity_in_domain, identity_holds, is_identity_of, is_in_domain, many_holds, names_an_identity};
 
 use crate::values::Identities2;
 use mmtel_lex::{List, Text, Uri, domain, same_identity};
 use mmtel_sheet_values::Who;
 
 /// Whether the URI is of one of the identities.
-fn is_named(uri: &Uri, identities: &Identities2) -> bool
-    ensures { result ≡ is_named identities.now uri.now }
+fn is_identity_of(uri: &Uri, identities: &Identities2) -> bool
+    ensures { result ≡ is_identity_of identities.now uri.now }
 {
     if let Some(sip) = &identities.sip {
         if same_identity(uri, sip) {
@@ -22,10 +22,10 @@ fn is_named(uri: &Uri, identities: &Identities2) -> bool
 }
 
 /// Whether one of the URIs is of one of the identities.
-fn names(uris: &[Uri], identities: &Identities2) -> bool
-    ensures { result ≡ names identities.now uris.now }
+fn names_an_identity(uris: &[Uri], identities: &Identities2) -> bool
+    ensures { result ≡ names_an_identity identities.now uris.now }
 {
-    uris.iter().any(|uri| is_named(uri, identities))
+    uris.iter().any(|uri| is_identity_of(uri, identities))
 }
 
 /// Whether the URI is of the domain.
@@ -42,8 +42,8 @@ fn is_in_domain(uri: &Uri, wanted: &[u8]) -> bool
 }
 
 /// Whether one of the identities is of the domain.
-fn has_domain(identities: &Identities2, wanted: &[u8]) -> bool
-    ensures { result ≡ has_domain wanted.now identities.now }
+fn has_identity_in_domain(identities: &Identities2, wanted: &[u8]) -> bool
+    ensures { result ≡ has_identity_in_domain wanted.now identities.now }
 {
     if let Some(sip) = &identities.sip {
         if is_in_domain(sip, wanted) {
@@ -63,7 +63,8 @@ fn many_holds(many: &Option<Text>, except: &List<Uri>, identities: &Identities2)
     match many {
         None => false,
         Some(wanted) => {
-            has_domain(identities, wanted.bytes()) && !names(except.items(), identities)
+            has_identity_in_domain(identities, wanted.bytes())
+                && !names_an_identity(except.items(), identities)
         }
     }
 }
@@ -73,5 +74,5 @@ fn many_holds(many: &Option<Text>, except: &List<Uri>, identities: &Identities2)
 pub fn identity_holds(identities: &Identities2, who: &Who) -> bool
     ensures { result ≡ identity_holds identities.now who.now }
 {
-    names(who.one.items(), identities) || many_holds(&who.many, &who.except, identities)
+    names_an_identity(who.one.items(), identities) || many_holds(&who.many, &who.except, identities)
 }

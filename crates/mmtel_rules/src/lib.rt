@@ -7,7 +7,7 @@ mod choosing;
 mod conditions;
 mod countries;
 mod identities;
-pub mod laws;
+pub mod theorems;
 mod values;
 
 pub use choosing::{all_bar, first};

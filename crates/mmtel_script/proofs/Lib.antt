@@ -1,3 +1,3 @@
-pub mod HexLaws
-pub mod ReadBackLaws
-pub mod TellingLaws
+pub mod HexTheorems
+pub mod ReadBackTheorems
+pub mod EventDraftTheorems

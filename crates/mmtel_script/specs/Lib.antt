@@ -4,4 +4,4 @@ pub mod Script
 -- Of the theorems only:
 pub mod ReadBack
 -- Definitions that only private functions cite.
-pub mod Tellings
+pub mod EventDrafts

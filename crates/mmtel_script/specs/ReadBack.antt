@@ -1,7 +1,7 @@
 -- The listing of bytes, read again as the lines of a script.
 use Rattle.std.specs.Prelude.{ℕ, true, nat_lt, List, map, Some, ◌≡◌}
 use Rattle.std.specs.List.{list_all, flat_map}
-use Rattle.mmtel_trust.specs.declared.parties.KnownPeer.{KnownPeer}
+use Rattle.mmtel_trust.specs.declared.known_peers.KnownPeer.{KnownPeer}
 use Rattle.mmtel_directory.specs.Lines.{lines_of}
 use Rattle.mmtel_listing.specs.Listing.{data_lines}
 use Rattle.mmtel_script.specs.Script.{line_of}

@@ -2,21 +2,21 @@
 -- data lines.
 use Rattle.std.specs.Prelude.{ℕ, Bool, true, false, nat_le, ◌&&◌, ◌==◌, ◌+◌, ◌-◌, ◌*◌, if◌then◌else◌, List, [], ◌∷◌, ◌++◌, codes, Option, Some, None, Result, Ok, Err, ◌≡◌}
 use Rattle.std.specs.Str.{bytes_eq}
-use Rattle.mmtel_scan.specs.Chain.{◌>>=◌}
-use Rattle.mmtel_scan.specs.Numbers.{plain_number}
-use Rattle.mmtel_scan.specs.Scanning.{parted}
+use Rattle.mmtel_base.specs.Chain.{◌>>=◌}
+use Rattle.mmtel_base.specs.Numbers.{plain_number}
+use Rattle.mmtel_base.specs.Scanning.{split_once_at}
 use Rattle.mmtel_types.specs.Moments.{last_moment}
-use Rattle.mmtel_trust.specs.declared.parties.KnownPeer.{KnownPeer}
+use Rattle.mmtel_trust.specs.declared.known_peers.KnownPeer.{KnownPeer}
 use Rattle.mmtel_trust.specs.Peers as peers
-use Rattle.mmtel_outside.specs.declared.events.Event.{Event}
-use Rattle.mmtel_outside.specs.declared.events.Event.TheVariants.{Datagram, Web, Quiet}
+use Rattle.mmtel_environment.specs.declared.events.Event.{Event}
+use Rattle.mmtel_environment.specs.declared.events.Event.TheVariants.{Datagram, Web, Quiet}
 use Rattle.mmtel_directory.specs.Directory.{peer_of}
-use Rattle.mmtel_directory.specs.Lines.{lines_of, said_by}
-use Rattle.mmtel_link.specs.Told.{Ear}
+use Rattle.mmtel_directory.specs.Lines.{lines_by, lines_of}
+use Rattle.mmtel_link.specs.LinkStates.{LinkInput}
 use Rattle.mmtel_script.specs.declared.scripts.ScriptFault.{ScriptFault}
 use Rattle.mmtel_script.specs.declared.scripts.ScriptFault.TheVariants.{BadLine, NoMemory}
 use Rattle.mmtel_script.specs.declared.script_lines.ScriptLine.{ScriptLine}
-use Rattle.mmtel_script.specs.declared.script_lines.ScriptLine.TheVariants.{Remark, Begins, Data}
+use Rattle.mmtel_script.specs.declared.script_lines.ScriptLine.TheVariants.{Comment, Begins, Data}
 
 -- ---- bytes in hexadecimal digits
 
@@ -58,7 +58,7 @@ hex_bytes (high ∷ low ∷ s) = do
 -- `peer N`, a peer of the configuration, whose number represents its address
 abbrev pub datagram_from : List KnownPeer → ℕ → List ℕ → Option Event
 datagram_from known at s = do
-  p ← parted 32 s
+  p ← split_once_at 32 s
   peer ← peer_of p.1
   from ← peers.addr_of peer known
   if bytes_eq p.0 (codes "peer") then Some (Datagram from at []) else None
@@ -70,8 +70,8 @@ event_at known at s = if bytes_eq s (codes "web") then Some (Web at []) else if 
 -- `at M peer N`, `at M web` or `at M quiet`
 abbrev pub event_line : List KnownPeer → List ℕ → Option Event
 event_line known s = do
-  a ← parted 32 s
-  m ← parted 32 a.1
+  a ← split_once_at 32 s
+  m ← split_once_at 32 a.1
   at ← plain_number last_moment m.0
   if bytes_eq a.0 (codes "at") then event_at known at m.1 else None
 
@@ -81,21 +81,21 @@ digits_line s = do
   bytes ← hex_bytes s
   Some (Data bytes)
 
-abbrev pub beginning : List KnownPeer → List ℕ → Option ScriptLine
-beginning known s = do
+abbrev pub event_start_line : List KnownPeer → List ℕ → Option ScriptLine
+event_start_line known s = do
   event ← event_line known s
   Some (Begins event)
 
 -- the content of a line, where it is of a form of the grammar: none; bytes: `|` and bytes, which represent these bytes and CRLF, `+` and bytes, or `x` and digits; or the beginning
 -- of an event
 unfoldable pub line_of : List KnownPeer → List ℕ → Option ScriptLine
-line_of known [] = Some Remark
+line_of known [] = Some Comment
 line_of known (b ∷ s) =
-    if b == 35 then Some Remark
+    if b == 35 then Some Comment
     else if b == 124 then Some (Data (s ++ codes "\r\n"))
     else if b == 43 then Some (Data s)
     else if b == 120 then digits_line s
-    else beginning known (b ∷ s)
+    else event_start_line known (b ∷ s)
 
 -- ---- scripts
 
@@ -106,28 +106,28 @@ holds_bytes (Web at bytes) = true
 holds_bytes (Quiet at) = false
 
 -- whether the last event of these lines has bytes, and where they begin none, whether the one above them has
-abbrev pub takes_bytes : Bool → List ScriptLine → Bool
-takes_bytes above [] = above
-takes_bytes above (Remark ∷ lines) = takes_bytes above lines
-takes_bytes above (Begins event ∷ lines) = takes_bytes (holds_bytes event) lines
-takes_bytes above (Data bytes ∷ lines) = takes_bytes above lines
+abbrev pub accepts_bytes : Bool → List ScriptLine → Bool
+accepts_bytes above [] = above
+accepts_bytes above (Comment ∷ lines) = accepts_bytes above lines
+accepts_bytes above (Begins event ∷ lines) = accepts_bytes (holds_bytes event) lines
+accepts_bytes above (Data bytes ∷ lines) = accepts_bytes above lines
 
 -- whether a line may follow directly after these: data follows an event that has bytes
-abbrev pub stands : List ScriptLine → ScriptLine → Bool
-stands said Remark = true
-stands said (Begins event) = true
-stands said (Data bytes) = takes_bytes false said
+abbrev pub may_follow : List ScriptLine → ScriptLine → Bool
+may_follow said Comment = true
+may_follow said (Begins event) = true
+may_follow said (Data bytes) = accepts_bytes false said
 
 -- the content of the next line, where it breaks no rule
-abbrev pub next_said : List KnownPeer → List ScriptLine → List ℕ → Option ScriptLine
-next_said known said text = do
+abbrev pub next_script_line : List KnownPeer → List ScriptLine → List ℕ → Option ScriptLine
+next_script_line known said text = do
   line ← line_of known text
-  if stands said line then Some line else None
+  if may_follow said line then Some line else None
 
 -- the bytes of the data lines up to the next event
 abbrev pub data_of : List ScriptLine → List ℕ
 data_of [] = []
-data_of (Remark ∷ lines) = data_of lines
+data_of (Comment ∷ lines) = data_of lines
 data_of (Begins event ∷ lines) = []
 data_of (Data bytes ∷ lines) = bytes ++ data_of lines
 
@@ -140,7 +140,7 @@ with_bytes (Quiet at) more = Quiet at
 -- the events that begin in these lines
 abbrev pub events_in : List ScriptLine → List Event
 events_in [] = []
-events_in (Remark ∷ lines) = events_in lines
+events_in (Comment ∷ lines) = events_in lines
 events_in (Begins event ∷ lines) = with_bytes event (data_of lines) ∷ events_in lines
 events_in (Data bytes ∷ lines) = events_in lines
 
@@ -150,16 +150,16 @@ events_from (Err number) = Err number
 
 -- the events of a text, or the number, from 1, of the first line that breaks the grammar
 unfoldable pub events_of : List KnownPeer → List ℕ → Result (List Event) ℕ
-events_of known text = events_from (said_by (next_said known) 1 [] (lines_of text))
+events_of known text = events_from (lines_by (next_script_line known) 1 [] (lines_of text))
 
 -- ---- words of contracts
 
 -- the inputs of a link that returns these events and has returned none yet
-abbrev pub unheard : List Event → Ear
-unheard events = record { events = events; reads = []; over = false }
+abbrev pub initial_input : List Event → LinkInput
+initial_input events = record { events = events; reads = []; ended = false }
 
 -- a link of these events, or this fault, unless memory ran out
-abbrev pub Answers : Result Ear ScriptFault → Result (List Event) ℕ → Type 0
-Answers (Ok ear) due = due ≡ Ok ear.events
-Answers (Err (BadLine number)) due = due ≡ Err number
-Answers (Err NoMemory) due = Unit {0}
+abbrev pub ReadsScript : Result LinkInput ScriptFault → Result (List Event) ℕ → Type 0
+ReadsScript (Ok input) due = due ≡ Ok input.events
+ReadsScript (Err (BadLine number)) due = due ≡ Err number
+ReadsScript (Err NoMemory) due = Unit {0}

@@ -1,12 +1,12 @@
 //! A script as a link.
 ghost use Rattle.std.specs.Prelude.{◌≡◌, None, Some, IfOk, length};
-ghost use Rattle.mmtel_link.specs.Told.{Ear};
-ghost use Rattle.mmtel_script.specs.Script.{Answers, events_of, unheard};
+ghost use Rattle.mmtel_link.specs.LinkStates.{LinkInput};
+ghost use Rattle.mmtel_script.specs.Script.{ReadsScript, events_of, initial_input};
 
 use crate::scripts::{ScriptFault, read_events};
+use mmtel_base::List;
+use mmtel_environment::Event;
 use mmtel_link::{Arrival, Link, MemoryLink, SendFault};
-use mmtel_outside::Event;
-use mmtel_scan::List;
 use mmtel_trust::PeerTable;
 use mmtel_types::{Addr, Failed};
 use std::alloc::Global;
@@ -21,11 +21,11 @@ pub struct ScriptLink {
 
 impl Model for ScriptLink {
     ghost use Rattle.std.specs.Prelude.{◌≡◌, []};
-    ghost use Rattle.mmtel_link.specs.Told.{Ear};
+    ghost use Rattle.mmtel_link.specs.LinkStates.{LinkInput};
 
-    ghost Value = { Ear };
+    ghost Value = { LinkInput };
 
-    ghost view = { λ script. script.link.ear };
+    ghost view = { λ script. script.link.input };
 
     ghost invariant = { λ script. script.link.calls.failing ≡ [] };
 }
@@ -43,8 +43,8 @@ impl ScriptLink {
     ///
     /// `BadLine` exactly with the first line that breaks this; else out of memory only.
     pub fn read(alloc: Global, bytes: &[u8], peers: &PeerTable) -> Result<ScriptLink, ScriptFault>
-        ensures exact { Answers result (events_of peers.now.known bytes.now) }
-        ensures unheard { IfOk result (λ script. script ≡ unheard script.events) }
+        ensures exact { ReadsScript result (events_of peers.now.known bytes.now) }
+        ensures unheard { IfOk result (λ script. script ≡ initial_input script.events) }
     {
         let events = read_events(alloc, bytes, peers)?;
         Ok(ScriptLink {
@@ -68,15 +68,15 @@ impl ScriptLink {
 }
 
 impl Link for ScriptLink {
-    ghost ear = { λ script. Some script };
+    ghost input = { λ script. Some script };
 
     ghost given = { λ _. None };
 
     ghost calls = { λ _. None };
 
-    ghost taking = { λ _. 0 };
+    ghost arrival_faults = { λ _. 0 };
 
-    ghost giving = { λ _. 0 };
+    ghost delivery_faults = { λ _. 0 };
 
     fn bind(&mut self, _sip: Addr, _web: Addr) -> Result<(), Failed> {
         Ok(())

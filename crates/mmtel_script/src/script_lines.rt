@@ -1,11 +1,11 @@
 //! The lines of a script, one by one.
 ghost use Rattle.std.specs.Prelude.{◌≡◌, ◌<◌, length, Some, None, IfOk, IfSome, MatchOption};
 ghost use Rattle.std.specs.Option.{option_map};
-ghost use Rattle.mmtel_script.specs.Script.{beginning, datagram_from, digits_line, event_at, event_line, hex_bytes, leading_byte, hex_value, line_of, with_first};
+ghost use Rattle.mmtel_script.specs.Script.{event_start_line, datagram_from, digits_line, event_at, event_line, hex_bytes, leading_byte, hex_value, line_of, with_first};
 
+use mmtel_base::{NoMemory, Text, plain_number, split_once_at};
 use mmtel_directory::read_peer;
-use mmtel_outside::Event;
-use mmtel_scan::{NoMemory, Text, part, plain_number};
+use mmtel_environment::Event;
 use mmtel_trust::PeerTable;
 use mmtel_types::Moment;
 use mmtel_types::limits::LAST_MOMENT;
@@ -15,7 +15,7 @@ use std::alloc::Global;
 #[derive(Drop)]
 pub enum ScriptLine {
     /// Nothing: it is empty, or begins with `#`.
-    Remark,
+    Comment,
     /// An event begins, without bytes yet.
     Begins(Event),
     /// Bytes of the event above.
@@ -92,7 +92,7 @@ fn digits_line(alloc: Global, digits: &[u8]) -> Result<Option<ScriptLine>, NoMem
 fn datagram_from(at: Moment, rest: &[u8], peers: &PeerTable) -> Option<Event>
     ensures { result ≡ datagram_from peers.now.known at rest.now }
 {
-    let (word, number) = part(b' ', rest)?;
+    let (word, number) = split_once_at(b' ', rest)?;
     let from = peers.addr(read_peer(number)?)?;
     if word == b"peer".as_slice() {
         Some(Event::Datagram {
@@ -124,8 +124,8 @@ fn event_at(at: Moment, rest: &[u8], peers: &PeerTable) -> Option<Event>
 fn event_line(line: &[u8], peers: &PeerTable) -> Option<Event>
     ensures { result ≡ event_line peers.now.known line.now }
 {
-    let (at, rest) = part(b' ', line)?;
-    let (moment, rest) = part(b' ', rest)?;
+    let (at, rest) = split_once_at(b' ', line)?;
+    let (moment, rest) = split_once_at(b' ', rest)?;
     let moment = Moment::new(plain_number(LAST_MOMENT, moment)?)?;
     if at == b"at".as_slice() {
         event_at(moment, rest, peers)
@@ -134,8 +134,8 @@ fn event_line(line: &[u8], peers: &PeerTable) -> Option<Event>
     }
 }
 
-fn beginning(line: &[u8], peers: &PeerTable) -> Option<ScriptLine>
-    ensures { result ≡ beginning peers.now.known line.now }
+fn event_start_line(line: &[u8], peers: &PeerTable) -> Option<ScriptLine>
+    ensures { result ≡ event_start_line peers.now.known line.now }
 {
     Some(ScriptLine::Begins(event_line(line, peers)?))
 }
@@ -150,8 +150,8 @@ pub fn read_script_line(
     ensures { IfOk result (λ said. said ≡ line_of peers.now.known line.now) }
 {
     match line {
-        [] => Ok(Some(ScriptLine::Remark)),
-        [b'#', ..] => Ok(Some(ScriptLine::Remark)),
+        [] => Ok(Some(ScriptLine::Comment)),
+        [b'#', ..] => Ok(Some(ScriptLine::Comment)),
         [b'|', bytes @ ..] => {
             let mut data = Text::of(alloc, bytes)?;
             data.push(alloc, b"\r\n")?;
@@ -159,6 +159,6 @@ pub fn read_script_line(
         }
         [b'+', bytes @ ..] => Ok(Some(ScriptLine::Data(Text::of(alloc, bytes)?))),
         [b'x', digits @ ..] => digits_line(alloc, digits),
-        _ => Ok(beginning(line, peers)),
+        _ => Ok(event_start_line(line, peers)),
     }
 }

@@ -2,13 +2,13 @@
 ghost use Rattle.std.specs.Prelude.{◌≡◌};
 ghost use Rattle.mmtel_directory.specs.Lines.{lines_of};
 ghost use Rattle.mmtel_script.specs.Script.{events_of};
-ghost use Rattle.mmtel_script.specs.Tellings.{Gathers, Reads};
+ghost use Rattle.mmtel_script.specs.EventDrafts.{Gathers, Reads};
 ghost use Rattle.mmtel_script.specs.declared.scripts.ScriptFault.TheVariants as fault;
 
-use crate::tellings::Telling;
+use crate::event_drafts::EventDraft;
+use mmtel_base::{List, NoMemory};
 use mmtel_directory::next_line;
-use mmtel_outside::Event;
-use mmtel_scan::{List, NoMemory};
+use mmtel_environment::Event;
 use mmtel_trust::PeerTable;
 use std::alloc::Global;
 
@@ -35,16 +35,16 @@ impl From<NoMemory> for ScriptFault {
 /// Adds the content of each line of a text to the events so far.
 fn read_lines(
     alloc: Global,
-    told: &mut Telling,
+    draft: &mut EventDraft,
     bytes: &[u8],
     peers: &PeerTable,
 ) -> Result<(), ScriptFault>
-    ensures { Reads peers.now.known result told.old (lines_of bytes.now) told.new }
+    ensures { Reads peers.now.known result draft.old (lines_of bytes.now) draft.new }
 {
     let mut number: u64 = 1;
     let mut rest = bytes;
     'lines: while let Some((line, more)) = next_line(rest) {
-        told.read(alloc, number, line, peers)?;
+        draft.read(alloc, number, line, peers)?;
         number += 1;
         rest = more;
     }
@@ -59,9 +59,9 @@ pub fn read_events(
 ) -> Result<List<Event>, ScriptFault>
     ensures { Gathers result (events_of peers.now.known bytes.now) }
 {
-    let mut told = Telling::new();
-    match read_lines(alloc, &mut told, bytes, peers) {
-        Ok(()) => told.finish(alloc),
+    let mut draft = EventDraft::new();
+    match read_lines(alloc, &mut draft, bytes, peers) {
+        Ok(()) => draft.finish(alloc),
         Err(fault) => Err(fault),
     }
 }

@@ -2,7 +2,7 @@
 use Rattle.std.proofs.Common.{◌≡◌, List, [], ◌∷◌, refl}
 use Rattle.std.specs.List.{list_any}
 use Rattle.mmtel_sdp.specs.Sdp.{is_audio}
-use Rattle.mmtel_sdp.specs.Mixing.{has_audio}
+use Rattle.mmtel_sdp.specs.Mixer.{has_audio}
 use Rattle.mmtel_sdp.specs.Offers.{kinds}
 use Rattle.mmtel_sdp.specs.declared.values.Medium.{Medium}
 

@@ -7,7 +7,7 @@ use Rattle.std.proofs.lemmas.Bool.{cases_Bool}
 use Rattle.std.proofs.lemmas.Bool.Decides.{nat_tests}
 use Rattle.mmtel_sdp.specs.Sdp.{is_filled}
 use Rattle.mmtel_sdp.proofs.Plain.{both_true}
-use Rattle.mmtel_sdp.proofs.Sound.{word_byte, is_word}
+use Rattle.mmtel_sdp.proofs.Soundness.{word_byte, is_word}
 
 digit_is : (d : ℕ) → d < 10 → word_byte (48 + d) ≡ true
 digit_is d lt = grind (arith, nat_tests)

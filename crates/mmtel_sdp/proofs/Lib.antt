@@ -1,8 +1,8 @@
-pub mod Answered
+pub mod AnswerTheorems
 pub mod Audio
 pub mod Decimals
 pub mod Parts
 pub mod Plain
 pub mod Reading
-pub mod Sound
-pub mod Written
+pub mod Soundness
+pub mod WrittenLines

@@ -5,11 +5,11 @@ use Rattle.std.specs.Str.{byte}
 use Rattle.std.proofs.lemmas.List.Folds.{list_all-append}
 use Rattle.std.proofs.lemmas.Bool.{cases_Bool}
 use Rattle.std.proofs.lemmas.Bool.Decides.{nat_tests}
-use Rattle.mmtel_scan.specs.Chain.{◌>>=◌}
-use Rattle.mmtel_scan.specs.Scanning.{parted, IsFree}
-use Rattle.mmtel_scan.proofs.ChainLaws.{bind_some, guard_some, some_is}
-use Rattle.mmtel_scan.proofs.Runs.{and_true, parted_again}
-use Rattle.mmtel_sdp.specs.Lines.{text_from, line_of, line_at, lines_in, lines_of, written, text_of}
+use Rattle.mmtel_base.specs.Chain.{◌>>=◌}
+use Rattle.mmtel_base.specs.Scanning.{split_once_at, IsFree}
+use Rattle.mmtel_base.proofs.ChainTheorems.{bind_some, guard_some, some_is}
+use Rattle.mmtel_base.proofs.Runs.{and_true, split_again}
+use Rattle.mmtel_sdp.specs.Lines.{text_from, line_of, line_at, lines_in, lines_of, line_text_of, text_of}
 use Rattle.mmtel_sdp.specs.declared.lines.Line.{Line}
 use Rattle.mmtel_sdp.proofs.Parts.{cut, cut_more, cut_one, has_first}
 use Rattle.mmtel_sdp.proofs.Reading.{next_lines, lines_more}
@@ -69,7 +69,7 @@ cr_or_plain c e = grind (arith, nat_tests)
 raw_parts : (raw : List ℕ) → IsFree 10 raw → list_all (λ part. list_all plain_byte part) (cut 13 raw) ≡ true
 raw_parts raw free = parts_pass 13 plain_byte raw (weaker (λ c. not (c == 10)) (λ c. c == 13 || plain_byte c) cr_or_plain raw free)
 
-text_plain : (raw : List ℕ) (o : Option (List ℕ × List ℕ)) (text : List ℕ) → IsFree 10 raw → parted 13 raw ≡ o → text_from o raw ≡ Some text → IsPlain text
+text_plain : (raw : List ℕ) (o : Option (List ℕ × List ℕ)) (text : List ℕ) → IsFree 10 raw → split_once_at 13 raw ≡ o → text_from o raw ≡ Some text → IsPlain text
 text_plain raw None text free e is =
     let parts = rw (cut_one 13 raw e) at (raw_parts raw free) in
     let all : IsPlain raw = (and_true (list_all plain_byte raw) true parts).0 in
@@ -92,8 +92,8 @@ line_plain (x ∷ e ∷ value) line all is =
 at_plain : (raw : List ℕ) (line : Line) → IsFree 10 raw → line_at raw ≡ Some line → plain_line line ≡ true
 unfolding line_at
 at_plain raw line free is =
-    let x = bind_some (text_from (parted 13 raw) raw) (λ text. line_of text) line is in
-    line_plain x.0 line (text_plain raw (parted 13 raw) x.0 free refl x.1) x.2
+    let x = bind_some (text_from (split_once_at 13 raw) raw) (λ text. line_of text) line is in
+    line_plain x.0 line (text_plain raw (split_once_at 13 raw) x.0 free refl x.1) x.2
 
 in_plain : (parts : List (List ℕ)) (lines : List Line) → list_all (λ part. list_all (λ c. not (c == 10)) part) parts ≡ true → lines_in parts ≡ Some lines → ArePlain lines
 in_plain [] lines free is = absurd cc
@@ -136,10 +136,10 @@ line_again : (line : Line) → plain_line line ≡ true → line_at (front_of li
 unfolding line_at
 line_again line e =
     let free : IsFree 13 (bare line) = weaker plain_byte (λ b. not (b == 13)) plain_no_cr (bare line) (bare_plain line e) in
-    let at : parted 13 (front_of line) ≡ Some (bare line, []) = parted_again 13 (bare line) [] free in
+    let at : split_once_at 13 (front_of line) ≡ Some (bare line, []) = split_again 13 (bare line) [] free in
     rw at refl
 
-at_lf : (line : Line) (more : List ℕ) → written line ++ more ≡ front_of line ++ 10 ∷ more
+at_lf : (line : Line) (more : List ℕ) → line_text_of line ++ more ≡ front_of line ++ 10 ∷ more
 at_lf line more = ap (λ (s : List ℕ). line.letter ∷ byte "=" ∷ s) (append_assoc line.value (13 ∷ 10 ∷ []) more ∙ sym (append_assoc line.value (13 ∷ []) (10 ∷ more)))
 
 front_free : (line : Line) → plain_line line ≡ true → IsFree 10 (front_of line)
@@ -153,5 +153,5 @@ pub lines_again : (lines : List Line) → ArePlain lines → lines_of (text_of l
 lines_again [] all = none_again
 lines_again (line ∷ lines) all =
     let both = and_true (plain_line line) (list_all plain_line lines) all in
-    let next : lines_of (front_of line ++ 10 ∷ text_of lines) ≡ next_lines (line_at (front_of line)) (lines_of (text_of lines)) = lines_more (front_of line ++ 10 ∷ text_of lines) (front_of line, text_of lines) (parted_again 10 (front_of line) (text_of lines) (front_free line both.0)) in
+    let next : lines_of (front_of line ++ 10 ∷ text_of lines) ≡ next_lines (line_at (front_of line)) (lines_of (text_of lines)) = lines_more (front_of line ++ 10 ∷ text_of lines) (front_of line, text_of lines) (split_again 10 (front_of line) (text_of lines) (front_free line both.0)) in
     ap (λ (s : List ℕ). lines_of s) (at_lf line (text_of lines)) ∙ next ∙ rw (line_again line both.0, lines_again lines both.1) refl

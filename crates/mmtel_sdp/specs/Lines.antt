@@ -2,8 +2,8 @@
 use Rattle.std.specs.Prelude.{ℕ, List, [], ◌∷◌, ◌++◌, length, Option, Some, None, ◌==◌, if◌then◌else◌}
 use Rattle.std.specs.List.{slice_split, flat_map}
 use Rattle.std.specs.Str.{byte}
-use Rattle.mmtel_scan.specs.Chain.{◌>>=◌}
-use Rattle.mmtel_scan.specs.Scanning.{parted}
+use Rattle.mmtel_base.specs.Chain.{◌>>=◌}
+use Rattle.mmtel_base.specs.Scanning.{split_once_at}
 use Rattle.mmtel_sdp.specs.declared.lines.Line.{Line}
 
 -- a line without the CR at its end; no CR occurs elsewhere in it
@@ -19,7 +19,7 @@ line_of (letter ∷ equals ∷ value) = if equals == byte "=" then Some (record 
 
 -- what is between two LFs, as a line
 unfoldable pub line_at : List ℕ → Option Line
-line_at raw = text_from (parted 13 raw) raw >>= λ text. line_of text
+line_at raw = text_from (split_once_at 13 raw) raw >>= λ text. line_of text
 
 -- each part is a line but the last, which is empty: a LF ends each line
 abbrev pub lines_in : List (List ℕ) → Option (List Line)
@@ -32,9 +32,9 @@ unfoldable pub lines_of : List ℕ → Option (List Line)
 lines_of s = lines_in (slice_split (λ b. b == 10) s)
 
 -- a line as it is written, with CRLF
-abbrev pub written : Line → List ℕ
-written line = line.letter ∷ byte "=" ∷ (line.value ++ 13 ∷ 10 ∷ [])
+abbrev pub line_text_of : Line → List ℕ
+line_text_of line = line.letter ∷ byte "=" ∷ (line.value ++ 13 ∷ 10 ∷ [])
 
 -- lines as they are written
 abbrev pub text_of : List Line → List ℕ
-text_of lines = flat_map written lines
+text_of lines = flat_map line_text_of lines

@@ -3,8 +3,8 @@ use Rattle.std.specs.Prelude.{ℕ, List, [], ◌∷◌, length, Option, Some, No
 use Rattle.std.specs.List.{slice_split, list_all}
 use Rattle.std.specs.Option.{option_or, unwrap_or}
 use Rattle.std.specs.Str.{byte, bytes_eq}
-use Rattle.mmtel_scan.specs.Chain.{◌>>=◌}
-use Rattle.mmtel_scan.specs.Scanning.{after_byte, after_text}
+use Rattle.mmtel_base.specs.Chain.{◌>>=◌}
+use Rattle.mmtel_base.specs.Scanning.{after_byte, after_text}
 use Rattle.mmtel_sdp.specs.Lines.{lines_of}
 use Rattle.mmtel_sdp.specs.declared.lines.Line.{Line}
 use Rattle.mmtel_sdp.specs.declared.values.Direction.{Direction}
@@ -119,9 +119,9 @@ abbrev pub direction_of : List Line → Direction
 direction_of lines = unwrap_or (option_or (first_of direction_in (under_audio (sections lines))) (first_of direction_in (before_media lines))) SendRecv
 
 -- the first line is v=0
-abbrev pub begins : List Line → Bool
-begins [] = false
-begins (line ∷ lines) = line.letter == byte "v" && bytes_eq line.value (codes "0")
+abbrev pub has_session_head : List Line → Bool
+has_session_head [] = false
+has_session_head (line ∷ lines) = line.letter == byte "v" && bytes_eq line.value (codes "0")
 
 -- one medium or more
 abbrev pub view_from : List Line → Option (List Medium) → Option SdpView
@@ -130,7 +130,7 @@ view_from lines (Some []) = None
 view_from lines (Some (medium ∷ media)) = Some (record { media = medium ∷ media; direction = direction_of lines })
 
 unfoldable pub session_of : List Line → Option SdpView
-session_of lines = if begins lines then view_from lines (media_of (sections lines)) else None
+session_of lines = if has_session_head lines then view_from lines (media_of (sections lines)) else None
 
 -- what a body says, if it is a session description
 unfoldable pub sdp_of : List ℕ → Option SdpView

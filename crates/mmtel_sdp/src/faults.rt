@@ -3,7 +3,7 @@ ghost use Rattle.std.specs.Prelude.{◌≡◌};
 ghost use Rattle.mmtel_sdp.specs.declared.faults.SdpFault.TheVariants as sdp;
 ghost use Rattle.mmtel_sdp.specs.declared.faults.AnswerFault.TheVariants as answer;
 
-use mmtel_scan::NoMemory;
+use mmtel_base::NoMemory;
 
 /// Why a body is no session description.
 #[derive(Clone, Copy, Debug, PartialEq, Eq)]

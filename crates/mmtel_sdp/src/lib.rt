@@ -3,15 +3,15 @@
 
 mod faults;
 mod lines;
-mod looking;
 mod media;
-mod mixing;
+mod mixer;
 mod offers;
 mod values;
+mod views;
 mod writing;
 
 pub use faults::{AnswerFault, SdpFault};
-pub use looking::look;
-pub use mixing::{mixer_answer, mixer_offer};
-pub use offers::{direction_told, kinds_of, offers_audio, view_of};
+pub use mixer::{mixer_answer, mixer_offer};
+pub use offers::{direction_in_body, kinds_of, offers_audio, view_of};
 pub use values::{Direction, Medium, Mixer, SdpView};
+pub use views::look;

@@ -7,7 +7,7 @@ ghost use Rattle.mmtel_sdp.specs.Sdp.{media_of, first_word, is_audio, under_audi
 
 use crate::lines::Line;
 use crate::values::{Direction, Medium};
-use mmtel_scan::{List, NoMemory, Text, part, skip_byte, skip_text};
+use mmtel_base::{List, NoMemory, Text, skip_byte, skip_text, split_once_at};
 use std::alloc::Global;
 
 /// The lines before the first `m=` line.
@@ -27,7 +27,7 @@ fn next_word(text: &[u8]) -> Option<(&[u8], &[u8])>
     ensures words { MatchOption result (words text.now ≡ text.now ∷ []) (λ x. words text.now ≡ x.0.now ∷ words x.1.now) }
     ensures shorter { IfSome result (λ x. length x.1.now < length text.now) }
 {
-    part(b' ', text)
+    split_once_at(b' ', text)
 }
 
 /// The first word.

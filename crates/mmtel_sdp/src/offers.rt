@@ -2,14 +2,14 @@
 ghost use Rattle.std.specs.Prelude.{◌≡◌, IfOk};
 ghost use Rattle.std.specs.List.{list_any};
 ghost use Rattle.mmtel_sdp.specs.Sdp.{is_audio, sdp_of};
-ghost use Rattle.mmtel_sdp.specs.Mixing.{has_audio};
-ghost use Rattle.mmtel_sdp.specs.Offers.{kinds, kinds_of, offers_audio, direction_told};
+ghost use Rattle.mmtel_sdp.specs.Mixer.{has_audio};
+ghost use Rattle.mmtel_sdp.specs.Offers.{kinds, kinds_of, offers_audio, direction_in_body};
 
 use crate::faults::SdpFault;
-use crate::looking::look;
-use crate::mixing::has_audio;
+use crate::mixer::has_audio;
 use crate::values::{Direction, SdpView};
-use mmtel_scan::{List, NoMemory, Text};
+use crate::views::look;
+use mmtel_base::{List, NoMemory, Text};
 use std::alloc::Global;
 
 impl SdpView {
@@ -87,8 +87,8 @@ pub fn kinds_of(alloc: Global, body: &[u8]) -> Result<List<Text>, NoMemory>
 /// # Errors
 ///
 /// Out of memory only.
-pub fn direction_told(alloc: Global, body: &[u8]) -> Result<Option<Direction>, NoMemory>
-    ensures exact { IfOk result (λ direction. direction ≡ direction_told body.now) }
+pub fn direction_in_body(alloc: Global, body: &[u8]) -> Result<Option<Direction>, NoMemory>
+    ensures exact { IfOk result (λ direction. direction ≡ direction_in_body body.now) }
 {
     match view_of(alloc, body)? {
         None => Ok(None),

@@ -1,6 +1,6 @@
 //! What is read of a session description.
 
-use mmtel_scan::{List, Text};
+use mmtel_base::{List, Text};
 
 /// In which direction media flow, from the point of view of the side that wrote the description (RFC 3264 §5.1).
 #[derive(Clone, Copy, Debug, PartialEq, Eq)]

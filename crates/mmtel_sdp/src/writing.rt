@@ -1,16 +1,16 @@
 //! Writing the lines of the mixer's texts.
 ghost use Rattle.std.specs.Prelude.{◌≡◌, ◌++◌, OnOk, IfOk, decimal};
 ghost use Rattle.std.specs.Str.{byte};
-ghost use Rattle.mmtel_sdp.specs.Lines.{written, text_of};
-ghost use Rattle.mmtel_sdp.specs.Mixing.{line, ip_text, opening, media_value, direction_text, map_lines, accepted, refused};
+ghost use Rattle.mmtel_sdp.specs.Lines.{line_text_of, text_of};
+ghost use Rattle.mmtel_sdp.specs.Mixer.{line, ip_text, session_lines, media_value, direction_text, map_lines, accepted_lines, refused_lines};
 
 use crate::values::{Direction, Medium, Mixer};
-use mmtel_scan::{NoMemory, Text};
+use mmtel_base::{NoMemory, Text};
 use std::alloc::Global;
 
 /// Adds a line, with CRLF.
 pub fn add_line(alloc: Global, out: &mut Text, letter: u8, value: &[u8]) -> Result<(), NoMemory>
-    ensures { OnOk result (out.new ≡ out.old ++ written (line letter value.now)) }
+    ensures { OnOk result (out.new ≡ out.old ++ line_text_of (line letter value.now)) }
 {
     out.push(alloc, &[letter, b'='])?;
     out.push(alloc, value)?;
@@ -18,7 +18,7 @@ pub fn add_line(alloc: Global, out: &mut Text, letter: u8, value: &[u8]) -> Resu
 }
 
 /// An IPv4 address in dotted decimal.
-#[tactic(auto, unfolding(crate::specs::Mixing::ip_text))]
+#[tactic(auto, unfolding(crate::specs::Mixer::ip_text))]
 fn ip_text(alloc: Global, ip: [u8; 4]) -> Result<Text, NoMemory>
     ensures { IfOk result (λ text. text ≡ ip_text ip) }
 {
@@ -34,8 +34,8 @@ fn ip_text(alloc: Global, ip: [u8; 4]) -> Result<Text, NoMemory>
 }
 
 /// The lines `v=`, `o=`, `s=`, `c=` and `t=` (RFC 4566 §5.1 to §5.9).
-pub fn opening(alloc: Global, mixer: Mixer) -> Result<Text, NoMemory>
-    ensures { IfOk result (λ text. text ≡ text_of (opening mixer)) }
+pub fn session_lines(alloc: Global, mixer: Mixer) -> Result<Text, NoMemory>
+    ensures { IfOk result (λ text. text ≡ text_of (session_lines mixer)) }
 {
     let ip = ip_text(alloc, mixer.ip)?;
     let mut origin = Text::of(alloc, b"mixer 1 1 IN IP4 ")?;
@@ -52,7 +52,7 @@ pub fn opening(alloc: Global, mixer: Mixer) -> Result<Text, NoMemory>
 }
 
 /// The value of an `m=` line.
-#[tactic(auto, unfolding(crate::specs::Mixing::media_value))]
+#[tactic(auto, unfolding(crate::specs::Mixer::media_value))]
 fn media_value(
     alloc: Global,
     kind: &[u8],
@@ -81,14 +81,14 @@ pub fn add_media_line(
     proto: &[u8],
     format: &[u8],
 ) -> Result<(), NoMemory>
-    ensures { OnOk result (out.new ≡ out.old ++ written (line (byte "m") (media_value kind.now (decimal port) proto.now format.now))) }
+    ensures { OnOk result (out.new ≡ out.old ++ line_text_of (line (byte "m") (media_value kind.now (decimal port) proto.now format.now))) }
 {
     let port = port.to_string(alloc)?;
     let value = media_value(alloc, kind, port.as_bytes(), proto, format)?;
     add_line(alloc, out, b'm', value.bytes())
 }
 
-#[tactic(auto, unfolding(crate::specs::Mixing::direction_text))]
+#[tactic(auto, unfolding(crate::specs::Mixer::direction_text))]
 fn direction_text(direction: Direction) -> &'static [u8]
     ensures { result.now ≡ direction_text direction }
 {
@@ -102,7 +102,7 @@ fn direction_text(direction: Direction) -> &'static [u8]
 
 /// Adds the line of a direction.
 pub fn add_direction(alloc: Global, out: &mut Text, direction: Direction) -> Result<(), NoMemory>
-    ensures { OnOk result (out.new ≡ out.old ++ written (line (byte "a") (direction_text direction))) }
+    ensures { OnOk result (out.new ≡ out.old ++ line_text_of (line (byte "a") (direction_text direction))) }
 {
     add_line(alloc, out, b'a', direction_text(direction))
 }
@@ -129,7 +129,7 @@ pub fn add_accepted(
     direction: Direction,
     medium: &Medium,
 ) -> Result<(), NoMemory>
-    ensures { OnOk result (out.new ≡ out.old ++ text_of (accepted port direction medium.now)) }
+    ensures { OnOk result (out.new ≡ out.old ++ text_of (accepted_lines port direction medium.now)) }
 {
     add_media_line(
         alloc,
@@ -145,7 +145,7 @@ pub fn add_accepted(
 
 /// Adds the line of a medium that the mixer rejects: its port is 0 (RFC 3264 §6).
 pub fn add_refused(alloc: Global, out: &mut Text, medium: &Medium) -> Result<(), NoMemory>
-    ensures { OnOk result (out.new ≡ out.old ++ text_of (refused medium.now)) }
+    ensures { OnOk result (out.new ≡ out.old ++ text_of (refused_lines medium.now)) }
 {
     add_media_line(
         alloc,

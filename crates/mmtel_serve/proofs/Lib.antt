@@ -1,5 +1,5 @@
 mod Turning
 mod Reading
-mod Gives
-mod Secret
-mod Served
+mod Delivery
+mod Noninterference
+mod ServeEffects

@@ -1,18 +1,18 @@
 //! Serving: the server over a link to which the server's outputs are passed.
 ghost use Rattle.std.specs.Prelude.{◌≡◌, ◌⊎◌, OnErr, OnOk};
-ghost use Rattle.mmtel_giving.specs.Giving.{IsBoundStill, LostNoMore, LostOnlyWhereRose, RoseBy, lost_more};
-ghost use Rattle.mmtel_outside.specs.Counts.{Rose};
-ghost use Rattle.mmtel_serve.specs.Served.{Served};
-ghost use Rattle.mmtel_serve.specs.Turns.{EventServed, EventStopped};
-ghost use Rattle.mmtel_server.specs.Driven.{HasDriveCause, HasFailedByNumber, StandsOrRose};
-ghost use Rattle.mmtel_server.specs.Seen.{serving_state};
+ghost use Rattle.mmtel_delivery.specs.Delivery.{IsBoundStill, LostNoMore, LostOnlyWhereRose, RoseBy, new_losses};
+ghost use Rattle.mmtel_environment.specs.Counts.{Rose};
+ghost use Rattle.mmtel_serve.specs.ServeEffects.{ServeEffect};
+ghost use Rattle.mmtel_serve.specs.Turns.{EventAborted, EventEffect};
+ghost use Rattle.mmtel_server.specs.DriveEffects.{HasDriveCause, HasFailedByNumber, StaysOrRises};
+ghost use Rattle.mmtel_server.specs.States.{serving_state};
 
-use mmtel_giving::{give_each, parts_are_given};
+use mmtel_base::{List, NoMemory};
+use mmtel_delivery::{deliver_each, parts_are_delivered};
 use mmtel_keeper::Keeper;
 use mmtel_link::{Event, Link};
-use mmtel_run_laws::{bytes_are_seen, runs_keep_the_secret};
-use mmtel_scan::{List, NoMemory};
-use mmtel_server::{DriveFault, Server, laws_of_runs_hold, next_event};
+use mmtel_run_theorems::{bytes_are_seen, runs_keep_noninterference};
+use mmtel_server::{DriveFault, Server, next_event, theorems_of_runs_hold};
 use mmtel_timers::Steps;
 use std::alloc::Global;
 use std::sync::ledger::Ledger;
@@ -26,24 +26,24 @@ fn serve_event<N: Link, K: Keeper, L: Ledger>(
     event: &Event,
     steps: &mut Steps<L>,
 ) -> Result<(), NoMemory>
-    ensures done { OnOk result (EventServed event.now
+    ensures done { OnOk result (EventEffect event.now
         (serving_state N.Link link.old K.Keeper keeper.old server.old)
         (serving_state N.Link link.new K.Keeper keeper.new server.new) result) }
-    ensures stopped { OnErr result (EventStopped event.now
+    ensures stopped { OnErr result (EventAborted event.now
         (serving_state N.Link link.old K.Keeper keeper.old server.old)
         (serving_state N.Link link.new K.Keeper keeper.new server.new)
-        ⊎ EventServed event.now
+        ⊎ EventEffect event.now
         (serving_state N.Link link.old K.Keeper keeper.old server.old)
         (serving_state N.Link link.new K.Keeper keeper.new server.new) result) }
-    ensures lost { LostOnlyWhereRose (N.given link.old) (N.given link.new) (N.giving link.old) (N.giving link.new) }
-    ensures counted { RoseBy (lost_more (N.given link.old) (N.given link.new)) (N.giving link.old) (N.giving link.new) }
-    ensures heard { N.ear link.new ≡ N.ear link.old }
+    ensures lost { LostOnlyWhereRose (N.given link.old) (N.given link.new) (N.delivery_faults link.old) (N.delivery_faults link.new) }
+    ensures counted { RoseBy (new_losses (N.given link.old) (N.given link.new)) (N.delivery_faults link.old) (N.delivery_faults link.new) }
+    ensures received { N.input link.new ≡ N.input link.old }
     ensures bound { IsBoundStill (N.calls link.old) (N.calls link.new) }
-    ensures taking { N.taking link.new ≡ N.taking link.old }
+    ensures arrival_faults { N.arrival_faults link.new ≡ N.arrival_faults link.old }
 {
     let mut out = List::new();
     match server.step(alloc, event, keeper, &mut out, steps) {
-        Ok(()) => give_each(alloc, server.peers(), link, out.items()),
+        Ok(()) => deliver_each(alloc, server.peers(), link, out.items()),
         Err(NoMemory) => Err(NoMemory),
     }
 }
@@ -66,19 +66,19 @@ pub fn serve<N: Link, K: Keeper, L: Ledger>(
     turns: u64,
     steps: &mut Steps<L>,
 ) -> Result<bool, DriveFault>
-    ensures served { Served turns (serving_state N.Link link.old K.Keeper keeper.old server.old)
+    ensures served { ServeEffect turns (serving_state N.Link link.old K.Keeper keeper.old server.old)
         (serving_state N.Link link.new K.Keeper keeper.new server.new) result }
     // An output is lost only where the count of delivery faults rose.
-    ensures lost { LostNoMore (N.given link.old) (N.given link.new) ⊎ Rose (N.giving link.old) (N.giving link.new) }
-    ensures giving { StandsOrRose (N.giving link.old) (N.giving link.new) }
+    ensures lost { LostNoMore (N.given link.old) (N.given link.new) ⊎ Rose (N.delivery_faults link.old) (N.delivery_faults link.new) }
+    ensures delivery_faults { StaysOrRises (N.delivery_faults link.old) (N.delivery_faults link.new) }
     ensures bound { IsBoundStill (N.calls link.old) (N.calls link.new) }
     // At an arrival fault the last call of the link, where it exposes its calls, has the number of one that fails.
     ensures number { HasFailedByNumber (N.calls link.new) result }
-    ensures cause { HasDriveCause (N.taking link.old) (N.taking link.new) result }
+    ensures cause { HasDriveCause (N.arrival_faults link.old) (N.arrival_faults link.new) result }
 {
-    laws_of_runs_hold();
-    parts_are_given();
-    runs_keep_the_secret();
+    theorems_of_runs_hold();
+    parts_are_delivered();
+    runs_keep_noninterference();
     bytes_are_seen();
     'turns: for _turn in 0..turns {
         match next_event(alloc, link) {

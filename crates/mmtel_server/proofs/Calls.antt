@@ -2,130 +2,130 @@
 use Rattle.std.proofs.Common.{◌≡◌, ℕ, List, [], ◌∷◌, ◌++◌, drop, length, refl, sym, ap, ◌∙◌, subst, arith}
 use Rattle.std.specs.Option.{option_map}
 use Rattle.std.proofs.lemmas.List.{drop_all}
-use Rattle.mmtel_b2bua.specs.Histories as histories
-use Rattle.mmtel_b2bua.specs.Histories.{CallsView, Deed, Drops, Finishes, Hears, finished_by, hears_after, site_of as site_in, table_after}
-use Rattle.mmtel_b2bua.specs.Tables.{Moved, Table, opened_after, taken, with_moved}
+use Rattle.mmtel_b2bua.specs.Operations as histories
+use Rattle.mmtel_b2bua.specs.Operations.{CallsView, Drops, Finishes, Receives, TableOp, config_of as site_in, step_on_finish, step_on_receive_after, table_after}
+use Rattle.mmtel_b2bua.specs.Tables.{Table, TableStep, opened_after, step_of_signal, with_step}
 use Rattle.mmtel_b2bua.specs.declared.signals.Signal.{Signal}
-use Rattle.mmtel_call_decisions.specs.Site.{Site}
+use Rattle.mmtel_call_services.specs.CallConfig.{CallConfigView}
 use Rattle.mmtel_charging.specs.declared.rows.Row.{Row}
-use Rattle.mmtel_desk.specs.Desks.{fresh}
-use Rattle.mmtel_desk.specs.declared.desks.Desk.{Desk}
+use Rattle.mmtel_output.specs.Outputs.{empty_output}
+use Rattle.mmtel_output.specs.declared.outputs.StepOutput.{StepOutput}
 use Rattle.mmtel_directory.specs.declared.directories.Directory.{Directory}
-use Rattle.mmtel_in_force.specs.Held.{Agrees}
-use Rattle.mmtel_in_force.specs.Texts.{Texts}
-use Rattle.mmtel_outside.specs.declared.events.Offer.{Offer}
-use Rattle.mmtel_scan.specs.Numbers.{next_number}
-use Rattle.mmtel_sheet_grammar.specs.Texts.{kept_sheet}
+use Rattle.mmtel_records_in_force.specs.Records.{SheetsMatchTexts}
+use Rattle.mmtel_records_in_force.specs.Texts.{Texts}
+use Rattle.mmtel_environment.specs.declared.events.Offer.{Offer}
+use Rattle.mmtel_base.specs.Numbers.{next_number}
+use Rattle.mmtel_sheet_grammar.specs.Texts.{stored_sheet}
 use Rattle.mmtel_sheet_texts.specs.Texts.{text_at}
-use Rattle.mmtel_transaction.specs.Tokens.{Drawn}
+use Rattle.mmtel_transaction.specs.Tokens.{TokensView}
 use Rattle.mmtel_transaction.specs.declared.words.Emit.{Emit}
 use Rattle.mmtel_trust.specs.Peers.{Peers}
 use Rattle.mmtel_trust.specs.declared.accounts.AccountIdentity.{AccountIdentity}
 use Rattle.mmtel_types.specs.declared.numbers.Account.{Account}
 use Rattle.mmtel_types.specs.declared.numbers.CallNo.{CallNo}
-use Rattle.mmtel_run.specs.Calls.{calls_after, site_of}
-use Rattle.mmtel_run.specs.InForce.{CallsAreToldWhatIsInForce, CallsSeeWhatIsSaid, SaySame}
-use Rattle.mmtel_run.specs.Records.{in_force}
-use Rattle.mmtel_run.specs.World.{World, calls_in, heard_now, tokens_now}
-use Rattle.mmtel_server.specs.Follows.{AllDrawOn, brought_in, desk_at_end, desk_of}
-use Rattle.mmtel_server.specs.Stands.{Did, calls_of}
+use Rattle.mmtel_run_definitions.specs.Calls.{call_config, calls_after}
+use Rattle.mmtel_run_definitions.specs.InForce.{CallsSeeRecordsAlone, CallsSeeWhatIsInForce, HaveSameRecords}
+use Rattle.mmtel_run_definitions.specs.Records.{in_force}
+use Rattle.mmtel_run_definitions.specs.Transitions.{RunState, calls_in, received_now, tokens_now}
+use Rattle.mmtel_server.specs.Follows.{NumbersNeverFall, after_call_operation, output_at_end, output_of_signal}
+use Rattle.mmtel_server.specs.Representation.{RepresentsWithOffers, calls_of}
 use Rattle.mmtel_server.specs.declared.servers.Server.{Server}
 
 -- a signal, as the server passes it on
-abbrev pub heard_of : ℕ → Server → Signal → histories.Heard
-heard_of at s x = record { at = at; view = s.records.view; tokens = s.tokens; signal = x }
+abbrev pub received_signal : ℕ → Server → Signal → histories.ReceivedSignal
+received_signal at s x = record { at = at; view = s.records.view; tokens = s.tokens; signal = x }
 
-module _ (d : Directory) (token : List ℕ) (before out : List Offer) (s : Server) (w : World) (have : Did d token before s out w) where
+module _ (d : Directory) (token : List ℕ) (before out : List Offer) (s : Server) (w : RunState) (have : RepresentsWithOffers d token before s out w) where
   -- the calls of the server represent the operations on them
-  stand : histories.Stands s.directory.peers s.directory.names.accounts s.calls w.deeds
+  stand : histories.Represents s.directory.peers s.directory.names.accounts s.calls w.call_ops
   stand =
-      subst (λ (e : Directory). histories.Stands e.peers e.names.accounts s.calls w.deeds) (sym have.stands.directory_same)
-      (subst (λ (c : CallsView). histories.Stands d.peers d.names.accounts c w.deeds) (sym have.stands.calls) (record { table = refl; works = refl }))
+      subst (λ (e : Directory). histories.Represents e.peers e.names.accounts s.calls w.call_ops) (sym have.represents.same_directory)
+      (subst (λ (c : CallsView). histories.Represents d.peers d.names.accounts c w.call_ops) (sym have.represents.calls) (record { table = refl; works = refl }))
 
-  site_is : site_in s.calls s.directory.peers s.directory.names.accounts ≡ site_of d
+  site_is : site_in s.calls s.directory.peers s.directory.names.accounts ≡ call_config d
   site_is =
-      ap (λ (e : Directory). site_in s.calls e.peers e.names.accounts) have.stands.directory_same
-      ∙ ap (λ (c : CallsView). site_in c d.peers d.names.accounts) have.stands.calls
+      ap (λ (e : Directory). site_in s.calls e.peers e.names.accounts) have.represents.same_directory
+      ∙ ap (λ (c : CallsView). site_in c d.peers d.names.accounts) have.represents.calls
 
   -- an operation was done on them, in the server's terms and in those of the state; then their CDRs were removed
-  module _ (said deed : Deed) (desk : Desk) (same : table_after (site_of d) (said ∷ w.deeds) ≡ table_after (site_of d) (deed ∷ w.deeds))
-      (closes : (table_after (site_of d) (deed ∷ w.deeds)).rows ≡ (calls_in d w).rows ++ desk.rows) (calls : CallsView)
-      (done : (deeds : List Deed) → histories.Stands s.directory.peers s.directory.names.accounts s.calls deeds → histories.Stands s.directory.peers s.directory.names.accounts calls (said ∷ deeds))
+  module _ (said op : TableOp) (output : StepOutput) (same : table_after (call_config d) (said ∷ w.call_ops) ≡ table_after (call_config d) (op ∷ w.call_ops))
+      (closes : (table_after (call_config d) (op ∷ w.call_ops)).rows ≡ (calls_in d w).rows ++ output.rows) (calls : CallsView)
+      (done : (ops : List TableOp) → histories.Represents s.directory.peers s.directory.names.accounts s.calls ops → histories.Represents s.directory.peers s.directory.names.accounts calls (said ∷ ops))
       (stays : (peers : Peers) (accounts : List AccountIdentity) → site_in calls peers accounts ≡ site_in s.calls peers accounts) where
-    table_is : calls.table ≡ table_after (site_of d) (deed ∷ w.deeds)
+    table_is : calls.table ≡ table_after (call_config d) (op ∷ w.call_ops)
     table_is =
-        (done w.deeds stand).table
-        ∙ (ap (λ (t : Site). table_after t (said ∷ w.deeds)) (stays s.directory.peers s.directory.names.accounts ∙ site_is) ∙ same)
+        (done w.call_ops stand).table
+        ∙ (ap (λ (t : CallConfigView). table_after t (said ∷ w.call_ops)) (stays s.directory.peers s.directory.names.accounts ∙ site_is) ∙ same)
 
-    site_then : site_in calls d.peers d.names.accounts ≡ site_of d
-    site_then = stays d.peers d.names.accounts ∙ ap (λ (c : CallsView). site_in c d.peers d.names.accounts) have.stands.calls
+    site_then : site_in calls d.peers d.names.accounts ≡ call_config d
+    site_then = stays d.peers d.names.accounts ∙ ap (λ (c : CallsView). site_in c d.peers d.names.accounts) have.represents.calls
 
-    stand_then : histories.Stands d.peers d.names.accounts calls (deed ∷ w.deeds)
-    stand_then = record { table = table_is ∙ sym (ap (λ (t : Site). table_after t (deed ∷ w.deeds)) site_then); works = (done w.deeds stand).works }
+    stand_then : histories.Represents d.peers d.names.accounts calls (op ∷ w.call_ops)
+    stand_then = record { table = table_is ∙ sym (ap (λ (t : CallConfigView). table_after t (op ∷ w.call_ops)) site_then); works = (done w.call_ops stand).works }
 
-    rows_are : calls.table.rows ≡ desk.rows
-    rows_are = ap (λ (t : Table). t.rows) table_is ∙ (closes ∙ ap (λ (rows : List Row). rows ++ desk.rows) have.stands.drained)
+    rows_are : calls.table.rows ≡ output.rows
+    rows_are = ap (λ (t : Table). t.rows) table_is ∙ (closes ∙ ap (λ (rows : List Row). rows ++ output.rows) have.represents.no_call_rows)
 
-    module _ (left : CallsView) (tokens : Drawn) (waiting : List Row) (drawn : tokens ≡ record { token = token; drawn = desk.tokens.drawn })
+    module _ (left : CallsView) (tokens : TokensView) (waiting : List Row) (drawn : tokens ≡ record { token = token; drawn = output.tokens.drawn })
         (taken_over : waiting ≡ s.waiting ++ calls.table.rows)
-        (dropped : (peers : Peers) (accounts : List AccountIdentity) (deeds : List Deed) → histories.Stands peers accounts calls deeds → histories.Stands peers accounts left (Drops (length calls.table.rows) ∷ deeds))
+        (dropped : (peers : Peers) (accounts : List AccountIdentity) (ops : List TableOp) → histories.Represents peers accounts calls ops → histories.Represents peers accounts left (Drops (length calls.table.rows) ∷ ops))
         (stays_then : (peers : Peers) (accounts : List AccountIdentity) → site_in left peers accounts ≡ site_in calls peers accounts) where
-      site_left : site_in left d.peers d.names.accounts ≡ site_of d
+      site_left : site_in left d.peers d.names.accounts ≡ call_config d
       site_left = stays_then d.peers d.names.accounts ∙ site_then
 
-      stand_left : histories.Stands d.peers d.names.accounts left (Drops (length calls.table.rows) ∷ deed ∷ w.deeds)
-      stand_left = dropped d.peers d.names.accounts (deed ∷ w.deeds) stand_then
+      stand_left : histories.Represents d.peers d.names.accounts left (Drops (length calls.table.rows) ∷ op ∷ w.call_ops)
+      stand_left = dropped d.peers d.names.accounts (op ∷ w.call_ops) stand_then
 
-      table_left : left.table ≡ calls_after d (Drops (length desk.rows) ∷ deed ∷ w.deeds)
+      table_left : left.table ≡ calls_after d (Drops (length output.rows) ∷ op ∷ w.call_ops)
       table_left =
           stand_left.table
-          ∙ (ap (λ (t : Site). table_after t (Drops (length calls.table.rows) ∷ deed ∷ w.deeds)) site_left
-          ∙ ap (λ (rows : List Row). calls_after d (Drops (length rows) ∷ deed ∷ w.deeds)) rows_are)
+          ∙ (ap (λ (t : CallConfigView). table_after t (Drops (length calls.table.rows) ∷ op ∷ w.call_ops)) site_left
+          ∙ ap (λ (rows : List Row). calls_after d (Drops (length rows) ∷ op ∷ w.call_ops)) rows_are)
 
-      calls_left : left ≡ calls_of d (brought_in deed desk w)
+      calls_left : left ≡ calls_of d (after_call_operation op output w)
       calls_left = λ i. record {
-        sip = ap (λ (t : Site). t.sip) site_left i;
-        home = ap (λ (t : Site). t.home) site_left i;
-        bound = ap (λ (t : Site). t.bound) site_left i;
-        country = ap (λ (t : Site). t.country) site_left i;
-        reliable = ap (λ (t : Site). t.reliable) site_left i;
-        timer = ap (λ (t : Site). t.timer) site_left i;
-        mwi = ap (λ (t : Site). t.mwi) site_left i;
+        sip = ap (λ (t : CallConfigView). t.sip) site_left i;
+        home = ap (λ (t : CallConfigView). t.home) site_left i;
+        bound = ap (λ (t : CallConfigView). t.bound) site_left i;
+        country = ap (λ (t : CallConfigView). t.country) site_left i;
+        reliable = ap (λ (t : CallConfigView). t.reliable) site_left i;
+        timer = ap (λ (t : CallConfigView). t.timer) site_left i;
+        mwi = ap (λ (t : CallConfigView). t.mwi) site_left i;
         table = table_left i;
         has_failed = stand_left.works i;
       }
 
-      none_left : drop (length desk.rows) (table_after (site_of d) (deed ∷ w.deeds)).rows ≡ []
+      none_left : drop (length output.rows) (table_after (call_config d) (op ∷ w.call_ops)).rows ≡ []
       none_left =
-          ap (λ (rows : List Row). drop (length desk.rows) rows) (closes ∙ ap (λ (rows : List Row). rows ++ desk.rows) have.stands.drained)
-          ∙ drop_all (length desk.rows) desk.rows (omega arith)
+          ap (λ (rows : List Row). drop (length output.rows) rows) (closes ∙ ap (λ (rows : List Row). rows ++ output.rows) have.represents.no_call_rows)
+          ∙ drop_all (length output.rows) output.rows (omega arith)
 
-      pub brought : Did d token before (record s { calls = left; tokens = tokens; waiting = waiting }) out (brought_in deed desk w)
+      pub brought : RepresentsWithOffers d token before (record s { calls = left; tokens = tokens; waiting = waiting }) out (after_call_operation op output w)
       brought = record {
-        stands = record {
-          directory_same = have.stands.directory_same;
+        represents = record {
+          same_directory = have.represents.same_directory;
           tokens = drawn;
-          transactions = have.stands.transactions;
-          clock = have.stands.clock;
-          steps = have.stands.steps;
-          texts = have.stands.texts;
-          registered = have.stands.registered;
+          transactions = have.represents.transactions;
+          clock = have.represents.clock;
+          steps = have.represents.steps;
+          texts = have.represents.texts;
+          registered = have.represents.registered;
           calls = calls_left;
-          rooms = have.stands.rooms;
-          boxes = have.stands.boxes;
-          armed = have.stands.armed;
-          waiting = taken_over ∙ (ap (λ (rows : List Row). rows ++ calls.table.rows) have.stands.waiting ∙ ap (λ (rows : List Row). w.waiting ++ rows) rows_are);
-          drained = none_left;
-          cleared = have.stands.cleared;
-          whole = have.stands.whole;
+          rooms = have.represents.rooms;
+          boxes = have.represents.boxes;
+          pending_timers = have.represents.pending_timers;
+          waiting = taken_over ∙ (ap (λ (rows : List Row). rows ++ calls.table.rows) have.represents.waiting ∙ ap (λ (rows : List Row). w.waiting ++ rows) rows_are);
+          no_call_rows = none_left;
+          no_conference_rows = have.represents.no_conference_rows;
+          unfailed = have.represents.unfailed;
         };
-        offered = have.offered;
+        offers = have.offers;
       }
 
 -- ---- a signal
 
-module _ (told : CallsAreToldWhatIsInForce) (seen : CallsSeeWhatIsSaid) (draws : AllDrawOn)
-    (d : Directory) (token : List ℕ) (before out : List Offer) (s : Server) (w : World) (have : Did d token before s out w) (agrees : Agrees s.records) (at : ℕ) (x : Signal) where
+module _ (told : CallsSeeWhatIsInForce) (seen : CallsSeeRecordsAlone) (draws : NumbersNeverFall)
+    (d : Directory) (token : List ℕ) (before out : List Offer) (s : Server) (w : RunState) (have : RepresentsWithOffers d token before s out w) (agrees : SheetsMatchTexts s.records) (at : ℕ) (x : Signal) where
   abbrev peers : Peers
   peers = s.directory.peers
 
@@ -133,82 +133,82 @@ module _ (told : CallsAreToldWhatIsInForce) (seen : CallsSeeWhatIsSaid) (draws :
   accounts = s.directory.names.accounts
 
   -- the records of the server are what is in force in the state
-  say_same : SaySame s.records.view (in_force w.texts w.registrations)
+  say_same : HaveSameRecords s.records.view (in_force w.texts w.registrations)
   say_same = record {
     sheets = λ n.
         let account : Account = record { 0 = n } in
-        agrees account ∙ (ap (λ (t : Texts). option_map kept_sheet (text_at t account)) have.stands.texts ∙ sym (told w.texts w.registrations account).sheet);
-    ends = λ n. let account : Account = record { 0 = n } in have.stands.registered account ∙ sym (told w.texts w.registrations account).ends;
+        agrees account ∙ (ap (λ (t : Texts). option_map stored_sheet (text_at t account)) have.represents.texts ∙ sym (told w.texts w.registrations account).sheet);
+    ends = λ n. let account : Account = record { 0 = n } in have.represents.registered account ∙ sym (told w.texts w.registrations account).ends;
   }
 
   -- so a signal has the same effect
-  moved_same : hears_after (site_of d) w.deeds (heard_of at s x) ≡ hears_after (site_of d) w.deeds (heard_now token at x w)
+  moved_same : step_on_receive_after (call_config d) w.call_ops (received_signal at s x) ≡ step_on_receive_after (call_config d) w.call_ops (received_now token at x w)
   moved_same =
-      let calls : Table = calls_after d w.deeds in
-      seen (site_of d) at (next_number calls.opened) s.records.view (in_force w.texts w.registrations) x calls.entries (fresh s.tokens) say_same
-      ∙ ap (λ (t : Drawn). taken (site_of d) at (in_force w.texts w.registrations) (next_number calls.opened) x calls.entries (fresh t)) have.stands.tokens
+      let calls : Table = calls_after d w.call_ops in
+      seen (call_config d) at (next_number calls.opened) s.records.view (in_force w.texts w.registrations) x calls.entries (empty_output s.tokens) say_same
+      ∙ ap (λ (t : TokensView). step_of_signal (call_config d) at (in_force w.texts w.registrations) (next_number calls.opened) x calls.entries (empty_output t)) have.represents.tokens
 
-  brings : hears_after (site_in s.calls peers accounts) w.deeds (heard_of at s x) ≡ hears_after (site_of d) w.deeds (heard_now token at x w)
-  brings = ap (λ (t : Site). hears_after t w.deeds (heard_of at s x)) (site_is d token before out s w have) ∙ moved_same
+  brings : step_on_receive_after (site_in s.calls peers accounts) w.call_ops (received_signal at s x) ≡ step_on_receive_after (call_config d) w.call_ops (received_now token at x w)
+  brings = ap (λ (t : CallConfigView). step_on_receive_after t w.call_ops (received_signal at s x)) (site_is d token before out s w have) ∙ moved_same
 
-  module _ (calls left : CallsView) (tokens : Drawn) (emits : List Emit) (waiting : List Row)
-      (done : (deeds : List Deed) → histories.Stands peers accounts s.calls deeds → histories.Stands peers accounts calls (Hears (heard_of at s x) ∷ deeds))
-      (sent : (deeds : List Deed) → histories.Stands peers accounts s.calls deeds → emits ≡ (hears_after (site_in s.calls peers accounts) deeds (heard_of at s x)).desk.out)
-      (drew : (deeds : List Deed) → histories.Stands peers accounts s.calls deeds → tokens ≡ (hears_after (site_in s.calls peers accounts) deeds (heard_of at s x)).desk.tokens)
+  module _ (calls left : CallsView) (tokens : TokensView) (emits : List Emit) (waiting : List Row)
+      (done : (ops : List TableOp) → histories.Represents peers accounts s.calls ops → histories.Represents peers accounts calls (Receives (received_signal at s x) ∷ ops))
+      (sent : (ops : List TableOp) → histories.Represents peers accounts s.calls ops → emits ≡ (step_on_receive_after (site_in s.calls peers accounts) ops (received_signal at s x)).output.out)
+      (drew : (ops : List TableOp) → histories.Represents peers accounts s.calls ops → tokens ≡ (step_on_receive_after (site_in s.calls peers accounts) ops (received_signal at s x)).output.tokens)
       (stays : (peers : Peers) (accounts : List AccountIdentity) → site_in calls peers accounts ≡ site_in s.calls peers accounts)
       (taken_over : waiting ≡ s.waiting ++ calls.table.rows)
-      (dropped : (peers : Peers) (accounts : List AccountIdentity) (deeds : List Deed) → histories.Stands peers accounts calls deeds → histories.Stands peers accounts left (Drops (length calls.table.rows) ∷ deeds))
+      (dropped : (peers : Peers) (accounts : List AccountIdentity) (ops : List TableOp) → histories.Represents peers accounts calls ops → histories.Represents peers accounts left (Drops (length calls.table.rows) ∷ ops))
       (stays_then : (peers : Peers) (accounts : List AccountIdentity) → site_in left peers accounts ≡ site_in calls peers accounts) where
-    table_same : table_after (site_of d) (Hears (heard_of at s x) ∷ w.deeds) ≡ table_after (site_of d) (Hears (heard_now token at x w) ∷ w.deeds)
-    table_same = ap (λ (m : Moved). with_moved m (opened_after x (calls_after d w.deeds).opened) (calls_after d w.deeds)) moved_same
+    table_same : table_after (call_config d) (Receives (received_signal at s x) ∷ w.call_ops) ≡ table_after (call_config d) (Receives (received_now token at x w) ∷ w.call_ops)
+    table_same = ap (λ (m : TableStep). with_step m (opened_after x (calls_after d w.call_ops).opened) (calls_after d w.call_ops)) moved_same
 
-    tokens_are : tokens ≡ record { token = token; drawn = (desk_of d token at x w).tokens.drawn }
+    tokens_are : tokens ≡ record { token = token; drawn = (output_of_signal d token at x w).tokens.drawn }
     tokens_are =
-        drew w.deeds (stand d token before out s w have)
-        ∙ (ap (λ (m : Moved). m.desk.tokens) brings
-        ∙ ap (λ (t : List ℕ). let r : Drawn = record { token = t; drawn = (desk_of d token at x w).tokens.drawn } in r) (draws.calls (site_of d) w.deeds (heard_now token at x w)).same)
+        drew w.call_ops (stand d token before out s w have)
+        ∙ (ap (λ (m : TableStep). m.output.tokens) brings
+        ∙ ap (λ (t : List ℕ). let r : TokensView = record { token = t; drawn = (output_of_signal d token at x w).tokens.drawn } in r) (draws.calls (call_config d) w.call_ops (received_now token at x w)).same)
 
-    pub hear : (emits ≡ (desk_of d token at x w).out) × Did d token before (record s { calls = left; tokens = tokens; waiting = waiting }) out (brought_in (Hears (heard_now token at x w)) (desk_of d token at x w) w)
+    pub hear : (emits ≡ (output_of_signal d token at x w).out) × RepresentsWithOffers d token before (record s { calls = left; tokens = tokens; waiting = waiting }) out (after_call_operation (Receives (received_now token at x w)) (output_of_signal d token at x w) w)
     hear = (
-      sent w.deeds (stand d token before out s w have) ∙ ap (λ (m : Moved). m.desk.out) brings,
-      brought d token before out s w have (Hears (heard_of at s x)) (Hears (heard_now token at x w)) (desk_of d token at x w) table_same refl calls done stays left tokens waiting tokens_are
+      sent w.call_ops (stand d token before out s w have) ∙ ap (λ (m : TableStep). m.output.out) brings,
+      brought d token before out s w have (Receives (received_signal at s x)) (Receives (received_now token at x w)) (output_of_signal d token at x w) table_same refl calls done stays left tokens waiting tokens_are
           taken_over dropped stays_then,
     )
 
 -- ---- the end of a call whose leg is detached
 
-module _ (draws : AllDrawOn) (d : Directory) (token : List ℕ) (before out : List Offer) (s : Server) (w : World) (have : Did d token before s out w) (at : ℕ) (call : CallNo) where
+module _ (draws : NumbersNeverFall) (d : Directory) (token : List ℕ) (before out : List Offer) (s : Server) (w : RunState) (have : RepresentsWithOffers d token before s out w) (at : ℕ) (call : CallNo) where
   abbrev those : Peers
   those = s.directory.peers
 
   abbrev known : List AccountIdentity
   known = s.directory.names.accounts
 
-  ends : finished_by (site_in s.calls those known) call.0 at s.tokens (table_after (site_in s.calls those known) w.deeds) ≡ finished_by (site_of d) call.0 at (tokens_now token w) (calls_in d w)
+  ends : step_on_finish (site_in s.calls those known) call.0 at s.tokens (table_after (site_in s.calls those known) w.call_ops) ≡ step_on_finish (call_config d) call.0 at (tokens_now token w) (calls_in d w)
   ends =
-      ap (λ (t : Site). finished_by t call.0 at s.tokens (table_after t w.deeds)) (site_is d token before out s w have)
-      ∙ ap (λ (t : Drawn). finished_by (site_of d) call.0 at t (calls_in d w)) have.stands.tokens
+      ap (λ (t : CallConfigView). step_on_finish t call.0 at s.tokens (table_after t w.call_ops)) (site_is d token before out s w have)
+      ∙ ap (λ (t : TokensView). step_on_finish (call_config d) call.0 at t (calls_in d w)) have.represents.tokens
 
-  module _ (calls left : CallsView) (tokens : Drawn) (emits : List Emit) (waiting : List Row)
-      (done : (deeds : List Deed) → histories.Stands those known s.calls deeds → histories.Stands those known calls (Finishes call.0 at s.tokens ∷ deeds))
-      (sent : (deeds : List Deed) → histories.Stands those known s.calls deeds → emits ≡ (finished_by (site_in s.calls those known) call.0 at s.tokens (table_after (site_in s.calls those known) deeds)).desk.out)
-      (drew : (deeds : List Deed) → histories.Stands those known s.calls deeds → tokens ≡ (finished_by (site_in s.calls those known) call.0 at s.tokens (table_after (site_in s.calls those known) deeds)).desk.tokens)
+  module _ (calls left : CallsView) (tokens : TokensView) (emits : List Emit) (waiting : List Row)
+      (done : (ops : List TableOp) → histories.Represents those known s.calls ops → histories.Represents those known calls (Finishes call.0 at s.tokens ∷ ops))
+      (sent : (ops : List TableOp) → histories.Represents those known s.calls ops → emits ≡ (step_on_finish (site_in s.calls those known) call.0 at s.tokens (table_after (site_in s.calls those known) ops)).output.out)
+      (drew : (ops : List TableOp) → histories.Represents those known s.calls ops → tokens ≡ (step_on_finish (site_in s.calls those known) call.0 at s.tokens (table_after (site_in s.calls those known) ops)).output.tokens)
       (stays : (peers : Peers) (accounts : List AccountIdentity) → site_in calls peers accounts ≡ site_in s.calls peers accounts)
       (taken_over : waiting ≡ s.waiting ++ calls.table.rows)
-      (dropped : (peers : Peers) (accounts : List AccountIdentity) (deeds : List Deed) → histories.Stands peers accounts calls deeds → histories.Stands peers accounts left (Drops (length calls.table.rows) ∷ deeds))
+      (dropped : (peers : Peers) (accounts : List AccountIdentity) (ops : List TableOp) → histories.Represents peers accounts calls ops → histories.Represents peers accounts left (Drops (length calls.table.rows) ∷ ops))
       (stays_then : (peers : Peers) (accounts : List AccountIdentity) → site_in left peers accounts ≡ site_in calls peers accounts) where
-    abbrev desk : Desk
-    desk = desk_at_end d token at call w
+    abbrev output : StepOutput
+    output = output_at_end d token at call w
 
-    tokens_left : tokens ≡ record { token = token; drawn = desk.tokens.drawn }
+    tokens_left : tokens ≡ record { token = token; drawn = output.tokens.drawn }
     tokens_left =
-        drew w.deeds (stand d token before out s w have)
-        ∙ (ap (λ (m : Moved). m.desk.tokens) ends
-        ∙ ap (λ (t : List ℕ). let r : Drawn = record { token = t; drawn = desk.tokens.drawn } in r) (draws.ends (site_of d) w.deeds call.0 at (tokens_now token w)).same)
+        drew w.call_ops (stand d token before out s w have)
+        ∙ (ap (λ (m : TableStep). m.output.tokens) ends
+        ∙ ap (λ (t : List ℕ). let r : TokensView = record { token = t; drawn = output.tokens.drawn } in r) (draws.ends (call_config d) w.call_ops call.0 at (tokens_now token w)).same)
 
-    pub end : (emits ≡ desk.out) × Did d token before (record s { calls = left; tokens = tokens; waiting = waiting }) out (brought_in (Finishes call.0 at (tokens_now token w)) desk w)
+    pub end : (emits ≡ output.out) × RepresentsWithOffers d token before (record s { calls = left; tokens = tokens; waiting = waiting }) out (after_call_operation (Finishes call.0 at (tokens_now token w)) output w)
     end = (
-      sent w.deeds (stand d token before out s w have) ∙ ap (λ (m : Moved). m.desk.out) ends,
-      brought d token before out s w have (Finishes call.0 at s.tokens) (Finishes call.0 at (tokens_now token w)) desk
-          (ap (λ (t : Drawn). table_after (site_of d) (Finishes call.0 at t ∷ w.deeds)) have.stands.tokens) refl calls done stays left tokens waiting tokens_left taken_over dropped stays_then,
+      sent w.call_ops (stand d token before out s w have) ∙ ap (λ (m : TableStep). m.output.out) ends,
+      brought d token before out s w have (Finishes call.0 at s.tokens) (Finishes call.0 at (tokens_now token w)) output
+          (ap (λ (t : TokensView). table_after (call_config d) (Finishes call.0 at t ∷ w.call_ops)) have.represents.tokens) refl calls done stays left tokens waiting tokens_left taken_over dropped stays_then,
     )

@@ -1,29 +1,29 @@
-mod RoomWords
+mod ConferenceTimers
 pub mod Grows
 mod Counts
-mod Deeds
-mod Asked
+mod Operations
+mod Owners
 mod Calls
 mod Known
-mod Housing
-mod Lending
-mod Seating
-mod Courses
-mod Boxes
+mod ConferenceOperations
+mod Detaching
+mod Participants
+mod Dispositions
+mod Subscriptions
 mod Filing
 mod Charging
-mod Firing
-mod Handing
+mod Timers
+mod Handover
 mod Messages
 mod Settling
 mod Runs
-mod Coming
+mod Newcomers
 pub mod Records
 mod Reading
-pub mod Heard
-pub mod Fronts
+pub mod Received
+pub mod Prefixes
 pub mod Keeping
-pub mod Made
+pub mod Effects
 mod Drives
 mod ReadOut
 mod Replaced

@@ -1,32 +1,32 @@
 //! Driving the server over a link and a keeper.
 ghost use Rattle.std.specs.Prelude.{◌≡◌, ◌<◌, ◌*◌, [], length, true, IfOk, Ok, OnErr, OnOk, Option, List};
 ghost use Rattle.mmtel_http.specs.Requests.{request_of};
-ghost use Rattle.mmtel_link.specs.Told.{Ear, NextTold};
-ghost use Rattle.mmtel_server.specs.Driven.{CalledTimes, CalledWithin, Driven, HasDriveCause, HasFailedByNumber};
-ghost use Rattle.mmtel_server.specs.Driven.{IsNeeded, StandsOrRose, Takes, calls_a_turn, reads_a_turn};
-ghost use Rattle.mmtel_server.specs.Seen.{keeper_seen, serving_state, step_state};
-ghost use Rattle.mmtel_server.specs.Stepped.{Stepped, Stopped};
-ghost use Rattle.mmtel_server.specs.Turns.{Grows, HasRead, IsReading, ReadsOn, is_unfinished};
+ghost use Rattle.mmtel_link.specs.LinkStates.{LinkInput, NextIfExposed};
+ghost use Rattle.mmtel_server.specs.DriveEffects.{DriveEffect, HasDriveCause, HasFailedByNumber, IsCalledTimes, IsCalledWithin};
+ghost use Rattle.mmtel_server.specs.DriveEffects.{IsNeeded, ReceivesEvent, StaysOrRises, most_calls_a_turn, most_reads_a_turn};
+ghost use Rattle.mmtel_server.specs.States.{keeper_state, serving_state, step_state};
+ghost use Rattle.mmtel_server.specs.StepEffects.{StepAborted, StepEffect};
+ghost use Rattle.mmtel_server.specs.Turns.{Grows, IsReading, ReadsMore, ReadsRequest, is_unfinished};
 
-use crate::laws::{laws_of_runs_hold, servers_offer_what_runs_give};
 use crate::servers::Server;
-use mmtel_http::laws::whole_requests_stand;
+use crate::theorems::{servers_offer_what_runs_give, theorems_of_runs_hold};
+use mmtel_base::{List, NoMemory, Text};
+use mmtel_environment::Offer;
+use mmtel_http::theorems::complete_requests_are_final;
 use mmtel_http::{Whole, whole};
 use mmtel_keeper::Keeper;
 use mmtel_link::{Arrival, Event, Link};
-use mmtel_outside::Offer;
-use mmtel_scan::{List, NoMemory, Text};
 use mmtel_timers::Steps;
 use mmtel_types::Failed;
 use std::alloc::Global;
 use std::sync::ledger::Ledger;
 
 /// The maximum number of bytes of one read.
-const ROOM: usize = 4096;
+const READ_LEN: usize = 4096;
 
 /// The maximum number of reads of one connection: each read but the last returns a byte of a request that is not complete yet, and such a request is no longer than the maximum
 /// head and the maximum body.
-const READS: u64 = 8192 + 65_536 + 1;
+const MOST_READS: u64 = 8192 + 65_536 + 1;
 
 /// Why driving ended before its turns were done and before the link was closed.
 #[derive(Clone, Copy, Debug, PartialEq, Eq)]
@@ -49,20 +49,20 @@ impl From<NoMemory> for DriveFault {
 
 /// Reads once from the connection that came last, and appends the bytes. False at its end, and where the read fails, which ends it too.
 fn read_more<N: Link>(alloc: Global, link: &mut N, bytes: &mut Text) -> Result<bool, NoMemory>
-    ensures read { (ear : Option Ear) → IsReading ear (N.ear link.old) bytes.old →
-        ReadsOn ear (N.ear link.new) (N.giving link.old) (N.giving link.new) bytes.new result }
+    ensures read { (ear : Option LinkInput) → IsReading ear (N.input link.old) bytes.old →
+        ReadsMore ear (N.input link.new) (N.delivery_faults link.old) (N.delivery_faults link.new) bytes.new result }
     ensures grows { IfOk result (Grows bytes.old bytes.new) }
-    ensures stands { IfOk result (λ more. more ≡ true → N.giving link.new ≡ N.giving link.old) }
-    ensures giving { StandsOrRose (N.giving link.old) (N.giving link.new) }
+    ensures stands { IfOk result (λ more. more ≡ true → N.delivery_faults link.new ≡ N.delivery_faults link.old) }
+    ensures delivery_faults { StaysOrRises (N.delivery_faults link.old) (N.delivery_faults link.new) }
     ensures given { N.given link.new ≡ N.given link.old }
-    ensures calls { CalledTimes (N.calls link.old) (N.calls link.new) 1 }
-    ensures taking { N.taking link.new ≡ N.taking link.old }
+    ensures calls { IsCalledTimes (N.calls link.old) (N.calls link.new) 1 }
+    ensures arrival_faults { N.arrival_faults link.new ≡ N.arrival_faults link.old }
 {
-    let mut room = [0; ROOM];
-    match link.web_read(&mut room) {
+    let mut buffer = [0; READ_LEN];
+    match link.web_read(&mut buffer) {
         Ok(0) => Ok(false),
         Ok(count) => {
-            bytes.push(alloc, &room[..count])?;
+            bytes.push(alloc, &buffer[..count])?;
             Ok(true)
         }
         Err(Failed) => Ok(false),
@@ -79,16 +79,16 @@ fn is_unfinished(bytes: &[u8]) -> bool
 /// Reads the connection that came last: until its bytes are a request, or cannot become one, or it is at its end, or a read fails (RFC 9112 §6.3); and no further.
 fn read_request<N: Link>(alloc: Global, link: &mut N) -> Result<Text, NoMemory>
     ensures needed { IfOk result (λ bytes. IsNeeded (length bytes) bytes) }
-    ensures read { (ear : Option Ear) → IsReading ear (N.ear link.old) [] →
-        HasRead ear (N.ear link.new) (N.giving link.old) (N.giving link.new) result }
-    ensures giving { StandsOrRose (N.giving link.old) (N.giving link.new) }
+    ensures read { (ear : Option LinkInput) → IsReading ear (N.input link.old) [] →
+        ReadsRequest ear (N.input link.new) (N.delivery_faults link.old) (N.delivery_faults link.new) result }
+    ensures delivery_faults { StaysOrRises (N.delivery_faults link.old) (N.delivery_faults link.new) }
     ensures given { N.given link.new ≡ N.given link.old }
-    ensures calls { CalledWithin (N.calls link.old) (N.calls link.new) reads_a_turn }
-    ensures taking { N.taking link.new ≡ N.taking link.old }
+    ensures calls { IsCalledWithin (N.calls link.old) (N.calls link.new) most_reads_a_turn }
+    ensures arrival_faults { N.arrival_faults link.new ≡ N.arrival_faults link.old }
 {
-    whole_requests_stand();
+    complete_requests_are_final();
     let mut bytes = Text::new();
-    for _read in 0..READS {
+    for _read in 0..MOST_READS {
         if !is_unfinished(bytes.bytes()) {
             return Ok(bytes);
         }
@@ -105,13 +105,13 @@ fn event_of<N: Link>(
     link: &mut N,
     arrival: Arrival,
 ) -> Result<Option<Event>, DriveFault>
-    ensures heard { (ear : Option Ear) → NextTold ear (N.ear link.old) (Ok arrival) →
-        Takes ear (N.ear link.new) (N.giving link.old) (N.giving link.new) result }
-    ensures giving { StandsOrRose (N.giving link.old) (N.giving link.new) }
+    ensures received { (ear : Option LinkInput) → NextIfExposed ear (N.input link.old) (Ok arrival) →
+        ReceivesEvent ear (N.input link.new) (N.delivery_faults link.old) (N.delivery_faults link.new) result }
+    ensures delivery_faults { StaysOrRises (N.delivery_faults link.old) (N.delivery_faults link.new) }
     ensures given { N.given link.new ≡ N.given link.old }
-    ensures calls { CalledWithin (N.calls link.old) (N.calls link.new) reads_a_turn }
+    ensures calls { IsCalledWithin (N.calls link.old) (N.calls link.new) most_reads_a_turn }
     ensures number { HasFailedByNumber (N.calls link.new) result }
-    ensures cause { HasDriveCause (N.taking link.old) (N.taking link.new) result }
+    ensures cause { HasDriveCause (N.arrival_faults link.old) (N.arrival_faults link.new) result }
 {
     match arrival {
         Arrival::Datagram { from, at, bytes } => Ok(Some(Event::Datagram { from, at, bytes })),
@@ -133,12 +133,12 @@ fn event_of<N: Link>(
 /// `LinkFault` only where the link's count of arrival faults rose. `NoMemory` where memory ran out in the link or in reading a connection; the event is lost then. A read that
 /// fails is no error: it ends its connection, of which the bytes before it are used.
 pub fn next_event<N: Link>(alloc: Global, link: &mut N) -> Result<Option<Event>, DriveFault>
-    ensures heard { Takes (N.ear link.old) (N.ear link.new) (N.giving link.old) (N.giving link.new) result }
-    ensures giving { StandsOrRose (N.giving link.old) (N.giving link.new) }
+    ensures received { ReceivesEvent (N.input link.old) (N.input link.new) (N.delivery_faults link.old) (N.delivery_faults link.new) result }
+    ensures delivery_faults { StaysOrRises (N.delivery_faults link.old) (N.delivery_faults link.new) }
     ensures given { N.given link.new ≡ N.given link.old }
-    ensures calls { CalledWithin (N.calls link.old) (N.calls link.new) calls_a_turn }
+    ensures calls { IsCalledWithin (N.calls link.old) (N.calls link.new) most_calls_a_turn }
     ensures number { HasFailedByNumber (N.calls link.new) result }
-    ensures cause { HasDriveCause (N.taking link.old) (N.taking link.new) result }
+    ensures cause { HasDriveCause (N.arrival_faults link.old) (N.arrival_faults link.new) result }
 {
     match link.next(alloc) {
         Ok(arrival) => event_of(alloc, link, arrival),
@@ -147,20 +147,20 @@ pub fn next_event<N: Link>(alloc: Global, link: &mut N) -> Result<Option<Event>,
 }
 
 /// Processes an event.
-fn meet<K: Keeper, L: Ledger>(
+fn step_event<K: Keeper, L: Ledger>(
     alloc: Global,
     server: &mut Server,
     event: Event,
     keeper: &mut K,
-    out: &mut List<Offer>,
+    output: &mut List<Offer>,
     steps: &mut Steps<L>,
 ) -> Result<(), NoMemory>
-    ensures done { OnOk result (Stepped event (step_state server.old out.old K.Keeper keeper.old)
-        (step_state server.new out.new K.Keeper keeper.new)) }
-    ensures met { OnErr result (Stopped event (step_state server.old out.old K.Keeper keeper.old)
-        out.new (keeper_seen K.Keeper keeper.new)) }
+    ensures done { OnOk result (StepEffect event (step_state server.old output.old K.Keeper keeper.old)
+        (step_state server.new output.new K.Keeper keeper.new)) }
+    ensures met { OnErr result (StepAborted event (step_state server.old output.old K.Keeper keeper.old)
+        output.new (keeper_state K.Keeper keeper.new)) }
 {
-    let done = server.step(alloc, &event, keeper, out, steps);
+    let done = server.step(alloc, &event, keeper, output, steps);
     drop(event);
     done
 }
@@ -183,18 +183,18 @@ pub fn drive<N: Link, K: Keeper, L: Ledger>(
     out: &mut List<Offer>,
     steps: &mut Steps<L>,
 ) -> Result<bool, DriveFault>
-    ensures driven { Driven turns (serving_state N.Link link.old K.Keeper keeper.old server.old)
+    ensures driven { DriveEffect turns (serving_state N.Link link.old K.Keeper keeper.old server.old)
         (serving_state N.Link link.new K.Keeper keeper.new server.new) out.old out.new result }
     ensures given { N.given link.new ≡ N.given link.old }
-    ensures giving { StandsOrRose (N.giving link.old) (N.giving link.new) }
-    ensures calls { CalledWithin (N.calls link.old) (N.calls link.new) (turns * calls_a_turn) }
-    ensures cause { HasDriveCause (N.taking link.old) (N.taking link.new) result }
+    ensures delivery_faults { StaysOrRises (N.delivery_faults link.old) (N.delivery_faults link.new) }
+    ensures calls { IsCalledWithin (N.calls link.old) (N.calls link.new) (turns * most_calls_a_turn) }
+    ensures cause { HasDriveCause (N.arrival_faults link.old) (N.arrival_faults link.new) result }
 {
-    laws_of_runs_hold();
+    theorems_of_runs_hold();
     servers_offer_what_runs_give();
     'turns: for _turn in 0..turns {
         match next_event(alloc, link) {
-            Ok(Some(event)) => match meet(alloc, server, event, keeper, out, steps) {
+            Ok(Some(event)) => match step_event(alloc, server, event, keeper, out, steps) {
                 Ok(()) => {}
                 Err(NoMemory) => return Err(DriveFault::NoMemory),
             },

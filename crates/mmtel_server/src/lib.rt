@@ -2,9 +2,9 @@
 #![tactic(auto)]
 
 mod driving;
-mod laws;
 mod servers;
+mod theorems;
 
 pub use driving::{DriveFault, drive, next_event};
-pub use laws::{connections_are_read_out, laws_of_runs_hold, servers_offer_what_runs_give};
 pub use servers::Server;
+pub use theorems::{connections_are_read_out, servers_offer_what_runs_give, theorems_of_runs_hold};

@@ -1,25 +1,25 @@
 //! The server.
 
-mod boxes;
 mod calls;
-mod deadlines;
-mod deeds;
+mod conferences;
 mod messages;
+mod newcomers;
+mod operations;
 mod replacing;
-mod requests;
-mod rooms;
 mod rows;
 mod steps;
-mod visitors;
+mod subscriptions;
+mod timers;
+mod web_requests;
 
 use mmtel_b2bua::Calls;
+use mmtel_base::List;
 use mmtel_charging::Row;
 use mmtel_directory::Directory;
 use mmtel_focus::Rooms;
-use mmtel_in_force::Records;
 use mmtel_mwi::Boxes;
-use mmtel_scan::List;
-use mmtel_server_decisions::Alarms;
+use mmtel_records_in_force::Records;
+use mmtel_server_timers::Timers;
 use mmtel_transaction::{Tokens, Transactions};
 use mmtel_types::Moment;
 use std::alloc::Global;
@@ -48,7 +48,7 @@ pub struct Server {
     /// The counts of the mailboxes, and the subscriptions to them.
     boxes: Boxes,
     /// The timers of calls, of participants and of subscriptions that did not fire.
-    armed: Alarms,
+    pending_timers: Timers,
     /// The CDRs that wait for the keeper, in the order in which they were closed: each is removed from the calls or the conferences as soon as they have closed it.
     waiting: List<Row>,
     /// The records in force, and the registrations.

@@ -2,20 +2,20 @@
 use Rattle.std.proofs.Common.{◌≡◌, ℕ, ◌<◌, ◌≤◌, ◌^◌, ◌++◌, Bool, List, [], ◌∷◌, Option, Some, None, Result, Ok, Err, refl, sym, subst, ap, ◌∙◌, arith}
 use Rattle.std.specs.Prelude.{◌↔◌, IfOk}
 use Rattle.std.specs.Option.{ok_or}
-use Rattle.mmtel_scan.specs.Chain.{◌>>=◌}
-use Rattle.mmtel_scan.specs.Classes.{in_class, Stops}
-use Rattle.mmtel_scan.specs.Numbers.{Writes, number_of}
-use Rattle.mmtel_scan.specs.Scanning.{run, after_run}
-use Rattle.mmtel_scan.specs.declared.classes.Class.TheVariants.{Digit}
-use Rattle.mmtel_scan.proofs.ChainLaws.{bind_some, some_is, some_none}
-use Rattle.mmtel_scan.proofs.NumberLaws.{number_takes, number_again}
-use Rattle.mmtel_scan.proofs.Runs.{run_again, after_run_again, run_whole}
+use Rattle.mmtel_base.specs.Chain.{◌>>=◌}
+use Rattle.mmtel_base.specs.Classes.{in_class, Stops}
+use Rattle.mmtel_base.specs.Numbers.{Writes, number_of}
+use Rattle.mmtel_base.specs.Scanning.{leading_run, after_run}
+use Rattle.mmtel_base.specs.declared.classes.Class.TheVariants.{Digit}
+use Rattle.mmtel_base.proofs.ChainTheorems.{bind_some, some_is, some_none}
+use Rattle.mmtel_base.proofs.NumberTheorems.{number_takes, number_again}
+use Rattle.mmtel_base.proofs.Runs.{run_again, after_run_again, run_whole}
 use Rattle.mmtel_lex.specs.Grammar.{AreParams, IsParams, params_text}
 use Rattle.mmtel_lex.specs.Reading.{params_of}
 use Rattle.mmtel_lex.specs.declared.faults.LexFault.{LexFault}
 use Rattle.mmtel_lex.specs.declared.faults.LexFault.TheVariants as lex
 use Rattle.mmtel_lex.specs.declared.values.Param.{Param}
-use Rattle.mmtel_lex.proofs.ParamLaws.{whole_params_takes, whole_params_again}
+use Rattle.mmtel_lex.proofs.ParamTheorems.{whole_params_takes, whole_params_again}
 use Rattle.mmtel_session.specs.SessionExpires.{IsSession, refresher_in, session_of}
 use Rattle.mmtel_session.specs.declared.values.SessionExpires.{SessionExpires}
 
@@ -28,16 +28,16 @@ params_stop (p ∷ ps) = refl
 takes : (s : List ℕ) (session : SessionExpires) → session_of s ≡ Some session → IsSession s session
 unfolding session_of
 takes s session e =
-    let n = bind_some (number_of 2147483647 (run Digit s)) (λ n. params_of (after_run Digit s) >>= λ ps. refresher_in ps >>= λ r. Some (record { interval = n; caller_refreshes = r })) session e in
+    let n = bind_some (number_of 2147483647 (leading_run Digit s)) (λ n. params_of (after_run Digit s) >>= λ ps. refresher_in ps >>= λ r. Some (record { interval = n; caller_refreshes = r })) session e in
     let ps = bind_some (params_of (after_run Digit s)) (λ ps. refresher_in ps >>= λ r. Some (record { interval = n.0; caller_refreshes = r })) session n.2 in
     let r = bind_some (refresher_in ps.0) (λ r. Some (record { interval = n.0; caller_refreshes = r })) session ps.2 in
-    let number = number_takes 2147483647 (run Digit s) n.0 n.1 in
+    let number = number_takes 2147483647 (leading_run Digit s) n.0 n.1 in
     let params = whole_params_takes (after_run Digit s) ps.0 ps.1 in
     let below : n.0 < 2 ^ 31 = omega (arith, number.1) in
     subst (λ (x : SessionExpires). IsSession s x) (some_is (record { interval = n.0; caller_refreshes = r.0 }) session r.2) (record {
-      digits = run Digit s;
+      digits = leading_run Digit s;
       params = ps.0;
-      whole = run_whole Digit s ∙ ap (λ (l : List ℕ). run Digit s ++ l) params.whole;
+      whole = run_whole Digit s ∙ ap (λ (l : List ℕ). leading_run Digit s ++ l) params.whole;
       interval = number.0;
       below = below;
       params_in = params.params_in;
@@ -48,7 +48,7 @@ again : (s : List ℕ) (session : SessionExpires) → IsSession s session → se
 unfolding session_of
 again s session is =
     let stop = params_stop is.params in
-    let front : run Digit s ≡ is.digits = ap (λ (l : List ℕ). run Digit l) is.whole ∙ run_again Digit is.digits (params_text is.params) is.interval.digits.each stop in
+    let front : leading_run Digit s ≡ is.digits = ap (λ (l : List ℕ). leading_run Digit l) is.whole ∙ run_again Digit is.digits (params_text is.params) is.interval.digits.each stop in
     let back : after_run Digit s ≡ params_text is.params = ap (λ (l : List ℕ). after_run Digit l) is.whole ∙ after_run_again Digit is.digits (params_text is.params) is.interval.digits.each stop in
     let least : session.interval ≤ 2147483647 = omega (arith, is.below) in
     let number : number_of 2147483647 is.digits ≡ Some session.interval = number_again 2147483647 is.digits session.interval is.interval least in

@@ -21,11 +21,11 @@ check (value ∷ []) = interval_of (session_of value)
 check (value ∷ other ∷ more) = Err Malformed
 
 -- how long the session of a value lasts, in milliseconds: not less than the least interval
-abbrev pub lasting : Option SessionExpires → Option ℕ
-lasting None = None
-lasting (Some session) = Some (1000 * max session.interval least_interval)
+abbrev pub expiry_interval : Option SessionExpires → Option ℕ
+expiry_interval None = None
+expiry_interval (Some session) = Some (1000 * max session.interval least_interval)
 
 -- how long after a 2xx with these values its session expires: the first value decides, and one that cannot be read sets nothing
-abbrev pub expiry_after : List (List ℕ) → Option ℕ
-expiry_after [] = None
-expiry_after (value ∷ more) = lasting (session_of value)
+abbrev pub expiry_interval_of : List (List ℕ) → Option ℕ
+expiry_interval_of [] = None
+expiry_interval_of (value ∷ more) = expiry_interval (session_of value)

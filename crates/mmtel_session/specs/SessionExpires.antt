@@ -2,10 +2,10 @@
 -- of the profile there are below 2^31 seconds, which may begin with zeros, and no blanks around ';' and '='.
 use Rattle.std.specs.Prelude.{◌≡◌, ℕ, ◌<◌, ◌^◌, ◌++◌, if◌then◌else◌, Bool, true, false, List, Option, Some, None, codes}
 use Rattle.std.specs.Str.{bytes_eq}
-use Rattle.mmtel_scan.specs.Chain.{◌>>=◌}
-use Rattle.mmtel_scan.specs.Numbers.{Writes, number_of}
-use Rattle.mmtel_scan.specs.Scanning.{run, after_run}
-use Rattle.mmtel_scan.specs.declared.classes.Class.TheVariants.{Digit}
+use Rattle.mmtel_base.specs.Chain.{◌>>=◌}
+use Rattle.mmtel_base.specs.Numbers.{Writes, number_of}
+use Rattle.mmtel_base.specs.Scanning.{leading_run, after_run}
+use Rattle.mmtel_base.specs.declared.classes.Class.TheVariants.{Digit}
 use Rattle.mmtel_lex.specs.Grammar.{AreParams, params_text}
 use Rattle.mmtel_lex.specs.Params.{has_param, param_value}
 use Rattle.mmtel_lex.specs.Reading.{params_of}
@@ -28,7 +28,7 @@ refresher_in params = if has_param (codes "refresher") params then refresher_by 
 -- what a value says
 unfoldable pub session_of : List ℕ → Option SessionExpires
 session_of s = do
-  interval ← number_of 2147483647 (run Digit s)
+  interval ← number_of 2147483647 (leading_run Digit s)
   params ← params_of (after_run Digit s)
   refresher ← refresher_in params
   Some (record { interval = interval; caller_refreshes = refresher })

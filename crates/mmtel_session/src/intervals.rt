@@ -1,7 +1,7 @@
 //! The interval that a request asks for, and when the session of a 2xx expires (RFC 4028 §5, §6, §10).
 ghost use Rattle.std.specs.Prelude.{◌≡◌, ◌<◌, ◌≤◌, ◌*◌, ◌^◌, IfSome, codes};
 ghost use Rattle.mmtel_message.specs.Message.{line_texts};
-ghost use Rattle.mmtel_session.specs.Intervals.{check, expiry_after};
+ghost use Rattle.mmtel_session.specs.Intervals.{check, expiry_interval_of};
 
 use crate::values::read_session;
 use mmtel_message::Msg;
@@ -27,10 +27,10 @@ pub enum SessionFault {
 ///
 /// 1. `Malformed` exactly where there is a second line, or the only one cannot be read.
 /// 2. `Small` exactly where the interval is below `LEAST_INTERVAL`.
-pub fn check(m: &Msg) -> Result<Option<u32>, SessionFault>
-    ensures exact { result ≡ check (line_texts (codes "Session-Expires") m.now.lines) }
+pub fn check(message: &Msg) -> Result<Option<u32>, SessionFault>
+    ensures exact { result ≡ check (line_texts (codes "Session-Expires") message.now.lines) }
 {
-    let mut values = m.values_in(b"Session-Expires");
+    let mut values = message.values_in(b"Session-Expires");
     let value = match values.next() {
         None => return Ok(None),
         Some(value) => value,
@@ -50,12 +50,12 @@ pub fn check(m: &Msg) -> Result<Option<u32>, SessionFault>
 
 /// How long after a 2xx its session expires, unless another 2xx refreshes it before (RFC 4028 §10), in milliseconds: the interval of the first Session-Expires line, or
 /// `LEAST_INTERVAL` where that is more. None where there is no such line, or the first cannot be read. It allocates nothing.
-pub fn expiry_after(m: &Msg) -> Option<u64>
-    ensures exact { result ≡ expiry_after (line_texts (codes "Session-Expires") m.now.lines) }
+pub fn expiry_interval_of(message: &Msg) -> Option<u64>
+    ensures exact { result ≡ expiry_interval_of (line_texts (codes "Session-Expires") message.now.lines) }
     ensures least { IfSome result (λ time. 90000 ≤ time) }
     ensures most { IfSome result (λ time. time < 1000 * 2 ^ 31) }
 {
-    let mut values = m.values_in(b"Session-Expires");
+    let mut values = message.values_in(b"Session-Expires");
     match values.next() {
         None => None,
         Some(value) => match read_session(value) {

@@ -4,5 +4,5 @@
 mod intervals;
 mod values;
 
-pub use intervals::{LEAST_INTERVAL, SessionFault, check, expiry_after};
+pub use intervals::{LEAST_INTERVAL, SessionFault, check, expiry_interval_of};
 pub use values::{SessionExpires, read_session};

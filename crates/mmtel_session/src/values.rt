@@ -5,8 +5,8 @@ ghost use Rattle.mmtel_lex.specs.declared.faults.LexFault.TheVariants as lex;
 ghost use Rattle.mmtel_session.specs.SessionExpires.{IsSession, refresher_by, refresher_in, refresher_of, session_of};
 ghost use Rattle.mmtel_session.specs.declared.values.SessionExpires.{SessionExpires};
 
+use mmtel_base::{Class, number_up_to, split_run};
 use mmtel_lex::{LexFault, ParamsRef, params_ref};
-use mmtel_scan::{Class, number_up_to, split_run};
 
 /// The greatest number of seconds that a value may have: those of SIP are below 2^31 (RFC 3261 §25.1: delta-seconds).
 const GREATEST_INTERVAL: u64 = 2_147_483_647;

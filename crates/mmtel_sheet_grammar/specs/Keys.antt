@@ -8,8 +8,8 @@ use Rattle.mmtel_sheet_grammar.specs.declared.keys.Service.TheVariants.{Diversio
 use Rattle.mmtel_sheet_grammar.specs.declared.keys.Version.{Version}
 use Rattle.mmtel_sheet_grammar.specs.declared.keys.Version.TheVariants as version
 use Rattle.mmtel_sheet_grammar.specs.declared.keys.Schema.{Schema}
-use Rattle.mmtel_sheet_grammar.specs.declared.keys.Notice.{Notice}
-use Rattle.mmtel_sheet_grammar.specs.declared.keys.Notice.TheVariants as notice
+use Rattle.mmtel_sheet_grammar.specs.declared.keys.Notification.{Notification}
+use Rattle.mmtel_sheet_grammar.specs.declared.keys.Notification.TheVariants as notice
 use Rattle.mmtel_sheet_grammar.specs.declared.keys.RuleKey.{RuleKey}
 use Rattle.mmtel_sheet_grammar.specs.declared.keys.RuleKey.TheVariants as key
 
@@ -23,8 +23,8 @@ event_of k =
     else None
 
 -- what a diversion reveals, and to whom
-unfoldable pub notice_of : List ℕ → Option Notice
-notice_of k =
+unfoldable pub notification_of : List ℕ → Option Notification
+notification_of k =
     if bytes_eq k (codes "notify-caller") then Some notice.NotifyCaller
     else if bytes_eq k (codes "reveal-identity-to-caller") then Some notice.RevealToCaller
     else if bytes_eq k (codes "reveal-served-user-identity-to-caller") then Some notice.RevealServedToCaller
@@ -66,9 +66,9 @@ abbrev pub key_or : Option RuleKey → Option RuleKey → Option RuleKey
 key_or None other = other
 key_or (Some k) other = Some k
 
-abbrev pub notice_or : Option Notice → Option RuleKey → Option RuleKey
-notice_or None other = other
-notice_or (Some n) other = Some (key.Notice n)
+abbrev pub notification_or : Option Notification → Option RuleKey → Option RuleKey
+notification_or None other = other
+notification_or (Some n) other = Some (key.Notification n)
 
 abbrev pub event_or : Option EventWord → Option RuleKey → Option RuleKey
 event_or None other = other
@@ -76,7 +76,7 @@ event_or (Some e) other = Some (key.Event e)
 
 -- the key of a name: each name is that of one key only
 abbrev pub rule_key_of : List ℕ → Option RuleKey
-rule_key_of k = event_or (event_of k) (notice_or (notice_of k) (key_or (identity_key_of k) (key_or (second_key_of k) (other_key_of k))))
+rule_key_of k = event_or (event_of k) (notification_or (notification_of k) (key_or (identity_key_of k) (key_or (second_key_of k) (other_key_of k))))
 
 -- only diversion has it
 abbrev pub is_diversion : Service → Bool
@@ -91,10 +91,10 @@ is_barring Incoming = true
 is_barring Outgoing = true
 
 -- all but outgoing barring have it: the caller is known there
-abbrev pub meets_callers : Service → Bool
-meets_callers Diversion = true
-meets_callers Incoming = true
-meets_callers Outgoing = false
+abbrev pub applies_to_callers : Service → Bool
+applies_to_callers Diversion = true
+applies_to_callers Incoming = true
+applies_to_callers Outgoing = false
 
 -- only outgoing barring has it: the destination of a call is tested there
 abbrev pub is_outgoing : Service → Bool
@@ -102,35 +102,35 @@ is_outgoing Diversion = false
 is_outgoing Incoming = false
 is_outgoing Outgoing = true
 
-abbrev pub is_second : Version → Bool
-is_second version.One = false
-is_second version.Two = true
+abbrev pub is_version_two : Version → Bool
+is_version_two version.One = false
+is_version_two version.Two = true
 
 -- whether the rules of the service have the key, in that version of records
 abbrev pub is_listed : Schema → RuleKey → Bool
 is_listed s key.Allow = is_barring s.service
-is_listed s key.Anonymous = meets_callers s.service
-is_listed s key.DayFrom = is_second s.version
-is_listed s key.DayUntil = is_second s.version
-is_listed s key.Days = is_second s.version
-is_listed s key.Diverted = is_second s.version && meets_callers s.service
+is_listed s key.Anonymous = applies_to_callers s.service
+is_listed s key.DayFrom = is_version_two s.version
+is_listed s key.DayUntil = is_version_two s.version
+is_listed s key.Days = is_version_two s.version
+is_listed s key.Diverted = is_version_two s.version && applies_to_callers s.service
 is_listed s (key.Event e) = is_diversion s.service
 is_listed s key.Except = true
 is_listed s key.From = true
 is_listed s key.Id = true
-is_listed s key.International = is_second s.version && is_outgoing s.service
+is_listed s key.International = is_version_two s.version && is_outgoing s.service
 is_listed s key.Many = true
 is_listed s key.Media = true
-is_listed s (key.Notice n) = is_diversion s.service
-is_listed s key.Offset = is_second s.version
+is_listed s (key.Notification n) = is_diversion s.service
+is_listed s key.Offset = is_version_two s.version
 is_listed s key.One = true
 is_listed s key.Target = is_diversion s.service
 is_listed s key.Until = true
 
 -- a key below another: path.key
-abbrev pub dotted : List ℕ → List ℕ → List ℕ
-dotted path k = (path ++ codes ".") ++ k
+abbrev pub dotted_path : List ℕ → List ℕ → List ℕ
+dotted_path path k = (path ++ codes ".") ++ k
 
 -- the path of a rule: path.N, in decimal digits
 abbrev pub rule_path : List ℕ → ℕ → List ℕ
-rule_path path n = dotted path (decimal n)
+rule_path path n = dotted_path path (decimal n)

@@ -1,5 +1,5 @@
 -- Definitions that public contracts cite: a user of the crate has to trust them.
-pub mod Answers
+pub mod ReadResults
 pub mod Elements
 pub mod Keys
 pub mod Moments

@@ -5,7 +5,7 @@ use Rattle.mmtel_lex.specs.Grammar.{uri_text}
 use Rattle.mmtel_lex.specs.Reading.{uri_of}
 use Rattle.mmtel_lex.specs.declared.values.Uri.{Uri}
 use Rattle.mmtel_sheet_grammar.specs.Elements.{is_target, is_domain, is_token_text, has_day, is_offset}
-use Rattle.mmtel_sheet_grammar.specs.Keys.{is_diversion, is_barring, meets_callers, is_outgoing}
+use Rattle.mmtel_sheet_grammar.specs.Keys.{is_diversion, is_barring, applies_to_callers, is_outgoing}
 use Rattle.mmtel_sheet_grammar.specs.Moments.{first_moment}
 use Rattle.mmtel_sheet_grammar.specs.declared.keys.Service.{Service}
 use Rattle.mmtel_sheet_grammar.specs.declared.keys.Service.TheVariants as service
@@ -23,7 +23,7 @@ use Rattle.mmtel_sheet_values.specs.declared.values.Window.{Window}
 -- a URI that reads back from its text
 pub record IsUriOfText (u : Uri) : Type 0 where
   pub text : IsUtf8 (uri_text u)
-  pub back : uri_of (uri_text u) ≡ Ok u
+  pub reads_back : uri_of (uri_text u) ≡ Ok u
 
 -- a sip URI, or tel:+ and digits, of at most 256 bytes
 pub record IsTarget (u : Uri) : Type 0 where
@@ -64,11 +64,11 @@ pub record IsWeekly (w : Weekly) : Type 0 where
 -- the condition that a rule of the service can have
 pub record IsCondition (s : Service) (c : Condition) : Type 0 where
   pub identity : IfSome c.identity IsWho
-  pub anonymous : c.anonymous ≡ true → meets_callers s ≡ true
+  pub anonymous : c.anonymous ≡ true → applies_to_callers s ≡ true
   pub window : IfSome c.window IsWindow
   pub media : IfSome c.media (λ tokens. AllByRecursion (λ t. is_token_text t ≡ true) tokens)
   pub event : IfSome c.event (λ e. is_diversion s ≡ true)
-  pub diverted : c.diverted ≡ true → meets_callers s ≡ true
+  pub diverted : c.diverted ≡ true → applies_to_callers s ≡ true
   pub abroad : c.abroad ≡ true → is_outgoing s ≡ true
   pub weekly : IfSome c.weekly IsWeekly
 

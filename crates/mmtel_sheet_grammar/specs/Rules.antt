@@ -3,18 +3,18 @@ use Rattle.std.specs.Prelude.{◌≡◌, ℕ, ℤ, pos, int_lt, List, [], ◌∷
 use Rattle.std.specs.Option.{is_some}
 use Rattle.toml.specs.Data.{Data, Items, no_items, item, Members, no_members, member, get_member, as_array, as_table}
 use Rattle.mmtel_lex.specs.declared.values.Uri.{Uri}
-use Rattle.mmtel_sheet_grammar.specs.Answers.{Read, then_do, or_wrong}
+use Rattle.mmtel_sheet_grammar.specs.ReadResults.{Read, then_read, or_wrong}
 use Rattle.mmtel_sheet_grammar.specs.Elements.{truth_at, text_at, target_at, domain_at, time_at, uris_at, tokens_at, days_at, clock_at, offset_at}
-use Rattle.mmtel_sheet_grammar.specs.Keys.{rule_key_of, is_listed, dotted, rule_path}
+use Rattle.mmtel_sheet_grammar.specs.Keys.{rule_key_of, is_listed, dotted_path, rule_path}
 use Rattle.mmtel_sheet_grammar.specs.declared.faults.SheetFault.TheVariants.{Wrong, Unknown, Many}
 use Rattle.mmtel_sheet_grammar.specs.declared.keys.Service.{Service}
 use Rattle.mmtel_sheet_grammar.specs.declared.keys.Service.TheVariants as service
 use Rattle.mmtel_sheet_grammar.specs.declared.keys.Schema.{Schema}
-use Rattle.mmtel_sheet_grammar.specs.declared.keys.Notice.{Notice}
-use Rattle.mmtel_sheet_grammar.specs.declared.keys.Notice.TheVariants as notice
+use Rattle.mmtel_sheet_grammar.specs.declared.keys.Notification.{Notification}
+use Rattle.mmtel_sheet_grammar.specs.declared.keys.Notification.TheVariants as notice
 use Rattle.mmtel_sheet_grammar.specs.declared.keys.RuleKey.{RuleKey}
 use Rattle.mmtel_sheet_grammar.specs.declared.keys.RuleKey.TheVariants as key
-use Rattle.mmtel_sheet_grammar.specs.declared.drafts.Notices.{Notices}
+use Rattle.mmtel_sheet_grammar.specs.declared.drafts.Notifications.{Notifications}
 use Rattle.mmtel_sheet_grammar.specs.declared.drafts.Hours.{Hours}
 use Rattle.mmtel_sheet_grammar.specs.declared.drafts.RuleDraft.{RuleDraft}
 use Rattle.mmtel_sheet_values.specs.declared.values.Action.{Action}
@@ -29,18 +29,18 @@ module _ {A : Type 0} where
   -- the keys of a table, one after another, each at its path
   abbrev pub members_from : List ℕ → (List ℕ → A → List ℕ → Data → Read A) → A → Members → Read A
   members_from path read a no_members = Ok a
-  members_from path read a (member k d ms) = then_do (read (dotted path k) a k d) (λ b. members_from path read b ms)
+  members_from path read a (member k d ms) = then_read (read (dotted_path path k) a k d) (λ b. members_from path read b ms)
 
 -- the table has the key
 abbrev pub has_key : List ℕ → Members → Bool
 has_key k ms = is_some (get_member k ms)
 
 -- before any key: a diversion reveals all of it
-abbrev pub all_told : Notices
-all_told = record { notify_caller = true; reveal_to_caller = true; reveal_served_to_caller = true; reveal_to_target = true }
+abbrev pub all_notified : Notifications
+all_notified = record { notify_caller = true; reveal_to_caller = true; reveal_served_to_caller = true; reveal_to_target = true }
 
-abbrev pub no_keys : RuleDraft
-no_keys = record {
+abbrev pub empty_draft : RuleDraft
+empty_draft = record {
   abroad = false;
   allow = None;
   anonymous = false;
@@ -52,18 +52,18 @@ no_keys = record {
   hours = None;
   many = None;
   media = None;
-  notices = all_told;
+  notifications = all_notified;
   one = None;
   target = None;
   weekly = None;
   window = None;
 }
 
-abbrev pub with_notice : Notice → Bool → Notices → Notices
-with_notice notice.NotifyCaller b n = record n { notify_caller = b }
-with_notice notice.RevealToCaller b n = record n { reveal_to_caller = b }
-with_notice notice.RevealServedToCaller b n = record n { reveal_served_to_caller = b }
-with_notice notice.RevealToTarget b n = record n { reveal_to_target = b }
+abbrev pub with_notification : Notification → Bool → Notifications → Notifications
+with_notification notice.NotifyCaller b n = record n { notify_caller = b }
+with_notification notice.RevealToCaller b n = record n { reveal_to_caller = b }
+with_notification notice.RevealServedToCaller b n = record n { reveal_served_to_caller = b }
+with_notification notice.RevealToTarget b n = record n { reveal_to_target = b }
 
 -- an event that is true: only one may be
 abbrev pub with_event : List ℕ → EventWord → RuleDraft → Option EventWord → Read RuleDraft
@@ -116,37 +116,37 @@ offset_read at r z (Some w) = Ok (record r { weekly = Some (record w { offset = 
 
 -- the value at a key of a rule
 abbrev pub key_read : Members → List ℕ → RuleDraft → RuleKey → Data → Read RuleDraft
-key_read ms at r key.Allow d = then_do (truth_at at d) (λ b. Ok (record r { allow = Some b }))
-key_read ms at r key.Anonymous d = then_do (truth_at at d) (λ b. Ok (record r { anonymous = b }))
-key_read ms at r key.DayFrom d = then_do (clock_at 1_439 at d) (λ n. day_from_read at r ms n)
-key_read ms at r key.DayUntil d = then_do (clock_at 1_440 at d) (λ n. day_until_read at r n r.day_from)
-key_read ms at r key.Days d = then_do (days_at at d) (λ days. days_read at r days r.hours)
-key_read ms at r key.Diverted d = then_do (truth_at at d) (λ b. Ok (record r { diverted = b }))
-key_read ms at r (key.Event e) d = then_do (truth_at at d) (λ b. event_read at e r b)
-key_read ms at r key.Except d = then_do (uris_at at d) (λ uris. except_read at r ms uris)
-key_read ms at r key.From d = then_do (time_at at d) (λ t. from_read at r ms t)
-key_read ms at r key.Id d = then_do (text_at at d) (λ s. Ok r)
-key_read ms at r key.International d = then_do (truth_at at d) (λ b. Ok (record r { abroad = b }))
-key_read ms at r key.Many d = then_do (domain_at at d) (λ s. Ok (record r { many = Some s }))
-key_read ms at r key.Media d = then_do (tokens_at at d) (λ ts. Ok (record r { media = Some ts }))
-key_read ms at r (key.Notice n) d = then_do (truth_at at d) (λ b. Ok (record r { notices = with_notice n b r.notices }))
-key_read ms at r key.Offset d = then_do (offset_at at d) (λ z. offset_read at r z r.weekly)
-key_read ms at r key.One d = then_do (uris_at at d) (λ uris. one_read at r uris)
-key_read ms at r key.Target d = then_do (target_at at d) (λ u. Ok (record r { target = Some u }))
-key_read ms at r key.Until d = then_do (time_at at d) (λ t. until_read at r t r.from)
+key_read ms at r key.Allow d = then_read (truth_at at d) (λ b. Ok (record r { allow = Some b }))
+key_read ms at r key.Anonymous d = then_read (truth_at at d) (λ b. Ok (record r { anonymous = b }))
+key_read ms at r key.DayFrom d = then_read (clock_at 1_439 at d) (λ n. day_from_read at r ms n)
+key_read ms at r key.DayUntil d = then_read (clock_at 1_440 at d) (λ n. day_until_read at r n r.day_from)
+key_read ms at r key.Days d = then_read (days_at at d) (λ days. days_read at r days r.hours)
+key_read ms at r key.Diverted d = then_read (truth_at at d) (λ b. Ok (record r { diverted = b }))
+key_read ms at r (key.Event e) d = then_read (truth_at at d) (λ b. event_read at e r b)
+key_read ms at r key.Except d = then_read (uris_at at d) (λ uris. except_read at r ms uris)
+key_read ms at r key.From d = then_read (time_at at d) (λ t. from_read at r ms t)
+key_read ms at r key.Id d = then_read (text_at at d) (λ s. Ok r)
+key_read ms at r key.International d = then_read (truth_at at d) (λ b. Ok (record r { abroad = b }))
+key_read ms at r key.Many d = then_read (domain_at at d) (λ s. Ok (record r { many = Some s }))
+key_read ms at r key.Media d = then_read (tokens_at at d) (λ ts. Ok (record r { media = Some ts }))
+key_read ms at r (key.Notification n) d = then_read (truth_at at d) (λ b. Ok (record r { notifications = with_notification n b r.notifications }))
+key_read ms at r key.Offset d = then_read (offset_at at d) (λ z. offset_read at r z r.weekly)
+key_read ms at r key.One d = then_read (uris_at at d) (λ uris. one_read at r uris)
+key_read ms at r key.Target d = then_read (target_at at d) (λ u. Ok (record r { target = Some u }))
+key_read ms at r key.Until d = then_read (time_at at d) (λ t. until_read at r t r.from)
 
 -- the key, where the rules of the service have it
-abbrev pub listed : Schema → Option RuleKey → Option RuleKey
-listed s None = None
-listed s (Some k) = if is_listed s k then Some k else None
+abbrev pub listed_key : Schema → Option RuleKey → Option RuleKey
+listed_key s None = None
+listed_key s (Some k) = if is_listed s k then Some k else None
 
-abbrev pub listed_read : Members → List ℕ → RuleDraft → Option RuleKey → Data → Read RuleDraft
-listed_read ms at r None d = Err (Unknown at)
-listed_read ms at r (Some k) d = key_read ms at r k d
+abbrev pub listed_key_read : Members → List ℕ → RuleDraft → Option RuleKey → Data → Read RuleDraft
+listed_key_read ms at r None d = Err (Unknown at)
+listed_key_read ms at r (Some k) d = key_read ms at r k d
 
 -- a key of a rule of the service, in the table of these members
 abbrev pub rule_key_read : Schema → Members → List ℕ → RuleDraft → List ℕ → Data → Read RuleDraft
-rule_key_read s ms at r k d = listed_read ms at r (listed s (rule_key_of k)) d
+rule_key_read s ms at r k d = listed_key_read ms at r (listed_key s (rule_key_of k)) d
 
 -- ---- the rule of a table
 
@@ -168,7 +168,7 @@ condition_of r = record {
   weekly = r.weekly;
 }
 
-abbrev pub forward_to : Uri → Notices → Action
+abbrev pub forward_to : Uri → Notifications → Action
 forward_to u n = Forward (record {
   target = u;
   notify_caller = n.notify_caller;
@@ -177,16 +177,16 @@ forward_to u n = Forward (record {
   reveal_to_target = n.reveal_to_target;
 })
 
-abbrev pub forward_read : List ℕ → Option Uri → Notices → Read Action
-forward_read path None n = Err (Wrong (dotted path (codes "target")))
+abbrev pub forward_read : List ℕ → Option Uri → Notifications → Read Action
+forward_read path None n = Err (Wrong (dotted_path path (codes "target")))
 forward_read path (Some u) n = Ok (forward_to u n)
 
 abbrev pub allow_read : List ℕ → Option Bool → Read Action
-allow_read path None = Err (Wrong (dotted path (codes "allow")))
+allow_read path None = Err (Wrong (dotted_path path (codes "allow")))
 allow_read path (Some b) = Ok (Allow b)
 
 -- the action of the rule: the key that sets it is required
-abbrev pub action_of : Service → List ℕ → Option Uri → Notices → Option Bool → Read Action
+abbrev pub action_of : Service → List ℕ → Option Uri → Notifications → Option Bool → Read Action
 action_of service.Diversion path target notices allow = forward_read path target notices
 action_of service.Incoming path target notices allow = allow_read path allow
 action_of service.Outgoing path target notices allow = allow_read path allow
@@ -199,11 +199,11 @@ abbrev pub keys_from : Schema → Members → List ℕ → RuleDraft → Members
 keys_from s ms path r rest = members_from path (λ at d k v. rule_key_read s ms at d k v) r rest
 
 abbrev pub keys_of_rule : Schema → List ℕ → Members → Read RuleDraft
-keys_of_rule s path ms = keys_from s ms path no_keys ms
+keys_of_rule s path ms = keys_from s ms path empty_draft ms
 
 -- the rule of a table: the faults of its keys, then a required key that is absent
 abbrev pub rule_of : Schema → List ℕ → Members → Read Rule
-rule_of s path ms = then_do (keys_of_rule s path ms) (λ r. then_do (action_of s.service path r.target r.notices r.allow) (λ a. Ok (rule_from r a)))
+rule_of s path ms = then_read (keys_of_rule s path ms) (λ r. then_read (action_of s.service path r.target r.notifications r.allow) (λ a. Ok (rule_from r a)))
 
 -- ---- the rules of an array
 
@@ -219,7 +219,7 @@ items_count (item d ds) = items_count ds + 1
 abbrev pub rules_from : Schema → List ℕ → List Rule → Items → Read (List Rule)
 rules_from s path done no_items = Ok done
 rules_from s path done (item d ds) =
-    then_do (or_wrong path (as_table d)) (λ ms. then_do (rule_of s (rule_path path (length done)) ms) (λ r. rules_from s path (done ++ r ∷ []) ds))
+    then_read (or_wrong path (as_table d)) (λ ms. then_read (rule_of s (rule_path path (length done)) ms) (λ r. rules_from s path (done ++ r ∷ []) ds))
 
 -- at most 64
 abbrev pub rules_within : Schema → List ℕ → Items → Read (List Rule)
@@ -230,4 +230,4 @@ abbrev pub rules_of : Schema → List ℕ → Items → Read (List Rule)
 rules_of s path ds = if are_tables ds then rules_within s path ds else Err (Wrong path)
 
 abbrev pub rules_at : Schema → List ℕ → Data → Read (List Rule)
-rules_at s at d = then_do (or_wrong at (as_array d)) (λ ds. rules_of s at ds)
+rules_at s at d = then_read (or_wrong at (as_array d)) (λ ds. rules_of s at ds)

@@ -5,7 +5,7 @@ use mmtel_sheet_values::{EventWord, Rule, Weekly, Window};
 
 /// Who is notified of what about a diversion.
 #[derive(Clone, Copy, Debug, PartialEq, Eq)]
-pub struct Notices {
+pub struct Notifications {
     /// The caller is notified that the call is diverted.
     pub notify_caller: bool,
     /// The diverted-to identity is revealed to the caller.
@@ -51,7 +51,7 @@ pub struct RuleDraft {
     /// `media`
     pub media: Option<List<Text>>,
     /// The keys that set who is notified of what.
-    pub notices: Notices,
+    pub notifications: Notifications,
     /// `one`
     pub one: Option<List<Uri>>,
     /// `target`

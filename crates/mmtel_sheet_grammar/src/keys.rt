@@ -33,7 +33,7 @@ pub struct Schema {
 
 /// What a diversion reveals, and to whom.
 #[derive(Clone, Copy, Debug, PartialEq, Eq)]
-pub enum Notice {
+pub enum Notification {
     /// `notify-caller`
     NotifyCaller,
     /// `reveal-identity-to-caller`
@@ -74,7 +74,7 @@ pub enum RuleKey {
     /// `media`
     Media,
     /// `notify-caller` and `reveal-..`
-    Notice(Notice),
+    Notification(Notification),
     /// `offset`
     Offset,
     /// `one`

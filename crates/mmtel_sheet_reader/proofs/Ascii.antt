@@ -5,9 +5,9 @@ use Rattle.std.proofs.lemmas.Bool.{and_parts, false≢true}
 use Rattle.std.proofs.lemmas.Str.{IsUtf8-from_ascii}
 use Rattle.std.specs.List.{list_all}
 use Rattle.std.specs.Str.{bytes_eq, IsAscii}
-use Rattle.mmtel_scan.specs.Classes.{in_class, IsAll}
-use Rattle.mmtel_scan.specs.declared.classes.Class.{Class}
-use Rattle.mmtel_scan.specs.declared.classes.Class.TheVariants.{Token, Host}
+use Rattle.mmtel_base.specs.Classes.{in_class, IsAll}
+use Rattle.mmtel_base.specs.declared.classes.Class.{Class}
+use Rattle.mmtel_base.specs.declared.classes.Class.TheVariants.{Token, Host}
 use Rattle.mmtel_sheet_grammar.specs.Elements.{is_domain, is_token_text}
 
 -- each byte of the class is one of ASCII

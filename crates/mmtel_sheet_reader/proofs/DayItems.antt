@@ -3,7 +3,7 @@ use Rattle.std.proofs.Common.{◌≡◌, ℕ, ◌+◌, ◌<◌, ◌≤◌, Bool,
 use Rattle.std.proofs.lemmas.List.{drop_all}
 use Rattle.toml.specs.declared.value.Value.{Value}
 use Rattle.toml.specs.View.{view, items_view}
-use Rattle.mmtel_sheet_grammar.specs.Answers.{Read, then_do, Answers}
+use Rattle.mmtel_sheet_grammar.specs.ReadResults.{Read, then_read, IsReadResult}
 use Rattle.mmtel_sheet_grammar.specs.Elements.{no_days, day_read, days_from}
 use Rattle.mmtel_sheet_grammar.specs.Sound.{IsSound, IsSoundArray}
 use Rattle.mmtel_sheet_grammar.specs.declared.faults.SheetFault.{SheetFault}
@@ -19,7 +19,7 @@ module _ (at : List ℕ) (vs : List Value) where
   days_begin = record { same = refl; sound = λ h. h }
 
   one_day : (i : ℕ) (v : Value) (days : List Bool) → i < length vs → v ≡ get_or vs i v → AreNamedTo i days
-      → then_do (day_read at days (view v)) (λ more. days_from at more (items_view (drop (i + 1) vs))) ≡ days_from at no_days (items_view vs)
+      → then_read (day_read at days (view v)) (λ more. days_from at more (items_view (drop (i + 1) vs))) ≡ days_from at no_days (items_view vs)
   one_day i v days within is k = sym (ap (days_from at days) (first_left vs i v within is)) ∙ k.same
 
   pub days_step : (i : ℕ) (v : Value) (days more : List Bool) → i < length vs → v ≡ get_or vs i v → day_read at days (view v) ≡ Ok more → IsSound (view v)
@@ -27,14 +27,14 @@ module _ (at : List ℕ) (vs : List Value) where
   days_step i v days more within is was here k =
       let next = λ (x : List Bool). days_from at x (items_view (drop (i + 1) vs)) in
       record {
-        same = sym (ap (λ (r : Read (List Bool)). then_do r next) was) ∙ one_day i v days within is k;
+        same = sym (ap (λ (r : Read (List Bool)). then_read r next) was) ∙ one_day i v days within is k;
         sound = λ rest. k.sound (subst IsSoundArray (sym (first_left vs i v within is)) (here, rest));
       }
 
   pub days_refused : (ws : List Value) (i : ℕ) (v : Value) (days : List Bool) (e : SheetFault) → vs ≡ ws → i < length vs → v ≡ get_or vs i v
-      → Answers (day_read at days (view v)) (Err e) → AreNamedTo i days → Answers (days_from at no_days (items_view ws)) (Err e)
+      → IsReadResult (day_read at days (view v)) (Err e) → AreNamedTo i days → IsReadResult (days_from at no_days (items_view ws)) (Err e)
   days_refused ws i v days e all within is a k =
-      subst (λ (w : Read (List Bool)). Answers w (Err e)) (one_day i v days within is k ∙ ap (λ (us : List Value). days_from at no_days (items_view us)) all)
+      subst (λ (w : Read (List Bool)). IsReadResult w (Err e)) (one_day i v days within is k ∙ ap (λ (us : List Value). days_from at no_days (items_view us)) all)
       (refuses_both (day_read at days (view v)) (λ x. days_from at x (items_view (drop (i + 1) vs))) e a)
 
   pub days_named : (ws : List Value) (i : ℕ) (days : List Bool) → vs ≡ ws → length vs ≤ i → AreNamedTo i days → days_from at no_days (items_view ws) ≡ Ok days

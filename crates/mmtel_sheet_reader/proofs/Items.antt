@@ -6,14 +6,14 @@ use Rattle.toml.specs.declared.value.Value.{Value}
 use Rattle.toml.specs.Data.{Data, Items, no_items, item}
 use Rattle.toml.specs.View.{view, items_view}
 use Rattle.toml.proofs.Views.{items_view-drop}
-use Rattle.mmtel_sheet_grammar.specs.Answers.{Read, then_do, Answers}
+use Rattle.mmtel_sheet_grammar.specs.ReadResults.{Read, then_read, IsReadResult}
 use Rattle.mmtel_sheet_grammar.specs.Sound.{IsSound, IsSoundArray}
 use Rattle.mmtel_sheet_grammar.specs.declared.faults.SheetFault.{SheetFault}
 use Rattle.mmtel_sheet_grammar.specs.declared.faults.SheetFault.TheVariants.{NotToml, Unknown, Wrong, Many, NoMemory}
 
 module _ {A B : Type 0} where
   -- what refuses the first refuses both
-  pub refuses_both : (r : Read A) (next : A → Read B) (e : SheetFault) → Answers r (Err e) → Answers (then_do r next) (Err e)
+  pub refuses_both : (r : Read A) (next : A → Read B) (e : SheetFault) → IsReadResult r (Err e) → IsReadResult (then_read r next) (Err e)
   refuses_both r next NotToml a = a
   refuses_both r next (Unknown k) a = rw a
   refuses_both r next (Wrong k) a = rw a
@@ -21,7 +21,7 @@ module _ {A B : Type 0} where
   refuses_both r next NoMemory a = tt
 
   -- what is refused as wrong stays so
-  pub refused_still : (at : List ℕ) (r : Read A) (next : A → Read B) → IsErr r → Answers (Err (Wrong at)) r → Answers (Err (Wrong at)) (then_do r next)
+  pub refused_still : (at : List ℕ) (r : Read A) (next : A → Read B) → IsErr r → IsReadResult (Err (Wrong at)) r → IsReadResult (Err (Wrong at)) (then_read r next)
   refused_still at (Ok a) next refused answered = absurd cc
   refused_still at (Err NotToml) next refused answered = answered
   refused_still at (Err (Unknown k)) next refused answered = absurd cc
@@ -44,9 +44,9 @@ module _ {A : Type 0} (walk : List A → Items → Read (List A)) (vs : List Val
   items_begin = record { same = refl; sound = λ h. h }
 
   -- each item is read by the step
-  module _ (step : List A → Data → Read A) (goes : (done : List A) (d : Data) (ds : Items) → walk done (item d ds) ≡ then_do (step done d) (λ a. walk (done ++ a ∷ []) ds)) where
+  module _ (step : List A → Data → Read A) (goes : (done : List A) (d : Data) (ds : Items) → walk done (item d ds) ≡ then_read (step done d) (λ a. walk (done ++ a ∷ []) ds)) where
     one_item : (i : ℕ) (v : Value) (done : List A) → i < length vs → v ≡ get_or vs i v → IsReadTo i done
-        → then_do (step done (view v)) (λ a. walk (done ++ a ∷ []) (items_view (drop (i + 1) vs))) ≡ walk [] (items_view vs)
+        → then_read (step done (view v)) (λ a. walk (done ++ a ∷ []) (items_view (drop (i + 1) vs))) ≡ walk [] (items_view vs)
     one_item i v done within at k =
         sym (ap (walk done) (first_left vs i v within at) ∙ goes done (view v) (items_view (drop (i + 1) vs))) ∙ k.same
 
@@ -55,14 +55,14 @@ module _ {A : Type 0} (walk : List A → Items → Read (List A)) (vs : List Val
     items_step i v a done more within at was here is k =
         let next = λ (x : A). walk (done ++ x ∷ []) (items_view (drop (i + 1) vs)) in
         record {
-          same = ap (λ (l : List A). walk l (items_view (drop (i + 1) vs))) is ∙ (sym (ap (λ (r : Read A). then_do r next) was) ∙ one_item i v done within at k);
+          same = ap (λ (l : List A). walk l (items_view (drop (i + 1) vs))) is ∙ (sym (ap (λ (r : Read A). then_read r next) was) ∙ one_item i v done within at k);
           sound = λ rest. k.sound (subst IsSoundArray (sym (first_left vs i v within at)) (here, rest));
         }
 
     pub items_refused : (ws : List Value) (i : ℕ) (v : Value) (done : List A) (e : SheetFault) → vs ≡ ws → i < length vs → v ≡ get_or vs i v
-        → Answers (step done (view v)) (Err e) → IsReadTo i done → Answers (walk [] (items_view ws)) (Err e)
+        → IsReadResult (step done (view v)) (Err e) → IsReadTo i done → IsReadResult (walk [] (items_view ws)) (Err e)
     items_refused ws i v done e all within at a k =
-        subst (λ (w : Read (List A)). Answers w (Err e)) (one_item i v done within at k ∙ ap (λ (us : List Value). walk [] (items_view us)) all)
+        subst (λ (w : Read (List A)). IsReadResult w (Err e)) (one_item i v done within at k ∙ ap (λ (us : List Value). walk [] (items_view us)) all)
         (refuses_both (step done (view v)) (λ x. walk (done ++ x ∷ []) (items_view (drop (i + 1) vs))) e a)
 
   pub items_read : (ends : (done : List A) → walk done no_items ≡ Ok done) (ws : List Value) (i : ℕ) (done : List A) → vs ≡ ws → length vs ≤ i → IsReadTo i done

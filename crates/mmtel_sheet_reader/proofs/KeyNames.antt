@@ -5,8 +5,8 @@ use Rattle.std.proofs.lemmas.Map.Text.{is_eq-slice_cmp}
 use Rattle.std.specs.Prelude.{IfSome}
 use Rattle.std.specs.Str.{bytes_eq}
 use Rattle.toml.specs.Data.{same_key}
-use Rattle.mmtel_sheet_grammar.specs.Keys.{rule_key_of, event_of, notice_of, identity_key_of, second_key_of, other_key_of, event_or, notice_or, key_or}
-use Rattle.mmtel_sheet_grammar.specs.declared.keys.Notice.{Notice}
+use Rattle.mmtel_sheet_grammar.specs.Keys.{rule_key_of, event_of, notification_of, identity_key_of, second_key_of, other_key_of, event_or, notification_or, key_or}
+use Rattle.mmtel_sheet_grammar.specs.declared.keys.Notification.{Notification}
 use Rattle.mmtel_sheet_grammar.specs.declared.keys.RuleKey.{RuleKey}
 use Rattle.mmtel_sheet_grammar.specs.declared.keys.RuleKey.TheVariants as key
 use Rattle.mmtel_sheet_values.specs.declared.values.EventWord.{EventWord}
@@ -26,7 +26,7 @@ IsNamedAs k key.Id = Unit {0}
 IsNamedAs k key.International = Unit {0}
 IsNamedAs k key.Many = k ≡ codes "many"
 IsNamedAs k key.Media = Unit {0}
-IsNamedAs k (key.Notice n) = Unit {0}
+IsNamedAs k (key.Notification n) = Unit {0}
 IsNamedAs k key.Offset = Unit {0}
 IsNamedAs k key.One = k ≡ codes "one"
 IsNamedAs k key.Target = Unit {0}
@@ -68,14 +68,14 @@ key_named : (k : List ℕ) (first other : Option RuleKey) → IfSome first (IsNa
 key_named k (Some n) other i o = i
 key_named k None other i o = o
 
-or_named : (k : List ℕ) (ev : Option EventWord) (notice : Option Notice) (other : Option RuleKey) → IfSome other (IsNamedAs k) → IfSome (event_or ev (notice_or notice other)) (IsNamedAs k)
+or_named : (k : List ℕ) (ev : Option EventWord) (notice : Option Notification) (other : Option RuleKey) → IfSome other (IsNamedAs k) → IfSome (event_or ev (notification_or notice other)) (IsNamedAs k)
 or_named k (Some e) n other o = tt
 or_named k None (Some n) other o = tt
 or_named k None None other o = o
 
 pub named : (k : List ℕ) → IfSome (rule_key_of k) (IsNamedAs k)
 named k =
-    or_named k (event_of k) (notice_of k) (key_or (identity_key_of k) (key_or (second_key_of k) (other_key_of k)))
+    or_named k (event_of k) (notification_of k) (key_or (identity_key_of k) (key_or (second_key_of k) (other_key_of k)))
     (key_named k (identity_key_of k) (key_or (second_key_of k) (other_key_of k)) (identity_named k) (key_named k (second_key_of k) (other_key_of k) (second_named k) (other_named k)))
 
 -- equal keys are one key

@@ -1,8 +1,8 @@
-pub mod ActionLaws
+pub mod ActionTheorems
 pub mod Ascii
 pub mod DayItems
 pub mod Documents
-pub mod Granted
+pub mod ReadValues
 pub mod Items
 pub mod KeyNames
 pub mod Members
@@ -14,6 +14,6 @@ pub mod ReadRules
 pub mod ReadTables
 pub mod RuleItems
 pub mod Sounds
-pub mod Told
+pub mod BytesRead
 pub mod UriTexts
 pub mod Walks

@@ -8,13 +8,13 @@ use Rattle.std.specs.List.{AllByRecursion}
 use Rattle.toml.specs.Data.{Data, string, integer, float, boolean, datetime, array, table, Items, no_items, item}
 use Rattle.mmtel_lex.specs.Reading.{uri_of, Refusal}
 use Rattle.mmtel_lex.specs.declared.values.Uri.{Uri}
-use Rattle.mmtel_sheet_grammar.specs.Answers.{Read, or_wrong}
-use Rattle.mmtel_sheet_grammar.specs.Elements.{uri_read, uri_at, is_target, target_or_wrong, target_at, is_domain, domain_at, is_token_text, token_at, time_at, items_from, uris_at, tokens_at, day_of, no_days, with_day, day_read, days_from, has_day, some_days, days_at, minutes_by, clock_of, clock_at, is_offset, offset_at, text_at}
+use Rattle.mmtel_sheet_grammar.specs.ReadResults.{Read, or_wrong}
+use Rattle.mmtel_sheet_grammar.specs.Elements.{uri_read, uri_at, is_target, target_or_wrong, target_at, is_domain, domain_at, is_token_text, token_at, time_at, items_from, uris_at, tokens_at, day_of, no_days, with_day, day_read, days_from, has_day, days_or_wrong, days_at, minutes_by, clock_of, clock_at, is_offset, offset_at, text_at}
 use Rattle.mmtel_sheet_grammar.specs.Moments.{moment_of_text}
 use Rattle.mmtel_sheet_grammar.specs.declared.faults.SheetFault.TheVariants.{Wrong}
 use Rattle.mmtel_sheet_grammar.specs.Printable.{IsUriOfText, IsTarget, IsMoment}
 use Rattle.mmtel_sheet_grammar.specs.Sound.{IsSound, IsSoundArray}
-use Rattle.mmtel_sheet_reader.proofs.Granted.{then_all, then_any, where_ok, or_all}
+use Rattle.mmtel_sheet_reader.proofs.ReadValues.{then_all, then_any, where_ok, or_all}
 use Rattle.mmtel_sheet_reader.proofs.ReadMoments.{moment_printable}
 use Rattle.mmtel_sheet_reader.proofs.UriTexts.{uri_printable, target_printable}
 
@@ -138,7 +138,7 @@ days_ok at (float x) = tt
 days_ok at (boolean b) = tt
 days_ok at (datetime dt) = tt
 days_ok at (array ds) =
-    then_all (days_from at no_days ds) (λ days. some_days at days) (λ more. length more ≡ 7) IsDays (days_whole at no_days ds refl)
+    then_all (days_from at no_days ds) (λ days. days_or_wrong at days) (λ more. length more ≡ 7) IsDays (days_whole at no_days ds refl)
     (λ days whole. where_ok (has_day days) (Ok days) (Wrong at) IsDays (λ some. record { whole = whole; some = some }))
 days_ok at (table ms) = tt
 

@@ -6,20 +6,20 @@ use Rattle.std.specs.Prelude.{IfOk, IfSome}
 use Rattle.std.specs.List.{AllByRecursion}
 use Rattle.toml.specs.Data.{Data, Members, no_members, member}
 use Rattle.mmtel_sheet_grammar.specs.Elements.{truth_at, text_at, target_at, is_domain, domain_at, is_token_text, time_at, uris_at, tokens_at, days_at, clock_at, is_offset, offset_at}
-use Rattle.mmtel_sheet_grammar.specs.Keys.{rule_key_of, is_listed, is_diversion, meets_callers, is_outgoing, is_second, dotted}
-use Rattle.mmtel_sheet_grammar.specs.Rules.{has_key, no_keys, with_event, event_read, until_read, day_until_read, days_read, offset_read, key_read, listed, listed_read, rule_key_read, keys_from}
+use Rattle.mmtel_sheet_grammar.specs.Keys.{rule_key_of, is_listed, is_diversion, applies_to_callers, is_outgoing, is_version_two, dotted_path}
+use Rattle.mmtel_sheet_grammar.specs.Rules.{has_key, empty_draft, with_event, event_read, until_read, day_until_read, days_read, offset_read, key_read, listed_key, listed_key_read, rule_key_read, keys_from}
 use Rattle.mmtel_sheet_grammar.specs.declared.faults.SheetFault.TheVariants.{Wrong, Many}
 use Rattle.mmtel_sheet_grammar.specs.declared.keys.Schema.{Schema}
 use Rattle.mmtel_sheet_grammar.specs.declared.keys.RuleKey.{RuleKey}
 use Rattle.mmtel_sheet_grammar.specs.declared.keys.RuleKey.TheVariants as key
-use Rattle.mmtel_sheet_grammar.specs.declared.keys.Notice.{Notice}
+use Rattle.mmtel_sheet_grammar.specs.declared.keys.Notification.{Notification}
 use Rattle.mmtel_sheet_grammar.specs.declared.drafts.Hours.{Hours}
 use Rattle.mmtel_sheet_grammar.specs.declared.drafts.RuleDraft.{RuleDraft}
 use Rattle.mmtel_sheet_values.specs.declared.values.EventWord.{EventWord}
 use Rattle.mmtel_sheet_values.specs.declared.values.Weekly.{Weekly}
 use Rattle.mmtel_sheet_grammar.specs.Printable.{IsUriOfText, IsTarget, IsMoment, IsWindow, IsWeekly}
 use Rattle.mmtel_sheet_grammar.specs.Sound.{IsSound, IsSoundTable}
-use Rattle.mmtel_sheet_reader.proofs.Granted.{then_all, then_any, where_ok, unless_err}
+use Rattle.mmtel_sheet_reader.proofs.ReadValues.{then_all, then_any, where_ok, unless_err}
 use Rattle.mmtel_sheet_reader.proofs.ReadElements.{IsDays, target_ok, domain_ok, time_ok, uris_ok, tokens_ok, days_ok, clock_ok, offset_ok}
 
 -- some hours of a day
@@ -30,10 +30,10 @@ pub record IsHours (h : Hours) : Type 0 where
 -- the values of the keys of a rule so far can be printed
 pub record IsKept (s : Schema) (d : RuleDraft) : Type 0 where
   pub abroad : d.abroad ≡ true → is_outgoing s.service ≡ true
-  pub diverted : d.diverted ≡ true → meets_callers s.service ≡ true
+  pub diverted : d.diverted ≡ true → applies_to_callers s.service ≡ true
   pub hours : IfSome d.hours IsHours
   pub weekly : IfSome d.weekly IsWeekly
-  pub anonymous : d.anonymous ≡ true → meets_callers s.service ≡ true
+  pub anonymous : d.anonymous ≡ true → applies_to_callers s.service ≡ true
   pub event : IfSome d.event (λ e. is_diversion s.service ≡ true)
   pub except : AllByRecursion IsUriOfText d.except
   pub from : IfSome d.from IsMoment
@@ -43,17 +43,17 @@ pub record IsKept (s : Schema) (d : RuleDraft) : Type 0 where
   pub target : IfSome d.target IsTarget
   pub window : IfSome d.window IsWindow
 
-pub nothing_kept : (s : Schema) → IsKept s no_keys
+pub nothing_kept : (s : Schema) → IsKept s empty_draft
 nothing_kept s = record { abroad = λ e. absurd cc; diverted = λ e. absurd cc; hours = tt; weekly = tt; anonymous = λ e. absurd cc; event = tt; except = tt; from = tt; many = tt; media = tt; one = tt; target = tt; window = tt }
 
 module _ (s : Schema) (ms : Members) (at : List ℕ) (d : RuleDraft) (k : IsKept s d) where
   allow_kept : (v : Data) → IfOk (key_read ms at d key.Allow v) (IsKept s)
   allow_kept v = then_any (truth_at at v) _ (IsKept s) (λ b. record { abroad = k.abroad; diverted = k.diverted; hours = k.hours; weekly = k.weekly; anonymous = k.anonymous; event = k.event; except = k.except; from = k.from; many = k.many; media = k.media; one = k.one; target = k.target; window = k.window })
 
-  anonymous_kept : (v : Data) → meets_callers s.service ≡ true → IfOk (key_read ms at d key.Anonymous v) (IsKept s)
+  anonymous_kept : (v : Data) → applies_to_callers s.service ≡ true → IfOk (key_read ms at d key.Anonymous v) (IsKept s)
   anonymous_kept v listed = then_any (truth_at at v) _ (IsKept s) (λ b. record { abroad = k.abroad; diverted = k.diverted; hours = k.hours; weekly = k.weekly; anonymous = λ e. listed; event = k.event; except = k.except; from = k.from; many = k.many; media = k.media; one = k.one; target = k.target; window = k.window })
 
-  diverted_kept : (v : Data) → meets_callers s.service ≡ true → IfOk (key_read ms at d key.Diverted v) (IsKept s)
+  diverted_kept : (v : Data) → applies_to_callers s.service ≡ true → IfOk (key_read ms at d key.Diverted v) (IsKept s)
   diverted_kept v listed = then_any (truth_at at v) _ (IsKept s) (λ b. record { abroad = k.abroad; diverted = λ e. listed; hours = k.hours; weekly = k.weekly; anonymous = k.anonymous; event = k.event; except = k.except; from = k.from; many = k.many; media = k.media; one = k.one; target = k.target; window = k.window })
 
   international_kept : (v : Data) → is_outgoing s.service ≡ true → IfOk (key_read ms at d key.International v) (IsKept s)
@@ -115,7 +115,7 @@ module _ (s : Schema) (ms : Members) (at : List ℕ) (d : RuleDraft) (k : IsKept
   media_kept : (v : Data) → IsSound v → IfOk (key_read ms at d key.Media v) (IsKept s)
   media_kept v sound = then_all (tokens_at at v) _ (AllByRecursion (λ t. is_token_text t ≡ true)) (IsKept s) (tokens_ok at v sound) (λ ts all. record { abroad = k.abroad; diverted = k.diverted; hours = k.hours; weekly = k.weekly; anonymous = k.anonymous; event = k.event; except = k.except; from = k.from; many = k.many; media = all; one = k.one; target = k.target; window = k.window })
 
-  notice_kept : (n : Notice) (v : Data) → IfOk (key_read ms at d (key.Notice n) v) (IsKept s)
+  notice_kept : (n : Notification) (v : Data) → IfOk (key_read ms at d (key.Notification n) v) (IsKept s)
   notice_kept n v = then_any (truth_at at v) _ (IsKept s) (λ b. record { abroad = k.abroad; diverted = k.diverted; hours = k.hours; weekly = k.weekly; anonymous = k.anonymous; event = k.event; except = k.except; from = k.from; many = k.many; media = k.media; one = k.one; target = k.target; window = k.window })
 
   one_kept : (v : Data) → IsSound v → IfOk (key_read ms at d key.One v) (IsKept s)
@@ -138,21 +138,21 @@ module _ (s : Schema) (ms : Members) (at : List ℕ) (d : RuleDraft) (k : IsKept
   key_kept key.DayFrom v listed sound = day_from_kept v
   key_kept key.DayUntil v listed sound = day_until_kept v
   key_kept key.Days v listed sound = days_kept v
-  key_kept key.Diverted v listed sound = diverted_kept v (and_parts (is_second s.version) (meets_callers s.service) listed).1
+  key_kept key.Diverted v listed sound = diverted_kept v (and_parts (is_version_two s.version) (applies_to_callers s.service) listed).1
   key_kept (key.Event e) v listed sound = event_kept e v listed
   key_kept key.Except v listed sound = except_kept v sound
   key_kept key.From v listed sound = from_kept v
   key_kept key.Id v listed sound = id_kept v
-  key_kept key.International v listed sound = international_kept v (and_parts (is_second s.version) (is_outgoing s.service) listed).1
+  key_kept key.International v listed sound = international_kept v (and_parts (is_version_two s.version) (is_outgoing s.service) listed).1
   key_kept key.Many v listed sound = many_kept v
   key_kept key.Media v listed sound = media_kept v sound
-  key_kept (key.Notice n) v listed sound = notice_kept n v
+  key_kept (key.Notification n) v listed sound = notice_kept n v
   key_kept key.Offset v listed sound = offset_kept v
   key_kept key.One v listed sound = one_kept v sound
   key_kept key.Target v listed sound = target_kept v sound
   key_kept key.Until v listed sound = until_kept v
 
-  listed_kept : (o : Option RuleKey) (v : Data) → IfSome o (λ n. is_listed s n ≡ true) → IsSound v → IfOk (listed_read ms at d o v) (IsKept s)
+  listed_kept : (o : Option RuleKey) (v : Data) → IfSome o (λ n. is_listed s n ≡ true) → IsSound v → IfOk (listed_key_read ms at d o v) (IsKept s)
   listed_kept None v listed sound = tt
   listed_kept (Some n) v listed sound = key_kept n v listed sound
 
@@ -160,11 +160,11 @@ only_listed : (s : Schema) (n : RuleKey) (b : Bool) → is_listed s n ≡ b → 
 only_listed s n true e = e
 only_listed s n false e = tt
 
-is_in_list : (s : Schema) (o : Option RuleKey) → IfSome (listed s o) (λ n. is_listed s n ≡ true)
+is_in_list : (s : Schema) (o : Option RuleKey) → IfSome (listed_key s o) (λ n. is_listed s n ≡ true)
 is_in_list s None = tt
 is_in_list s (Some n) = only_listed s n (is_listed s n) refl
 
 pub keys_kept : (s : Schema) (ms : Members) (path : List ℕ) (d : RuleDraft) (rest : Members) → IsKept s d → IsSoundTable rest → IfOk (keys_from s ms path d rest) (IsKept s)
 keys_kept s ms path d no_members k sound = k
 keys_kept s ms path d (member n v rest) k sound =
-    then_all (rule_key_read s ms (dotted path n) d n v) (λ e. keys_from s ms path e rest) (IsKept s) (IsKept s) (listed_kept s ms (dotted path n) d k (listed s (rule_key_of n)) v (is_in_list s (rule_key_of n)) sound.1) (λ e kept. keys_kept s ms path e rest kept sound.2)
+    then_all (rule_key_read s ms (dotted_path path n) d n v) (λ e. keys_from s ms path e rest) (IsKept s) (IsKept s) (listed_kept s ms (dotted_path path n) d k (listed_key s (rule_key_of n)) v (is_in_list s (rule_key_of n)) sound.1) (λ e kept. keys_kept s ms path e rest kept sound.2)

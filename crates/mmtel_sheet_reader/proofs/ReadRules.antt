@@ -10,8 +10,8 @@ use Rattle.std.specs.List.{AllByRecursion}
 use Rattle.toml.specs.Data.{Data, Members, no_members, member, get_member, is_before, same_key}
 use Rattle.mmtel_lex.specs.declared.values.Uri.{Uri}
 use Rattle.mmtel_sheet_grammar.specs.Elements.{truth_at, text_at, target_at, is_domain, domain_at, time_at, uris_at, tokens_at, clock_at, days_at, offset_at}
-use Rattle.mmtel_sheet_grammar.specs.Keys.{rule_key_of, event_of, notice_of, identity_key_of, is_listed, dotted}
-use Rattle.mmtel_sheet_grammar.specs.Rules.{has_key, keys_from, with_event, event_read, until_read, day_until_read, days_read, offset_read, key_read, listed, listed_read, rule_key_read, who_of}
+use Rattle.mmtel_sheet_grammar.specs.Keys.{rule_key_of, event_of, notification_of, identity_key_of, is_listed, dotted_path}
+use Rattle.mmtel_sheet_grammar.specs.Rules.{has_key, keys_from, with_event, event_read, until_read, day_until_read, days_read, offset_read, key_read, listed_key, listed_key_read, rule_key_read, who_of}
 use Rattle.mmtel_sheet_grammar.specs.declared.faults.SheetFault.TheVariants.{Wrong, Many}
 use Rattle.mmtel_sheet_grammar.specs.declared.keys.Schema.{Schema}
 use Rattle.mmtel_sheet_grammar.specs.declared.keys.RuleKey.{RuleKey}
@@ -22,7 +22,7 @@ use Rattle.mmtel_sheet_values.specs.declared.values.EventWord.{EventWord}
 use Rattle.mmtel_sheet_values.specs.declared.values.Weekly.{Weekly}
 use Rattle.mmtel_sheet_grammar.specs.Printable.{IsUriOfText, IsWho}
 use Rattle.mmtel_sheet_grammar.specs.Sound.{IsSoundTable}
-use Rattle.mmtel_sheet_reader.proofs.Granted.{then_all, then_any, where_ok, unless_err, weaker}
+use Rattle.mmtel_sheet_reader.proofs.ReadValues.{then_all, then_any, where_ok, unless_err, weaker}
 use Rattle.mmtel_sheet_reader.proofs.KeyNames.{IsNamedAs, named, one_key}
 use Rattle.mmtel_sheet_reader.proofs.Order.{before_members}
 
@@ -41,7 +41,7 @@ IsOther key.Id = Unit {0}
 IsOther key.International = Unit {0}
 IsOther key.Many = ⊥
 IsOther key.Media = Unit {0}
-IsOther (key.Notice n) = Unit {0}
+IsOther (key.Notification n) = Unit {0}
 IsOther key.Offset = Unit {0}
 IsOther key.One = ⊥
 IsOther key.Target = Unit {0}
@@ -92,7 +92,7 @@ module _ (ms : Members) (at : List ℕ) (d : RuleDraft) where
   other_same key.International v o = then_any (truth_at at v) _ (IsSame d) (λ b. record { except = refl; many = refl; one = refl })
   other_same key.Many v o = absurd o
   other_same key.Media v o = then_any (tokens_at at v) _ (IsSame d) (λ ts. record { except = refl; many = refl; one = refl })
-  other_same (key.Notice n) v o = then_any (truth_at at v) _ (IsSame d) (λ b. record { except = refl; many = refl; one = refl })
+  other_same (key.Notification n) v o = then_any (truth_at at v) _ (IsSame d) (λ b. record { except = refl; many = refl; one = refl })
   other_same key.Offset v o = then_any (offset_at at v) _ (IsSame d) (λ z. offset_same z d.weekly)
   other_same key.One v o = absurd o
   other_same key.Target v o = then_any (target_at at v) _ (IsSame d) (λ u. record { except = refl; many = refl; one = refl })
@@ -129,11 +129,11 @@ some_before None k v rest sorted behind = tt
 some_before (Some x) k v rest sorted behind = before_members (codes "one") k rest behind sorted
 
 many_name : rule_key_of (codes "many") ≡ Some key.Many
-unfolding event_of notice_of identity_key_of
+unfolding event_of notification_of identity_key_of
 many_name = refl
 
 one_name : rule_key_of (codes "one") ≡ Some key.One
-unfolding event_of notice_of identity_key_of
+unfolding event_of notification_of identity_key_of
 one_name = refl
 
 seen_moved : {A : Type 0} (name k : List ℕ) (v : Data) (ms rest : Members) (o : Option A) → has_key name (member k v rest) ≡ has_key name rest → IsSeen name ms (member k v rest) o → IsSeen name ms rest o
@@ -221,13 +221,13 @@ module _ (ms : Members) (k : List ℕ) (v : Data) (rest : Members) (sorted : is_
     key_counted key.International is name = other_counted key.International tt is
     key_counted key.Many is name = many_counted is
     key_counted key.Media is name = other_counted key.Media tt is
-    key_counted (key.Notice n) is name = other_counted (key.Notice n) tt is
+    key_counted (key.Notification n) is name = other_counted (key.Notification n) tt is
     key_counted key.Offset is name = other_counted key.Offset tt is
     key_counted key.One is name = one_counted is name
     key_counted key.Target is name = other_counted key.Target tt is
     key_counted key.Until is name = other_counted key.Until tt is
 
-    listed_counted : (o : Option RuleKey) → IfSome o (λ n. (rule_key_of k ≡ Some n) × IsNamedAs k n) → IfOk (listed_read ms at d o v) Counted
+    listed_counted : (o : Option RuleKey) → IfSome o (λ n. (rule_key_of k ≡ Some n) × IsNamedAs k n) → IfOk (listed_key_read ms at d o v) Counted
     listed_counted None h = tt
     listed_counted (Some n) h = key_counted n h.0 h.1
 
@@ -235,7 +235,7 @@ some_listed : (s : Schema) (k : List ℕ) (n : RuleKey) (b : Bool) → (rule_key
 some_listed s k n true is name = (is, name)
 some_listed s k n false is name = tt
 
-listed_named : (s : Schema) (k : List ℕ) (o : Option RuleKey) → rule_key_of k ≡ o → IfSome o (IsNamedAs k) → IfSome (listed s o) (λ n. (rule_key_of k ≡ Some n) × IsNamedAs k n)
+listed_named : (s : Schema) (k : List ℕ) (o : Option RuleKey) → rule_key_of k ≡ o → IfSome o (IsNamedAs k) → IfSome (listed_key s o) (λ n. (rule_key_of k ≡ Some n) × IsNamedAs k n)
 listed_named s k None e name = tt
 listed_named s k (Some n) e name = some_listed s k n (is_listed s n) e name
 
@@ -243,8 +243,8 @@ pub keys_counted : (s : Schema) (ms : Members) (path : List ℕ) (d : RuleDraft)
     → IfOk (keys_from s ms path d rest) (λ e. IsCounted ms no_members e.except e.many e.one)
 keys_counted s ms path d no_members c sound = c
 keys_counted s ms path d (member k v rest) c sound =
-    then_all (rule_key_read s ms (dotted path k) d k v) (λ e. keys_from s ms path e rest) (λ e. IsCounted ms rest e.except e.many e.one) (λ e. IsCounted ms no_members e.except e.many e.one)
-    (listed_counted ms k v rest sound.0 (dotted path k) d c (listed s (rule_key_of k)) (listed_named s k (rule_key_of k) refl (named k)))
+    then_all (rule_key_read s ms (dotted_path path k) d k v) (λ e. keys_from s ms path e rest) (λ e. IsCounted ms rest e.except e.many e.one) (λ e. IsCounted ms no_members e.except e.many e.one)
+    (listed_counted ms k v rest sound.0 (dotted_path path k) d c (listed_key s (rule_key_of k)) (listed_named s k (rule_key_of k) refl (named k)))
     (λ e counted. keys_counted s ms path e rest counted sound.2)
 
 pub nothing_counted : (ms : Members) → IsCounted ms ms [] None None

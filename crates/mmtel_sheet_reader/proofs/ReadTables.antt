@@ -6,14 +6,14 @@ use Rattle.std.specs.List.{AllByRecursion}
 use Rattle.std.specs.Str.{bytes_eq}
 use Rattle.toml.specs.Data.{Data, string, integer, float, boolean, datetime, array, table, Items, no_items, item, Members, no_members, member}
 use Rattle.mmtel_lex.specs.declared.values.Uri.{Uri}
-use Rattle.mmtel_sheet_grammar.specs.Answers.{Read, Answers, then_do}
+use Rattle.mmtel_sheet_grammar.specs.ReadResults.{Read, IsReadResult, then_read}
 use Rattle.mmtel_sheet_grammar.specs.Elements.{truth_at, in_range, number_at}
-use Rattle.mmtel_sheet_grammar.specs.Keys.{dotted, rule_path}
-use Rattle.mmtel_sheet_grammar.specs.Rules.{members_from, no_keys, action_of, rule_from, keys_of_rule, rule_of, are_tables, items_count, rules_from, rules_within, rules_at}
+use Rattle.mmtel_sheet_grammar.specs.Keys.{dotted_path, rule_path}
+use Rattle.mmtel_sheet_grammar.specs.Rules.{members_from, empty_draft, action_of, rule_from, keys_of_rule, rule_of, are_tables, items_count, rules_from, rules_within, rules_at}
 use Rattle.mmtel_sheet_grammar.specs.Walk.{schema, no_diversion_keys, is_bound, diversion_key, diversion_part, diversion_of, no_bar_keys, is_rejection, bar_key, bar_part, bar_of, presentation_of, restriction_of, no_waiting_keys, waiting_key, waiting_part, waiting_of, table_key_of, table_read, named_read, name_read, version_at, version_of, sheet_from, sheet_of}
 use Rattle.mmtel_sheet_grammar.specs.declared.drafts.BarDraft.{BarDraft}
 use Rattle.mmtel_sheet_grammar.specs.declared.drafts.DiversionDraft.{DiversionDraft}
-use Rattle.mmtel_sheet_grammar.specs.declared.drafts.Notices.{Notices}
+use Rattle.mmtel_sheet_grammar.specs.declared.drafts.Notifications.{Notifications}
 use Rattle.mmtel_sheet_grammar.specs.declared.drafts.WaitingDraft.{WaitingDraft}
 use Rattle.mmtel_sheet_grammar.specs.declared.faults.SheetFault.TheVariants.{Wrong, Many, Unknown}
 use Rattle.mmtel_sheet_grammar.specs.declared.keys.Service.{Service}
@@ -29,14 +29,14 @@ use Rattle.mmtel_sheet_values.specs.declared.values.Rule.{Rule}
 use Rattle.mmtel_sheet_values.specs.declared.values.Sheet.{Sheet}
 use Rattle.mmtel_sheet_grammar.specs.Printable.{IsTarget, IsAction, IsRule, AreRules, IsDiversion, CanReject, IsBar, IsWaiting, IsPrintable}
 use Rattle.mmtel_sheet_grammar.specs.Sound.{IsSound, IsSoundArray, IsSoundTable}
-use Rattle.mmtel_sheet_reader.proofs.Granted.{then_all, then_any, where_ok, unless_err, or_all, both_all, at_ok}
+use Rattle.mmtel_sheet_reader.proofs.ReadValues.{then_all, then_any, where_ok, unless_err, or_all, both_all, at_ok}
 use Rattle.mmtel_sheet_reader.proofs.ReadElements.{all_last}
 use Rattle.mmtel_sheet_reader.proofs.ReadKeys.{IsKept, nothing_kept, keys_kept}
 use Rattle.mmtel_sheet_reader.proofs.ReadRules.{IsCounted, keys_counted, nothing_counted, who_ok}
 
 -- ---- rules
 
-action_ok : (s : Service) (path : List ℕ) (target : Option Uri) (n : Notices) (allow : Option Bool) → IfSome target IsTarget → IfOk (action_of s path target n allow) (IsAction s)
+action_ok : (s : Service) (path : List ℕ) (target : Option Uri) (n : Notifications) (allow : Option Bool) → IfSome target IsTarget → IfOk (action_of s path target n allow) (IsAction s)
 action_ok service.Diversion path None n allow is = tt
 action_ok service.Diversion path (Some u) n allow is = (refl, is)
 action_ok service.Incoming path target n None is = tt
@@ -47,10 +47,10 @@ action_ok service.Outgoing path target n (Some b) is = refl
 rule_ok : (s : Schema) (path : List ℕ) (ms : Members) → IsSoundTable ms → IfOk (rule_of s path ms) (IsRule s.service)
 rule_ok s path ms sound =
     then_all (keys_of_rule s path ms) _ (λ d. IsKept s d × IsCounted ms no_members d.except d.many d.one) (IsRule s.service)
-    (both_all (keys_of_rule s path ms) (IsKept s) (λ d. IsCounted ms no_members d.except d.many d.one) (keys_kept s ms path no_keys ms (nothing_kept s) sound) (keys_counted s ms path no_keys ms (nothing_counted ms) sound))
+    (both_all (keys_of_rule s path ms) (IsKept s) (λ d. IsCounted ms no_members d.except d.many d.one) (keys_kept s ms path empty_draft ms (nothing_kept s) sound) (keys_counted s ms path empty_draft ms (nothing_counted ms) sound))
     (λ d both.
     let k = both.0 in
-    then_all (action_of s.service path d.target d.notices d.allow) (λ a. Ok (rule_from d a)) (IsAction s.service) (IsRule s.service) (action_ok s.service path d.target d.notices d.allow k.target)
+    then_all (action_of s.service path d.target d.notifications d.allow) (λ a. Ok (rule_from d a)) (IsAction s.service) (IsRule s.service) (action_ok s.service path d.target d.notifications d.allow k.target)
     (λ a act. record {
       condition = record {
         identity = who_ok ms d.one d.many d.except both.1 k.except k.many k.one;
@@ -112,7 +112,7 @@ members_ok : {A : Type 0} (path : List ℕ) (read : List ℕ → A → List ℕ 
     → (a : A) (ms : Members) → P a → IsSoundTable ms → IfOk (members_from path read a ms) P
 members_ok path read P step a no_members p sound = p
 members_ok path read P step a (member k d ms) p sound =
-    then_all (read (dotted path k) a k d) (λ b. members_from path read b ms) P P (step (dotted path k) a k d p sound.1) (λ b q. members_ok path read P step b ms q sound.2)
+    then_all (read (dotted_path path k) a k d) (λ b. members_from path read b ms) P P (step (dotted_path path k) a k d p sound.1) (λ b q. members_ok path read P step b ms q sound.2)
 
 -- a number of a range
 abbrev IsBetween : ℕ → ℕ → ℕ → Type 0
@@ -141,7 +141,7 @@ pub record IsDiversionDraft (r : DiversionDraft) : Type 0 where
   pub bound : IfSome r.bound (λ n. n ≤ 16)
 
 bound_key : (v : Version) (at : List ℕ) (r : DiversionDraft) (k : List ℕ) (d : Data) (more : Read DiversionDraft) → IsDiversionDraft r → IfOk more IsDiversionDraft
-    → IfOk (cond (is_bound v k) (then_do (number_at 0 16 at d) (λ n. Ok (record r { bound = Some n }))) more) IsDiversionDraft
+    → IfOk (cond (is_bound v k) (then_read (number_at 0 16 at d) (λ n. Ok (record r { bound = Some n }))) more) IsDiversionDraft
 bound_key v at r k d more is rest =
     either (is_bound v k) _ more IsDiversionDraft (then_all (number_at 0 16 at d) _ (IsBetween 0 16) IsDiversionDraft (number_ok 0 16 at d) (λ n p. record { rules = is.rules; no_reply = is.no_reply; bound = p.1 })) rest
 
@@ -172,10 +172,10 @@ pub record IsBarDraft (s : Service) (r : BarDraft) : Type 0 where
 
 -- the keys of a barring table after those of its truth values
 abbrev bar_rest : Schema → List ℕ → BarDraft → List ℕ → Data → Read BarDraft
-bar_rest s at r k d = cond (bytes_eq k (codes "rule")) (then_do (rules_at s at d) (λ rs. Ok (record r { rules = rs }))) (Err (Unknown at))
+bar_rest s at r k d = cond (bytes_eq k (codes "rule")) (then_read (rules_at s at d) (λ rs. Ok (record r { rules = rs }))) (Err (Unknown at))
 
 rejection_ok : (v : Version) (s : Service) (at : List ℕ) (r : BarDraft) (k : List ℕ) (d : Data) → IsBarDraft s r → IfOk (bar_rest (schema v s) at r k d) (IsBarDraft s)
-    → IfOk (cond (is_rejection s k) (then_do (truth_at at d) (λ b. Ok (record r { reject_anonymous = b }))) (bar_rest (schema v s) at r k d)) (IsBarDraft s)
+    → IfOk (cond (is_rejection s k) (then_read (truth_at at d) (λ b. Ok (record r { reject_anonymous = b }))) (bar_rest (schema v s) at r k d)) (IsBarDraft s)
 rejection_ok v service.Diversion at r k d is more = more
 rejection_ok v service.Incoming at r k d is more = either (bytes_eq k (codes "reject-anonymous")) _ _ (IsBarDraft service.Incoming) (then_any (truth_at at d) _ (IsBarDraft service.Incoming) (λ b. record { rules = is.rules; rejection = tt })) more
 rejection_ok v service.Outgoing at r k d is more = more
@@ -240,7 +240,7 @@ named_ok v at s (Some k) (table ms) is sound = table_ok v at s k ms is sound
 
 name_ok : (v : Version) (k : List ℕ) (s : Sheet) (d : Data) → IsPrintable s → IsSound d → IfOk (name_read v k s d) IsPrintable
 name_ok v k s d is sound =
-    either (bytes_eq k (codes "version")) (then_do (version_at k d) (λ w. Ok s)) (named_read v k s (table_key_of k) d) IsPrintable (then_any (version_at k d) _ IsPrintable (λ w. is))
+    either (bytes_eq k (codes "version")) (then_read (version_at k d) (λ w. Ok s)) (named_read v k s (table_key_of k) d) IsPrintable (then_any (version_at k d) _ IsPrintable (λ w. is))
     (named_ok v k s (table_key_of k) d is sound)
 
 sheet_ok : (v : Version) (s : Sheet) (ms : Members) → IsPrintable s → IsSoundTable ms → IfOk (sheet_from v s ms) IsPrintable
@@ -256,6 +256,6 @@ pub read_printable : (ms : Members) (s : Sheet) → IsSoundTable ms → sheet_of
 read_printable ms s sound e = at_ok (sheet_of ms) s IsPrintable (document_ok ms sound) e
 
 -- the result of the reader for a sound document
-pub answered : (ms : Members) (r : Read Sheet) → Answers (sheet_of ms) r → IfOk r (λ _. IsSoundTable ms) → IfOk r IsPrintable
-answered ms (Ok s) a sound = read_printable ms s sound a
-answered ms (Err e) a sound = tt
+pub read_is_printable : (ms : Members) (r : Read Sheet) → IsReadResult (sheet_of ms) r → IfOk r (λ _. IsSoundTable ms) → IfOk r IsPrintable
+read_is_printable ms (Ok s) a sound = read_printable ms s sound a
+read_is_printable ms (Err e) a sound = tt

@@ -9,14 +9,14 @@ use Rattle.std.specs.Char.{digit_value}
 use Rattle.std.specs.List.{list_all}
 use Rattle.std.specs.Str.{str_to_ascii_lowercase}
 use Rattle.std.specs.Str.Parse.{digits_value, AllDigits}
-use Rattle.mmtel_scan.specs.Classes.{in_class, IsAll}
-use Rattle.mmtel_scan.specs.declared.classes.Class.TheVariants.{Digit, UriByte}
+use Rattle.mmtel_base.specs.Classes.{in_class, IsAll}
+use Rattle.mmtel_base.specs.declared.classes.Class.TheVariants.{Digit, UriByte}
 use Rattle.mmtel_lex.specs.Grammar.{IsUri, IsSip, IsTel, IsPort, user_text, port_text, params_text, headers_text, uri_text}
 use Rattle.mmtel_lex.specs.Reading.{uri_of}
 use Rattle.mmtel_lex.specs.declared.values.Uri.{Uri}
 use Rattle.mmtel_lex.specs.declared.values.Uri.TheVariants.{Sip, Tel}
-use Rattle.mmtel_lex.proofs.PrintLaws.{printed_again}
-use Rattle.mmtel_lex.proofs.UriLaws.{uri_takes, uri_again}
+use Rattle.mmtel_lex.proofs.PrintTheorems.{printed_again}
+use Rattle.mmtel_lex.proofs.UriTheorems.{uri_takes, uri_again}
 use Rattle.mmtel_lex.proofs.Visible.{printed_visible}
 use Rattle.mmtel_sheet_grammar.specs.Elements.{is_target}
 use Rattle.mmtel_sheet_grammar.specs.Printable.{IsUriOfText, IsTarget}
@@ -34,7 +34,7 @@ printed_text s u is = IsUtf8-from_ascii (uri_text u) (all_ascii UriByte uri_byte
 pub uri_printable : (s : List ℕ) (u : Uri) → uri_of s ≡ Ok u → IsUriOfText u
 uri_printable s u read =
     let is = uri_takes s u read in
-    record { text = printed_text s u is; back = uri_again (uri_text u) u (printed_again s u is) }
+    record { text = printed_text s u is; reads_back = uri_again (uri_text u) u (printed_again s u is) }
 
 -- ---- how long the text is
 
@@ -56,7 +56,7 @@ port_length : (text : List ℕ) (port : Option ℕ) → IsPort text port → len
 port_length text None is = omega arith
 port_length text (Some n) is =
     let digits = is.0 in
-    let worth : digits_value 10 digits ≡ n = is.2.writes.worth in
+    let worth : digits_value 10 digits ≡ n = is.2.writes.value in
     let bound : digits_value 10 digits < 10 ^ length digits = digits_value-lt 10 digits (all_digits digits is.2.writes.digits.each) in
     let short : length (decimal n) ≤ length digits = length-decimal-le (length digits) n is.2.writes.digits.filled (omega (arith, worth, bound)) (omega (arith, is.2.high)) in
     let whole : length text ≡ length (58 ∷ digits) = ap length is.1 in

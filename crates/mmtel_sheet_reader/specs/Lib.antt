@@ -1,4 +1,4 @@
 -- Definitions that public contracts cite: a user of the crate has to trust them.
 pub mod Actions
 -- Definitions that only private functions cite.
-pub mod Kept
+pub mod ReadOrNone

@@ -1,7 +1,7 @@
 //! The values at the keys of records.
 ghost use Rattle.std.specs.Prelude.{◌≡◌, ◌≤◌, ◌<◌, [], Ok, IfOk, IfSome};
 ghost use Rattle.toml.specs.View.{view, array_view};
-ghost use Rattle.mmtel_sheet_grammar.specs.Answers.{Answers, then_do};
+ghost use Rattle.mmtel_sheet_grammar.specs.ReadResults.{IsReadResult, then_read};
 ghost use Rattle.mmtel_sheet_grammar.specs.Elements.{truth_at, number_at, text_at, uri_at, is_international, is_target, target_at, is_domain, domain_at, is_token_text};
 ghost use Rattle.mmtel_sheet_grammar.specs.Elements.{token_at, time_at, items_from, uris_at, tokens_at, day_of, no_days, with_day, day_read, days_from, has_day, days_at};
 ghost use Rattle.mmtel_sheet_grammar.specs.Elements.{clock_of, clock_at, offset_at};
@@ -9,8 +9,8 @@ ghost use Rattle.mmtel_sheet_grammar.specs.Sound.{IsSound, IsSoundArray};
 
 use crate::faults::wrong;
 use crate::moments::read_time;
+use mmtel_base::{Class, is_all, number_up_to};
 use mmtel_lex::{List, Text, Uri, UriFault, read_uri};
-use mmtel_scan::{Class, is_all, number_up_to};
 use mmtel_sheet_grammar::SheetFault;
 use std::alloc::Global;
 use toml::Value;
@@ -18,7 +18,7 @@ use toml::value::Array;
 
 /// A truth value.
 pub fn truth(alloc: Global, at: &[u8], value: &Value) -> Result<bool, SheetFault>
-    ensures exact { Answers (truth_at at.now (view value.now)) result }
+    ensures exact { IsReadResult (truth_at at.now (view value.now)) result }
     ensures sound { IfOk result (λ _. IsSound (view value.now)) }
 {
     match value {
@@ -35,7 +35,7 @@ pub fn number(
     least: u16,
     most: u16,
 ) -> Result<u16, SheetFault>
-    ensures exact { Answers (number_at least most at.now (view value.now)) result }
+    ensures exact { IsReadResult (number_at least most at.now (view value.now)) result }
     ensures sound { IfOk result (λ _. IsSound (view value.now)) }
     ensures within { IfOk result (λ n. n ≤ most) }
 {
@@ -52,7 +52,7 @@ pub fn number(
 
 /// Any text.
 pub fn text(alloc: Global, at: &[u8], value: &Value) -> Result<(), SheetFault>
-    ensures exact { Answers (then_do (text_at at.now (view value.now)) (λ s. Ok tt)) result }
+    ensures exact { IsReadResult (then_read (text_at at.now (view value.now)) (λ s. Ok tt)) result }
     ensures sound { IfOk result (λ _. IsSound (view value.now)) }
 {
     match value {
@@ -63,7 +63,7 @@ pub fn text(alloc: Global, at: &[u8], value: &Value) -> Result<(), SheetFault>
 
 /// A sip or tel URI.
 pub fn uri(alloc: Global, at: &[u8], value: &Value) -> Result<Uri, SheetFault>
-    ensures exact { Answers (uri_at at.now (view value.now)) result }
+    ensures exact { IsReadResult (uri_at at.now (view value.now)) result }
     ensures sound { IfOk result (λ _. IsSound (view value.now)) }
 {
     let Value::String(text) = value else {
@@ -99,7 +99,7 @@ fn is_target(uri: &Uri) -> bool
 
 /// A URI to which calls may be diverted, of at most 256 bytes.
 pub fn target(alloc: Global, at: &[u8], value: &Value) -> Result<Uri, SheetFault>
-    ensures exact { Answers (target_at at.now (view value.now)) result }
+    ensures exact { IsReadResult (target_at at.now (view value.now)) result }
     ensures sound { IfOk result (λ _. IsSound (view value.now)) }
 {
     let Value::String(text) = value else {
@@ -124,7 +124,7 @@ fn is_domain(bytes: &[u8]) -> bool
 
 /// A host, or `*`.
 pub fn domain(alloc: Global, at: &[u8], value: &Value) -> Result<Text, SheetFault>
-    ensures exact { Answers (domain_at at.now (view value.now)) result }
+    ensures exact { IsReadResult (domain_at at.now (view value.now)) result }
     ensures sound { IfOk result (λ _. IsSound (view value.now)) }
 {
     let Value::String(text) = value else {
@@ -143,7 +143,7 @@ fn is_token_text(bytes: &[u8]) -> bool
 }
 
 fn token(alloc: Global, at: &[u8], value: &Value) -> Result<Text, SheetFault>
-    ensures exact { Answers (token_at at.now (view value.now)) result }
+    ensures exact { IsReadResult (token_at at.now (view value.now)) result }
     ensures sound { IfOk result (λ _. IsSound (view value.now)) }
 {
     let Value::String(text) = value else {
@@ -157,7 +157,7 @@ fn token(alloc: Global, at: &[u8], value: &Value) -> Result<Text, SheetFault>
 
 /// A time, in milliseconds since 1970-01-01T00:00:00Z.
 pub fn time(alloc: Global, at: &[u8], value: &Value) -> Result<i128, SheetFault>
-    ensures exact { Answers (time_at at.now (view value.now)) result }
+    ensures exact { IsReadResult (time_at at.now (view value.now)) result }
     ensures sound { IfOk result (λ _. IsSound (view value.now)) }
 {
     let Value::String(text) = value else {
@@ -170,7 +170,7 @@ pub fn time(alloc: Global, at: &[u8], value: &Value) -> Result<i128, SheetFault>
 }
 
 fn each_uri(alloc: Global, at: &[u8], items: &Array) -> Result<List<Uri>, SheetFault>
-    ensures exact { Answers (items_from (uri_at at.now) [] (array_view items.now)) result }
+    ensures exact { IsReadResult (items_from (uri_at at.now) [] (array_view items.now)) result }
     ensures sound { IfOk result (λ _. IsSoundArray (array_view items.now)) }
 {
     let mut uris = List::new();
@@ -182,7 +182,7 @@ fn each_uri(alloc: Global, at: &[u8], items: &Array) -> Result<List<Uri>, SheetF
 
 /// An array of URIs.
 pub fn uris(alloc: Global, at: &[u8], value: &Value) -> Result<List<Uri>, SheetFault>
-    ensures exact { Answers (uris_at at.now (view value.now)) result }
+    ensures exact { IsReadResult (uris_at at.now (view value.now)) result }
     ensures sound { IfOk result (λ _. IsSound (view value.now)) }
 {
     match value {
@@ -192,7 +192,7 @@ pub fn uris(alloc: Global, at: &[u8], value: &Value) -> Result<List<Uri>, SheetF
 }
 
 fn each_token(alloc: Global, at: &[u8], items: &Array) -> Result<List<Text>, SheetFault>
-    ensures exact { Answers (items_from (token_at at.now) [] (array_view items.now)) result }
+    ensures exact { IsReadResult (items_from (token_at at.now) [] (array_view items.now)) result }
     ensures sound { IfOk result (λ _. IsSoundArray (array_view items.now)) }
 {
     let mut tokens = List::new();
@@ -204,7 +204,7 @@ fn each_token(alloc: Global, at: &[u8], items: &Array) -> Result<List<Text>, She
 
 /// An array of tokens.
 pub fn tokens(alloc: Global, at: &[u8], value: &Value) -> Result<List<Text>, SheetFault>
-    ensures exact { Answers (tokens_at at.now (view value.now)) result }
+    ensures exact { IsReadResult (tokens_at at.now (view value.now)) result }
     ensures sound { IfOk result (λ _. IsSound (view value.now)) }
 {
     match value {
@@ -251,7 +251,7 @@ fn read_day(
     days: [bool; 7],
     value: &Value,
 ) -> Result<[bool; 7], SheetFault>
-    ensures exact { Answers (day_read at.now days (view value.now)) result }
+    ensures exact { IsReadResult (day_read at.now days (view value.now)) result }
     ensures sound { IfOk result (λ _. IsSound (view value.now)) }
 {
     let Value::String(word) = value else {
@@ -267,7 +267,7 @@ fn read_day(
 }
 
 fn each_day(alloc: Global, at: &[u8], items: &Array) -> Result<[bool; 7], SheetFault>
-    ensures exact { Answers (days_from at.now no_days (array_view items.now)) result }
+    ensures exact { IsReadResult (days_from at.now no_days (array_view items.now)) result }
     ensures sound { IfOk result (λ _. IsSoundArray (array_view items.now)) }
 {
     let mut days = [false; 7];
@@ -285,7 +285,7 @@ fn has_day(days: &[bool]) -> bool
 
 /// An array of one day or more, each named once: which of the week they are, Monday first.
 pub fn days(alloc: Global, at: &[u8], value: &Value) -> Result<[bool; 7], SheetFault>
-    ensures exact { Answers (days_at at.now (view value.now)) result }
+    ensures exact { IsReadResult (days_at at.now (view value.now)) result }
     ensures sound { IfOk result (λ _. IsSound (view value.now)) }
 {
     let Value::Array(items) = value else {
@@ -318,7 +318,7 @@ fn clock_of(most: u16, bytes: &[u8]) -> Option<u16>
 
 /// A time of the day, `HH:MM`, as the minutes since it began, of at most this many.
 pub fn clock(alloc: Global, at: &[u8], value: &Value, most: u16) -> Result<u16, SheetFault>
-    ensures exact { Answers (clock_at most at.now (view value.now)) result }
+    ensures exact { IsReadResult (clock_at most at.now (view value.now)) result }
     ensures sound { IfOk result (λ _. IsSound (view value.now)) }
 {
     let Value::String(text) = value else {
@@ -332,7 +332,7 @@ pub fn clock(alloc: Global, at: &[u8], value: &Value, most: u16) -> Result<u16, 
 
 /// The minutes by which a clock is ahead of UTC, at most 14 hours.
 pub fn offset(alloc: Global, at: &[u8], value: &Value) -> Result<i16, SheetFault>
-    ensures exact { Answers (offset_at at.now (view value.now)) result }
+    ensures exact { IsReadResult (offset_at at.now (view value.now)) result }
     ensures sound { IfOk result (λ _. IsSound (view value.now)) }
 {
     let Value::Integer(minutes) = value else {

@@ -1,6 +1,6 @@
 //! Refusing a value at its key.
 ghost use Rattle.std.specs.Prelude.{◌≡◌, Err, IsErr};
-ghost use Rattle.mmtel_sheet_grammar.specs.Answers.{Answers};
+ghost use Rattle.mmtel_sheet_grammar.specs.ReadResults.{IsReadResult};
 ghost use Rattle.mmtel_sheet_grammar.specs.declared.faults.SheetFault.TheVariants as fault;
 
 use mmtel_lex::Text;
@@ -9,7 +9,7 @@ use std::alloc::Global;
 
 /// The value at the key is refused as wrong.
 pub fn wrong<T>(alloc: Global, at: &[u8]) -> Result<T, SheetFault>
-    ensures fault { Answers (Err (fault.Wrong at.now)) result }
+    ensures fault { IsReadResult (Err (fault.Wrong at.now)) result }
     ensures refused { IsErr result }
 {
     match Text::of(alloc, at) {
@@ -20,7 +20,7 @@ pub fn wrong<T>(alloc: Global, at: &[u8]) -> Result<T, SheetFault>
 
 /// The key is refused as not listed.
 pub fn unknown<T>(alloc: Global, at: &[u8]) -> Result<T, SheetFault>
-    ensures fault { Answers (Err (fault.Unknown at.now)) result }
+    ensures fault { IsReadResult (Err (fault.Unknown at.now)) result }
     ensures refused { IsErr result }
 {
     match Text::of(alloc, at) {
@@ -31,7 +31,7 @@ pub fn unknown<T>(alloc: Global, at: &[u8]) -> Result<T, SheetFault>
 
 /// The array at the key is refused as too long.
 pub fn many<T>(alloc: Global, at: &[u8]) -> Result<T, SheetFault>
-    ensures fault { Answers (Err (fault.Many at.now 64)) result }
+    ensures fault { IsReadResult (Err (fault.Many at.now 64)) result }
     ensures refused { IsErr result }
 {
     match Text::of(alloc, at) {

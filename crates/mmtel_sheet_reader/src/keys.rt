@@ -1,10 +1,10 @@
 //! The keys of records, by their names.
 ghost use Rattle.std.specs.Prelude.{◌≡◌, IfOk, ◌++◌, codes, decimal};
-ghost use Rattle.mmtel_sheet_grammar.specs.Keys.{event_of, notice_of, identity_key_of, second_key_of, other_key_of, key_or, notice_or, rule_key_of, is_second};
-ghost use Rattle.mmtel_sheet_grammar.specs.Keys.{meets_callers, is_outgoing, is_listed, dotted, rule_path};
+ghost use Rattle.mmtel_sheet_grammar.specs.Keys.{event_of, notification_of, identity_key_of, second_key_of, other_key_of, key_or, notification_or, rule_key_of, is_version_two};
+ghost use Rattle.mmtel_sheet_grammar.specs.Keys.{applies_to_callers, is_outgoing, is_listed, dotted_path, rule_path};
 
 use mmtel_lex::{NoMemory, Text};
-use mmtel_sheet_grammar::keys::{Notice, RuleKey, Schema, Service, Version};
+use mmtel_sheet_grammar::keys::{Notification, RuleKey, Schema, Service, Version};
 use mmtel_sheet_values::EventWord;
 use std::alloc::Global;
 
@@ -21,15 +21,15 @@ fn event(name: &str) -> Option<EventWord>
     }
 }
 
-#[tactic(auto, unfolding(mmtel_sheet_grammar::specs::Keys::notice_of))]
-fn notice_key(name: &str) -> Option<Notice>
-    ensures { result ≡ notice_of name.now }
+#[tactic(auto, unfolding(mmtel_sheet_grammar::specs::Keys::notification_of))]
+fn notification_key(name: &str) -> Option<Notification>
+    ensures { result ≡ notification_of name.now }
 {
     match name {
-        "notify-caller" => Some(Notice::NotifyCaller),
-        "reveal-identity-to-caller" => Some(Notice::RevealToCaller),
-        "reveal-served-user-identity-to-caller" => Some(Notice::RevealServedToCaller),
-        "reveal-identity-to-target" => Some(Notice::RevealToTarget),
+        "notify-caller" => Some(Notification::NotifyCaller),
+        "reveal-identity-to-caller" => Some(Notification::RevealToCaller),
+        "reveal-served-user-identity-to-caller" => Some(Notification::RevealServedToCaller),
+        "reveal-identity-to-target" => Some(Notification::RevealToTarget),
         _ => None,
     }
 }
@@ -95,11 +95,11 @@ fn identity_or_other(name: &str) -> Option<RuleKey>
     }
 }
 
-fn notice_or_other(name: &str) -> Option<RuleKey>
-    ensures { result ≡ notice_or (notice_of name.now) (key_or (identity_key_of name.now) (key_or (second_key_of name.now) (other_key_of name.now))) }
+fn notification_or_other(name: &str) -> Option<RuleKey>
+    ensures { result ≡ notification_or (notification_of name.now) (key_or (identity_key_of name.now) (key_or (second_key_of name.now) (other_key_of name.now))) }
 {
-    match notice_key(name) {
-        Some(notice) => Some(RuleKey::Notice(notice)),
+    match notification_key(name) {
+        Some(notice) => Some(RuleKey::Notification(notice)),
         None => identity_or_other(name),
     }
 }
@@ -110,13 +110,13 @@ pub fn rule_key(name: &str) -> Option<RuleKey>
 {
     match event(name) {
         Some(event) => Some(RuleKey::Event(event)),
-        None => notice_or_other(name),
+        None => notification_or_other(name),
     }
 }
 
 /// Whether the record is of the second version.
-fn is_second(version: Version) -> bool
-    ensures { result ≡ is_second version }
+fn is_version_two(version: Version) -> bool
+    ensures { result ≡ is_version_two version }
 {
     match version {
         Version::One => false,
@@ -125,8 +125,8 @@ fn is_second(version: Version) -> bool
 }
 
 /// Whether the caller is known where the rules of the service are evaluated.
-fn meets_callers(service: Service) -> bool
-    ensures { result ≡ meets_callers service }
+fn applies_to_callers(service: Service) -> bool
+    ensures { result ≡ applies_to_callers service }
 {
     match service {
         Service::Diversion | Service::Incoming => true,
@@ -153,13 +153,13 @@ pub fn is_listed(schema: Schema, key: RuleKey) -> bool
             Service::Diversion => false,
             Service::Incoming | Service::Outgoing => true,
         },
-        RuleKey::Anonymous => meets_callers(schema.service),
+        RuleKey::Anonymous => applies_to_callers(schema.service),
         RuleKey::DayFrom | RuleKey::DayUntil | RuleKey::Days | RuleKey::Offset => {
-            is_second(schema.version)
+            is_version_two(schema.version)
         }
-        RuleKey::Diverted => is_second(schema.version) && meets_callers(schema.service),
-        RuleKey::International => is_second(schema.version) && is_outgoing(schema.service),
-        RuleKey::Event(_) | RuleKey::Notice(_) | RuleKey::Target => match schema.service {
+        RuleKey::Diverted => is_version_two(schema.version) && applies_to_callers(schema.service),
+        RuleKey::International => is_version_two(schema.version) && is_outgoing(schema.service),
+        RuleKey::Event(_) | RuleKey::Notification(_) | RuleKey::Target => match schema.service {
             Service::Diversion => true,
             Service::Incoming | Service::Outgoing => false,
         },
@@ -174,8 +174,8 @@ pub fn is_listed(schema: Schema, key: RuleKey) -> bool
 }
 
 /// A key below another: `path.key`.
-pub fn below(alloc: Global, path: &[u8], key: &[u8]) -> Result<Text, NoMemory>
-    ensures { IfOk result (λ t. t ≡ dotted path.now key.now) }
+pub fn dotted_path(alloc: Global, path: &[u8], key: &[u8]) -> Result<Text, NoMemory>
+    ensures { IfOk result (λ t. t ≡ dotted_path path.now key.now) }
 {
     let mut out = Text::of(alloc, path)?;
     out.push(alloc, b".")?;
@@ -188,5 +188,5 @@ pub fn rule_path(alloc: Global, path: &[u8], number: usize) -> Result<Text, NoMe
     ensures { IfOk result (λ t. t ≡ rule_path path.now number) }
 {
     let digits = number.to_string(alloc)?;
-    below(alloc, path, digits.as_bytes())
+    dotted_path(alloc, path, digits.as_bytes())
 }

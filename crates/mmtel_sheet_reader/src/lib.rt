@@ -4,10 +4,10 @@
 mod elements;
 mod faults;
 mod keys;
-pub mod laws;
 mod moments;
 mod reading;
 mod rules;
 mod tables;
+pub mod theorems;
 
 pub use reading::{read_old_sheet, read_sheet};

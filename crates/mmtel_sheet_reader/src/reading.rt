@@ -1,9 +1,9 @@
 //! Reading a record.
 ghost use Rattle.std.specs.Prelude.{◌≡◌, IfOk, IfSome};
 ghost use Rattle.mmtel_sheet_grammar.specs.Printable.{IsPrintable};
-ghost use Rattle.mmtel_sheet_grammar.specs.Texts.{sheet_read, TellsRead, old_sheet, where_first};
+ghost use Rattle.mmtel_sheet_grammar.specs.Texts.{sheet_read, ReportsRead, old_sheet, if_first_version};
 ghost use Rattle.mmtel_sheet_grammar.specs.Walk.{IsRead, sheet_of, version_of};
-ghost use Rattle.mmtel_sheet_reader.specs.Kept.{Kept};
+ghost use Rattle.mmtel_sheet_reader.specs.ReadOrNone.{IsReadOrNone};
 ghost use Rattle.toml.specs.View.{table_view};
 
 use crate::tables::{sheet, version};
@@ -21,11 +21,11 @@ use toml::Table;
 /// `NotToml` exactly where the bytes are not UTF-8 or no TOML. Else the first fault of the walk over the document, which visits tables in byte order of their names, keys in byte
 /// order, rules and items in their order: `Unknown` where a key is not listed, `Wrong` where its value is not of the key's type, range or text or where its partner is absent,
 /// `Many` where an array is too long. `NoMemory` where memory ran out.
-#[tactic(auto, using(crate::proofs::Documents::documented, crate::proofs::Told::told, crate::proofs::Told::told_nothing, crate::proofs::ReadTables::answered))]
+#[tactic(auto, using(crate::proofs::Documents::documented, crate::proofs::BytesRead::read_is_reported, crate::proofs::BytesRead::no_document_is_reported, crate::proofs::ReadTables::read_is_printable))]
 pub fn read_sheet(alloc: Global, bytes: &[u8]) -> Result<Sheet, SheetFault>
     ensures exact { IsRead bytes.now result }
     // The same as one function of the bytes.
-    ensures total { TellsRead (sheet_read bytes.now) result }
+    ensures total { ReportsRead (sheet_read bytes.now) result }
     // The sheet can be printed.
     ensures printable { IfOk result IsPrintable }
 {
@@ -39,8 +39,8 @@ pub fn read_sheet(alloc: Global, bytes: &[u8]) -> Result<Sheet, SheetFault>
 }
 
 /// The result of the reading, unless it is refused; out of memory is no refusal.
-fn unless_refused<T>(read: Result<T, SheetFault>) -> Result<Option<T>, NoMemory>
-    ensures { Kept read result }
+fn read_or_none<T>(read: Result<T, SheetFault>) -> Result<Option<T>, NoMemory>
+    ensures { IsReadOrNone read result }
 {
     match read {
         Ok(value) => Ok(Some(value)),
@@ -50,13 +50,13 @@ fn unless_refused<T>(read: Result<T, SheetFault>) -> Result<Option<T>, NoMemory>
 }
 
 /// The sheet of a document of the first version.
-#[tactic(auto, using(crate::proofs::ReadTables::answered))]
-fn sheet_of_first(alloc: Global, table: &Table) -> Result<Option<Sheet>, NoMemory>
-    ensures exact { IfOk result (λ o. o ≡ where_first (version_of (table_view table.now)) (sheet_of (table_view table.now))) }
+#[tactic(auto, using(crate::proofs::ReadTables::read_is_printable))]
+fn first_version_sheet(alloc: Global, table: &Table) -> Result<Option<Sheet>, NoMemory>
+    ensures exact { IfOk result (λ o. o ≡ if_first_version (version_of (table_view table.now)) (sheet_of (table_view table.now))) }
     ensures printable { IfOk result (λ o. IfSome o IsPrintable) }
 {
-    match unless_refused(version(alloc, table))? {
-        Some(Version::One) => unless_refused(sheet(alloc, table)),
+    match read_or_none(version(alloc, table))? {
+        Some(Version::One) => read_or_none(sheet(alloc, table)),
         _ => Ok(None),
     }
 }
@@ -66,14 +66,14 @@ fn sheet_of_first(alloc: Global, table: &Table) -> Result<Option<Sheet>, NoMemor
 /// # Errors
 ///
 /// Out of memory only.
-#[tactic(auto, using(crate::proofs::Told::none_old))]
+#[tactic(auto, using(crate::proofs::BytesRead::none_old))]
 pub fn read_old_sheet(alloc: Global, bytes: &[u8]) -> Result<Option<Sheet>, NoMemory>
     ensures exact { IfOk result (λ o. o ≡ old_sheet bytes.now) }
     // The sheet can be printed.
     ensures printable { IfOk result (λ o. IfSome o IsPrintable) }
 {
     match toml::table_from_slice(alloc, bytes) {
-        Ok(table) => sheet_of_first(alloc, &table),
+        Ok(table) => first_version_sheet(alloc, &table),
         Err(error) => match error.span() {
             Some(_) => Ok(None),
             None => Err(NoMemory),

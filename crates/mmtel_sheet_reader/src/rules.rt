@@ -2,9 +2,9 @@
 ghost use Rattle.std.specs.Prelude.{◌≡◌, [], codes, length, nat_lt, ◌&&◌, not, Ok, IfOk};
 ghost use Rattle.toml.specs.Data.{as_table};
 ghost use Rattle.toml.specs.View.{view, table_view, array_view};
-ghost use Rattle.mmtel_sheet_grammar.specs.Answers.{Answers, then_do, or_wrong};
-ghost use Rattle.mmtel_sheet_grammar.specs.Keys.{dotted, rule_key_of, rule_path};
-ghost use Rattle.mmtel_sheet_grammar.specs.Rules.{has_key, no_keys, with_notice, event_read, except_read, one_read, from_read, until_read, key_read, listed, rule_key_read};
+ghost use Rattle.mmtel_sheet_grammar.specs.ReadResults.{IsReadResult, then_read, or_wrong};
+ghost use Rattle.mmtel_sheet_grammar.specs.Keys.{dotted_path, rule_key_of, rule_path};
+ghost use Rattle.mmtel_sheet_grammar.specs.Rules.{has_key, empty_draft, with_notification, event_read, except_read, one_read, from_read, until_read, key_read, listed_key, rule_key_read};
 ghost use Rattle.mmtel_sheet_grammar.specs.Rules.{day_from_read, day_until_read, days_read, offset_read};
 ghost use Rattle.mmtel_sheet_grammar.specs.Rules.{who_of, condition_of, forward_read, allow_read, action_of, keys_of_rule, rule_of, are_tables, items_count, rules_from};
 ghost use Rattle.mmtel_sheet_grammar.specs.Rules.{rules_of, rules_at};
@@ -12,18 +12,18 @@ ghost use Rattle.mmtel_sheet_grammar.specs.Sound.{IsSound, IsSoundArray, IsSound
 
 use crate::elements::{clock, days, domain, offset, target, text, time, tokens, truth, uris};
 use crate::faults::{many, unknown, wrong};
-use crate::keys::{below, is_listed, rule_key, rule_path};
+use crate::keys::{dotted_path, is_listed, rule_key, rule_path};
 use mmtel_lex::{List, Text, Uri};
 use mmtel_sheet_grammar::SheetFault;
-use mmtel_sheet_grammar::drafts::{Hours, Notices, RuleDraft};
-use mmtel_sheet_grammar::keys::{Notice, RuleKey, Schema, Service};
+use mmtel_sheet_grammar::drafts::{Hours, Notifications, RuleDraft};
+use mmtel_sheet_grammar::keys::{Notification, RuleKey, Schema, Service};
 use mmtel_sheet_values::{Action, Condition, EventWord, Forward, Rule, Weekly, Who, Window};
 use std::alloc::Global;
 use toml::value::Array;
 use toml::{Table, Value};
 
-fn no_keys() -> RuleDraft
-    ensures { result ≡ no_keys }
+fn empty_draft() -> RuleDraft
+    ensures { result ≡ empty_draft }
 {
     RuleDraft {
         abroad: false,
@@ -37,7 +37,7 @@ fn no_keys() -> RuleDraft
         hours: None,
         many: None,
         media: None,
-        notices: Notices {
+        notifications: Notifications {
             notify_caller: true,
             reveal_to_caller: true,
             reveal_served_to_caller: true,
@@ -50,25 +50,29 @@ fn no_keys() -> RuleDraft
     }
 }
 
-fn with_notice(notice: Notice, told: bool, notices: Notices) -> Notices
-    ensures { result ≡ with_notice notice told notices }
+fn with_notification(
+    notification: Notification,
+    enabled: bool,
+    notifications: Notifications,
+) -> Notifications
+    ensures { result ≡ with_notification notification enabled notifications }
 {
-    match notice {
-        Notice::NotifyCaller => Notices {
-            notify_caller: told,
-            ..notices
+    match notification {
+        Notification::NotifyCaller => Notifications {
+            notify_caller: enabled,
+            ..notifications
         },
-        Notice::RevealToCaller => Notices {
-            reveal_to_caller: told,
-            ..notices
+        Notification::RevealToCaller => Notifications {
+            reveal_to_caller: enabled,
+            ..notifications
         },
-        Notice::RevealServedToCaller => Notices {
-            reveal_served_to_caller: told,
-            ..notices
+        Notification::RevealServedToCaller => Notifications {
+            reveal_served_to_caller: enabled,
+            ..notifications
         },
-        Notice::RevealToTarget => Notices {
-            reveal_to_target: told,
-            ..notices
+        Notification::RevealToTarget => Notifications {
+            reveal_to_target: enabled,
+            ..notifications
         },
     }
 }
@@ -79,11 +83,11 @@ fn read_event(
     at: &[u8],
     draft: &mut RuleDraft,
     event: EventWord,
-    happened: bool,
+    is_set: bool,
 ) -> Result<(), SheetFault>
-    ensures { Answers (event_read at.now event draft.old happened) (then_do result (λ _. Ok draft.new)) }
+    ensures { IsReadResult (event_read at.now event draft.old is_set) (then_read result (λ _. Ok draft.new)) }
 {
-    if !happened {
+    if !is_set {
         return Ok(());
     }
     match draft.event {
@@ -102,17 +106,17 @@ fn has_key(table: &Table, name: &str) -> bool
 }
 
 /// More than the identities that one rule may name.
-fn is_over(count: usize) -> bool
+fn is_over_limit(count: usize) -> bool
     ensures { result ≡ nat_lt 64 count }
 {
     count > 64
 }
 
 /// More of them in `except` than allowed, where no `one` comes after it.
-fn is_last_and_long(count: usize, table: &Table) -> bool
+fn is_last_and_too_long(count: usize, table: &Table) -> bool
     ensures { result ≡ (nat_lt 64 count && not (has_key (codes "one") (table_view table.now))) }
 {
-    if !is_over(count) {
+    if !is_over_limit(count) {
         return false;
     }
     !has_key(table, "one")
@@ -126,12 +130,12 @@ fn read_except(
     table: &Table,
     except: List<Uri>,
 ) -> Result<(), SheetFault>
-    ensures { Answers (except_read at.now draft.old (table_view table.now) except) (then_do result (λ _. Ok draft.new)) }
+    ensures { IsReadResult (except_read at.now draft.old (table_view table.now) except) (then_read result (λ _. Ok draft.new)) }
 {
     if !has_key(table, "many") {
         return wrong(alloc, at);
     }
-    if is_last_and_long(except.items().len(), table) {
+    if is_last_and_too_long(except.items().len(), table) {
         return many(alloc, at);
     }
     draft.except = except;
@@ -145,9 +149,9 @@ fn read_one(
     draft: &mut RuleDraft,
     one: List<Uri>,
 ) -> Result<(), SheetFault>
-    ensures { Answers (one_read at.now draft.old one) (then_do result (λ _. Ok draft.new)) }
+    ensures { IsReadResult (one_read at.now draft.old one) (then_read result (λ _. Ok draft.new)) }
 {
-    if is_over(one.items().len() + draft.except.items().len()) {
+    if is_over_limit(one.items().len() + draft.except.items().len()) {
         return many(alloc, at);
     }
     draft.one = Some(one);
@@ -162,7 +166,7 @@ fn read_from(
     table: &Table,
     from: i128,
 ) -> Result<(), SheetFault>
-    ensures { Answers (from_read at.now draft.old (table_view table.now) from) (then_do result (λ _. Ok draft.new)) }
+    ensures { IsReadResult (from_read at.now draft.old (table_view table.now) from) (then_read result (λ _. Ok draft.new)) }
 {
     if !has_key(table, "until") {
         return wrong(alloc, at);
@@ -178,7 +182,7 @@ fn read_until(
     draft: &mut RuleDraft,
     until: i128,
 ) -> Result<(), SheetFault>
-    ensures { Answers (until_read at.now draft.old until draft.old.from) (then_do result (λ _. Ok draft.new)) }
+    ensures { IsReadResult (until_read at.now draft.old until draft.old.from) (then_read result (λ _. Ok draft.new)) }
 {
     match draft.from {
         Some(from) if from < until => {
@@ -197,7 +201,7 @@ fn read_day_from(
     table: &Table,
     from: u16,
 ) -> Result<(), SheetFault>
-    ensures { Answers (day_from_read at.now draft.old (table_view table.now) from) (then_do result (λ _. Ok draft.new)) }
+    ensures { IsReadResult (day_from_read at.now draft.old (table_view table.now) from) (then_read result (λ _. Ok draft.new)) }
 {
     if !has_key(table, "day-until") {
         return wrong(alloc, at);
@@ -216,7 +220,7 @@ fn read_day_until(
     draft: &mut RuleDraft,
     until: u16,
 ) -> Result<(), SheetFault>
-    ensures { Answers (day_until_read at.now draft.old until draft.old.day_from) (then_do result (λ _. Ok draft.new)) }
+    ensures { IsReadResult (day_until_read at.now draft.old until draft.old.day_from) (then_read result (λ _. Ok draft.new)) }
 {
     match draft.day_from {
         Some(from) if from < until => {
@@ -234,7 +238,7 @@ fn read_days(
     draft: &mut RuleDraft,
     days: [bool; 7],
 ) -> Result<(), SheetFault>
-    ensures { Answers (days_read at.now draft.old days draft.old.hours) (then_do result (λ _. Ok draft.new)) }
+    ensures { IsReadResult (days_read at.now draft.old days draft.old.hours) (then_read result (λ _. Ok draft.new)) }
 {
     match draft.hours {
         Some(hours) => {
@@ -257,7 +261,7 @@ fn read_offset(
     draft: &mut RuleDraft,
     offset: i16,
 ) -> Result<(), SheetFault>
-    ensures { Answers (offset_read at.now draft.old offset draft.old.weekly) (then_do result (λ _. Ok draft.new)) }
+    ensures { IsReadResult (offset_read at.now draft.old offset draft.old.weekly) (then_read result (λ _. Ok draft.new)) }
 {
     match draft.weekly {
         Some(weekly) => {
@@ -277,7 +281,7 @@ fn read_key(
     key: RuleKey,
     value: &Value,
 ) -> Result<(), SheetFault>
-    ensures exact { Answers (key_read (table_view table.now) at.now draft.old key (view value.now)) (then_do result (λ _. Ok draft.new)) }
+    ensures exact { IsReadResult (key_read (table_view table.now) at.now draft.old key (view value.now)) (then_read result (λ _. Ok draft.new)) }
     ensures sound { IfOk result (λ _. IsSound (view value.now)) }
 {
     match key {
@@ -314,8 +318,12 @@ fn read_key(
             drop(draft.media.replace(tokens(alloc, at, value)?));
             Ok(())
         }
-        RuleKey::Notice(notice) => {
-            draft.notices = with_notice(notice, truth(alloc, at, value)?, draft.notices);
+        RuleKey::Notification(notice) => {
+            draft.notifications = with_notification(
+                notice,
+                truth(alloc, at, value)?,
+                draft.notifications,
+            );
             Ok(())
         }
         RuleKey::Offset => read_offset(alloc, at, draft, offset(alloc, at, value)?),
@@ -329,7 +337,7 @@ fn read_key(
 }
 
 fn listed_key(schema: Schema, name: &str) -> Option<RuleKey>
-    ensures { result ≡ listed schema (rule_key_of name.now) }
+    ensures { result ≡ listed_key schema (rule_key_of name.now) }
 {
     match rule_key(name) {
         Some(key) if is_listed(schema, key) => Some(key),
@@ -347,10 +355,10 @@ fn read_name(
     name: &str,
     value: &Value,
 ) -> Result<(), SheetFault>
-    ensures exact { Answers (rule_key_read schema (table_view table.now) (dotted path.now name.now) draft.old name.now (view value.now)) (then_do result (λ _. Ok draft.new)) }
+    ensures exact { IsReadResult (rule_key_read schema (table_view table.now) (dotted_path path.now name.now) draft.old name.now (view value.now)) (then_read result (λ _. Ok draft.new)) }
     ensures sound { IfOk result (λ _. IsSound (view value.now)) }
 {
-    let at = below(alloc, path, name.as_bytes())?;
+    let at = dotted_path(alloc, path, name.as_bytes())?;
     match listed_key(schema, name) {
         Some(key) => read_key(alloc, table, at.bytes(), draft, key, value),
         None => unknown(alloc, at.bytes()),
@@ -363,10 +371,10 @@ fn keys_of_rule(
     path: &[u8],
     table: &Table,
 ) -> Result<RuleDraft, SheetFault>
-    ensures exact { Answers (keys_of_rule schema path.now (table_view table.now)) result }
+    ensures exact { IsReadResult (keys_of_rule schema path.now (table_view table.now)) result }
     ensures sound { IfOk result (λ _. IsSoundTable (table_view table.now)) }
 {
-    let mut draft = no_keys();
+    let mut draft = empty_draft();
     'members: for (key, value) in table.iter() {
         match read_name(alloc, schema, table, path, &mut draft, key.as_str(), value) {
             Ok(()) => {}
@@ -399,32 +407,32 @@ fn forward(
     alloc: Global,
     path: &[u8],
     target: Option<Uri>,
-    notices: Notices,
+    notifications: Notifications,
 ) -> Result<Action, SheetFault>
-    ensures { Answers (forward_read path.now target notices) result }
+    ensures { IsReadResult (forward_read path.now target notifications) result }
 {
     match target {
         Some(target) => Ok(Action::Forward(Forward {
             target,
-            notify_caller: notices.notify_caller,
-            reveal_to_caller: notices.reveal_to_caller,
-            reveal_served_to_caller: notices.reveal_served_to_caller,
-            reveal_to_target: notices.reveal_to_target,
+            notify_caller: notifications.notify_caller,
+            reveal_to_caller: notifications.reveal_to_caller,
+            reveal_served_to_caller: notifications.reveal_served_to_caller,
+            reveal_to_target: notifications.reveal_to_target,
         })),
         None => {
-            let at = below(alloc, path, b"target")?;
+            let at = dotted_path(alloc, path, b"target")?;
             wrong(alloc, at.bytes())
         }
     }
 }
 
 fn allowance(alloc: Global, path: &[u8], allow: Option<bool>) -> Result<Action, SheetFault>
-    ensures { Answers (allow_read path.now allow) result }
+    ensures { IsReadResult (allow_read path.now allow) result }
 {
     match allow {
         Some(allow) => Ok(Action::Allow(allow)),
         None => {
-            let at = below(alloc, path, b"allow")?;
+            let at = dotted_path(alloc, path, b"allow")?;
             wrong(alloc, at.bytes())
         }
     }
@@ -436,20 +444,20 @@ fn action(
     service: Service,
     path: &[u8],
     target: Option<Uri>,
-    notices: Notices,
+    notifications: Notifications,
     allow: Option<bool>,
 ) -> Result<Action, SheetFault>
-    ensures { Answers (action_of service path.now target notices allow) result }
+    ensures { IsReadResult (action_of service path.now target notifications allow) result }
 {
     match service {
-        Service::Diversion => forward(alloc, path, target, notices),
+        Service::Diversion => forward(alloc, path, target, notifications),
         Service::Incoming => allowance(alloc, path, allow),
         Service::Outgoing => allowance(alloc, path, allow),
     }
 }
 
 fn rule(alloc: Global, schema: Schema, path: &[u8], table: &Table) -> Result<Rule, SheetFault>
-    ensures exact { Answers (rule_of schema path.now (table_view table.now)) result }
+    ensures exact { IsReadResult (rule_of schema path.now (table_view table.now)) result }
     ensures sound { IfOk result (λ _. IsSoundTable (table_view table.now)) }
 {
     let draft = keys_of_rule(alloc, schema, path, table)?;
@@ -458,7 +466,7 @@ fn rule(alloc: Global, schema: Schema, path: &[u8], table: &Table) -> Result<Rul
         schema.service,
         path,
         draft.target,
-        draft.notices,
+        draft.notifications,
         draft.allow,
     )?;
     let condition = Condition {
@@ -482,7 +490,7 @@ fn numbered_rule(
     number: usize,
     table: &Table,
 ) -> Result<Rule, SheetFault>
-    ensures exact { Answers (rule_of schema (rule_path path.now number) (table_view table.now)) result }
+    ensures exact { IsReadResult (rule_of schema (rule_path path.now number) (table_view table.now)) result }
     ensures sound { IfOk result (λ _. IsSoundTable (table_view table.now)) }
 {
     let path = rule_path(alloc, path, number)?;
@@ -505,16 +513,16 @@ fn next_rule(
     alloc: Global,
     schema: Schema,
     path: &[u8],
-    before: &List<Rule>,
+    earlier: &List<Rule>,
     item: &Value,
 ) -> Result<Rule, SheetFault>
-    ensures exact { Answers (then_do (or_wrong path.now (as_table (view item.now))) (λ ms. rule_of schema (rule_path path.now (length before.now)) ms)) result }
+    ensures exact { IsReadResult (then_read (or_wrong path.now (as_table (view item.now))) (λ ms. rule_of schema (rule_path path.now (length earlier.now)) ms)) result }
     ensures sound { IfOk result (λ _. IsSound (view item.now)) }
 {
     let Value::Table(table) = item else {
         return wrong(alloc, path);
     };
-    numbered_rule(alloc, schema, path, before.items().len(), table)
+    numbered_rule(alloc, schema, path, earlier.items().len(), table)
 }
 
 fn each_rule(
@@ -523,7 +531,7 @@ fn each_rule(
     path: &[u8],
     items: &Array,
 ) -> Result<List<Rule>, SheetFault>
-    ensures exact { Answers (rules_from schema path.now [] (array_view items.now)) result }
+    ensures exact { IsReadResult (rules_from schema path.now [] (array_view items.now)) result }
     ensures sound { IfOk result (λ _. IsSoundArray (array_view items.now)) }
 {
     let mut rules = List::new();
@@ -534,7 +542,7 @@ fn each_rule(
 }
 
 /// More than the rules that a service may have.
-fn is_long(items: &Array) -> bool
+fn is_too_long(items: &Array) -> bool
     ensures { result ≡ nat_lt 64 (items_count (array_view items.now)) }
 {
     items.len() > 64
@@ -546,13 +554,13 @@ fn rules_of(
     path: &[u8],
     items: &Array,
 ) -> Result<List<Rule>, SheetFault>
-    ensures exact { Answers (rules_of schema path.now (array_view items.now)) result }
+    ensures exact { IsReadResult (rules_of schema path.now (array_view items.now)) result }
     ensures sound { IfOk result (λ _. IsSoundArray (array_view items.now)) }
 {
     if !are_tables(items) {
         return wrong(alloc, path);
     }
-    if is_long(items) {
+    if is_too_long(items) {
         return many(alloc, path);
     }
     each_rule(alloc, schema, path, items)
@@ -565,7 +573,7 @@ pub fn rules(
     at: &[u8],
     value: &Value,
 ) -> Result<List<Rule>, SheetFault>
-    ensures exact { Answers (rules_at schema at.now (view value.now)) result }
+    ensures exact { IsReadResult (rules_at schema at.now (view value.now)) result }
     ensures sound { IfOk result (λ _. IsSound (view value.now)) }
 {
     match value {

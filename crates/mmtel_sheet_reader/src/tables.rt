@@ -1,7 +1,7 @@
 //! The tables of a record.
 ghost use Rattle.std.specs.Prelude.{◌≡◌, codes, Ok, IfOk};
 ghost use Rattle.toml.specs.View.{view, table_view};
-ghost use Rattle.mmtel_sheet_grammar.specs.Answers.{Answers, then_do};
+ghost use Rattle.mmtel_sheet_grammar.specs.ReadResults.{IsReadResult, then_read};
 ghost use Rattle.mmtel_sheet_grammar.specs.Elements.{number_at};
 ghost use Rattle.mmtel_sheet_grammar.specs.Sound.{IsSound, IsSoundTable};
 ghost use Rattle.mmtel_sheet_grammar.specs.Walk.{schema, is_bound, diversion_key, diversion_part, diversion_of, is_rejection, bar_key, bar_part, bar_of, presentation_key};
@@ -12,7 +12,7 @@ ghost use Rattle.mmtel_sheet_values.specs.Sheets.{empty_sheet};
 
 use crate::elements::{number, truth};
 use crate::faults::{unknown, wrong};
-use crate::keys::below;
+use crate::keys::dotted_path;
 use crate::rules::rules;
 use mmtel_lex::List;
 use mmtel_sheet_grammar::SheetFault;
@@ -64,7 +64,7 @@ fn read_bound(
     draft: &mut DiversionDraft,
     value: &Value,
 ) -> Result<(), SheetFault>
-    ensures exact { Answers (then_do (number_at 0 16 at.now (view value.now)) (λ n. Ok (record draft.old { bound = Some n }))) (then_do result (λ _. Ok draft.new)) }
+    ensures exact { IsReadResult (then_read (number_at 0 16 at.now (view value.now)) (λ n. Ok (record draft.old { bound = Some n }))) (then_read result (λ _. Ok draft.new)) }
     ensures sound { IfOk result (λ _. IsSound (view value.now)) }
 {
     let bound = number(alloc, at, value, 0, 16)? as u8;
@@ -80,7 +80,7 @@ fn read_diversion_key(
     name: &str,
     value: &Value,
 ) -> Result<(), SheetFault>
-    ensures exact { Answers (diversion_key version at.now draft.old name.now (view value.now)) (then_do result (λ _. Ok draft.new)) }
+    ensures exact { IsReadResult (diversion_key version at.now draft.old name.now (view value.now)) (then_read result (λ _. Ok draft.new)) }
     ensures sound { IfOk result (λ _. IsSound (view value.now)) }
 {
     if name == "active" {
@@ -124,7 +124,7 @@ fn diversion(
     path: &[u8],
     table: &Table,
 ) -> Result<Option<DiversionPart>, SheetFault>
-    ensures exact { Answers (diversion_of version path.now (table_view table.now)) result }
+    ensures exact { IsReadResult (diversion_of version path.now (table_view table.now)) result }
     ensures sound { IfOk result (λ _. IsSoundTable (table_view table.now)) }
 {
     let mut draft = DiversionDraft {
@@ -135,7 +135,7 @@ fn diversion(
         rules: List::new(),
     };
     'members: for (key, value) in table.iter() {
-        let at = below(alloc, path, key.as_bytes())?;
+        let at = dotted_path(alloc, path, key.as_bytes())?;
         read_diversion_key(alloc, version, at.bytes(), &mut draft, key.as_str(), value)?;
     }
     Ok(diversion_part(draft))
@@ -158,7 +158,7 @@ fn read_bar_key(
     name: &str,
     value: &Value,
 ) -> Result<(), SheetFault>
-    ensures exact { Answers (bar_key schema at.now draft.old name.now (view value.now)) (then_do result (λ _. Ok draft.new)) }
+    ensures exact { IsReadResult (bar_key schema at.now draft.old name.now (view value.now)) (then_read result (λ _. Ok draft.new)) }
     ensures sound { IfOk result (λ _. IsSound (view value.now)) }
 {
     if name == "active" {
@@ -195,7 +195,7 @@ fn bar(
     path: &[u8],
     table: &Table,
 ) -> Result<Option<BarPart>, SheetFault>
-    ensures exact { Answers (bar_of schema path.now (table_view table.now)) result }
+    ensures exact { IsReadResult (bar_of schema path.now (table_view table.now)) result }
     ensures sound { IfOk result (λ _. IsSoundTable (table_view table.now)) }
 {
     let mut draft = BarDraft {
@@ -204,7 +204,7 @@ fn bar(
         rules: List::new(),
     };
     'members: for (key, value) in table.iter() {
-        let at = below(alloc, path, key.as_bytes())?;
+        let at = dotted_path(alloc, path, key.as_bytes())?;
         read_bar_key(alloc, schema, at.bytes(), &mut draft, key.as_str(), value)?;
     }
     Ok(bar_part(draft))
@@ -217,7 +217,7 @@ fn with_presentation_key(
     name: &str,
     value: &Value,
 ) -> Result<bool, SheetFault>
-    ensures exact { Answers (presentation_key at.now active name.now (view value.now)) result }
+    ensures exact { IsReadResult (presentation_key at.now active name.now (view value.now)) result }
     ensures sound { IfOk result (λ _. IsSound (view value.now)) }
 {
     if name == "active" {
@@ -228,12 +228,12 @@ fn with_presentation_key(
 }
 
 fn presentation(alloc: Global, path: &[u8], table: &Table) -> Result<bool, SheetFault>
-    ensures exact { Answers (presentation_of path.now (table_view table.now)) result }
+    ensures exact { IsReadResult (presentation_of path.now (table_view table.now)) result }
     ensures sound { IfOk result (λ _. IsSoundTable (table_view table.now)) }
 {
     let mut active = true;
     'members: for (key, value) in table.iter() {
-        let at = below(alloc, path, key.as_bytes())?;
+        let at = dotted_path(alloc, path, key.as_bytes())?;
         active = with_presentation_key(alloc, at.bytes(), active, key.as_str(), value)?;
     }
     Ok(active)
@@ -252,14 +252,14 @@ fn choice(first: &str, second: &str, text: &str) -> Option<bool>
 }
 
 /// One of two words: true for the first.
-fn chosen(
+fn choice_at(
     alloc: Global,
     at: &[u8],
     value: &Value,
     first: &str,
     second: &str,
 ) -> Result<bool, SheetFault>
-    ensures exact { Answers (choice_at first.now second.now at.now (view value.now)) result }
+    ensures exact { IsReadResult (choice_at first.now second.now at.now (view value.now)) result }
     ensures sound { IfOk result (λ _. IsSound (view value.now)) }
 {
     let Value::String(text) = value else {
@@ -278,7 +278,7 @@ fn with_restriction_key(
     name: &str,
     value: &Value,
 ) -> Result<Restriction, SheetFault>
-    ensures exact { Answers (restriction_key at.now draft name.now (view value.now)) result }
+    ensures exact { IsReadResult (restriction_key at.now draft name.now (view value.now)) result }
     ensures sound { IfOk result (λ _. IsSound (view value.now)) }
 {
     match name {
@@ -289,14 +289,14 @@ fn with_restriction_key(
         "default-behaviour" => {
             let restricted = "presentation-restricted";
             let shown = "presentation-not-restricted";
-            let by_default = chosen(alloc, at, value, restricted, shown)?;
+            let by_default = choice_at(alloc, at, value, restricted, shown)?;
             Ok(Restriction {
                 by_default,
                 ..draft
             })
         }
         "mode" => {
-            let permanent = chosen(alloc, at, value, "permanent", "temporary")?;
+            let permanent = choice_at(alloc, at, value, "permanent", "temporary")?;
             Ok(Restriction { permanent, ..draft })
         }
         _ => unknown(alloc, at),
@@ -304,7 +304,7 @@ fn with_restriction_key(
 }
 
 fn restriction(alloc: Global, path: &[u8], table: &Table) -> Result<Restriction, SheetFault>
-    ensures exact { Answers (restriction_of path.now (table_view table.now)) result }
+    ensures exact { IsReadResult (restriction_of path.now (table_view table.now)) result }
     ensures sound { IfOk result (λ _. IsSoundTable (table_view table.now)) }
 {
     let mut draft = Restriction {
@@ -313,7 +313,7 @@ fn restriction(alloc: Global, path: &[u8], table: &Table) -> Result<Restriction,
         by_default: false,
     };
     'members: for (key, value) in table.iter() {
-        let at = below(alloc, path, key.as_bytes())?;
+        let at = dotted_path(alloc, path, key.as_bytes())?;
         draft = with_restriction_key(alloc, at.bytes(), draft, key.as_str(), value)?;
     }
     Ok(draft)
@@ -326,7 +326,7 @@ fn with_waiting_key(
     name: &str,
     value: &Value,
 ) -> Result<WaitingDraft, SheetFault>
-    ensures exact { Answers (waiting_key at.now draft name.now (view value.now)) result }
+    ensures exact { IsReadResult (waiting_key at.now draft name.now (view value.now)) result }
     ensures sound { IfOk result (λ _. IsSound (view value.now)) }
 {
     match name {
@@ -353,7 +353,7 @@ fn waiting_part(draft: WaitingDraft) -> Option<u8>
 }
 
 fn waiting(alloc: Global, path: &[u8], table: &Table) -> Result<Option<u8>, SheetFault>
-    ensures exact { Answers (waiting_of path.now (table_view table.now)) result }
+    ensures exact { IsReadResult (waiting_of path.now (table_view table.now)) result }
     ensures sound { IfOk result (λ _. IsSoundTable (table_view table.now)) }
 {
     let mut draft = WaitingDraft {
@@ -361,7 +361,7 @@ fn waiting(alloc: Global, path: &[u8], table: &Table) -> Result<Option<u8>, Shee
         calls: 2,
     };
     'members: for (key, value) in table.iter() {
-        let at = below(alloc, path, key.as_bytes())?;
+        let at = dotted_path(alloc, path, key.as_bytes())?;
         draft = with_waiting_key(alloc, at.bytes(), draft, key.as_str(), value)?;
     }
     Ok(waiting_part(draft))
@@ -376,7 +376,7 @@ fn read_table(
     key: TableKey,
     table: &Table,
 ) -> Result<(), SheetFault>
-    ensures exact { Answers (table_read version at.now sheet.old key (table_view table.now)) (then_do result (λ _. Ok sheet.new)) }
+    ensures exact { IsReadResult (table_read version at.now sheet.old key (table_view table.now)) (then_read result (λ _. Ok sheet.new)) }
     ensures sound { IfOk result (λ _. IsSoundTable (table_view table.now)) }
 {
     match key {
@@ -423,7 +423,7 @@ fn read_named(
     name: &str,
     value: &Value,
 ) -> Result<(), SheetFault>
-    ensures exact { Answers (named_read version name.now sheet.old (table_key_of name.now) (view value.now)) (then_do result (λ _. Ok sheet.new)) }
+    ensures exact { IsReadResult (named_read version name.now sheet.old (table_key_of name.now) (view value.now)) (then_read result (λ _. Ok sheet.new)) }
     ensures sound { IfOk result (λ _. IsSound (view value.now)) }
 {
     match table_key(name) {
@@ -437,7 +437,7 @@ fn read_named(
 
 /// A version of records.
 fn version_at(alloc: Global, at: &[u8], value: &Value) -> Result<Version, SheetFault>
-    ensures exact { Answers (version_at at.now (view value.now)) result }
+    ensures exact { IsReadResult (version_at at.now (view value.now)) result }
     ensures sound { IfOk result (λ _. IsSound (view value.now)) }
 {
     let number = number(alloc, at, value, 1, 2)?;
@@ -450,7 +450,7 @@ fn version_at(alloc: Global, at: &[u8], value: &Value) -> Result<Version, SheetF
 
 /// The version of a document, which is looked at before all else.
 pub fn version(alloc: Global, table: &Table) -> Result<Version, SheetFault>
-    ensures exact { Answers (version_of (table_view table.now)) result }
+    ensures exact { IsReadResult (version_of (table_view table.now)) result }
 {
     match table.get("version") {
         None => Ok(Version::One),
@@ -466,7 +466,7 @@ fn read_name(
     name: &str,
     value: &Value,
 ) -> Result<(), SheetFault>
-    ensures exact { Answers (name_read version name.now sheet.old (view value.now)) (then_do result (λ _. Ok sheet.new)) }
+    ensures exact { IsReadResult (name_read version name.now sheet.old (view value.now)) (then_read result (λ _. Ok sheet.new)) }
     ensures sound { IfOk result (λ _. IsSound (view value.now)) }
 {
     if name == "version" {
@@ -479,7 +479,7 @@ fn read_name(
 
 /// The sheet of a document of this version.
 fn sheet_from(alloc: Global, version: Version, table: &Table) -> Result<Sheet, SheetFault>
-    ensures exact { Answers (sheet_from version empty_sheet (table_view table.now)) result }
+    ensures exact { IsReadResult (sheet_from version empty_sheet (table_view table.now)) result }
     ensures sound { IfOk result (λ _. IsSoundTable (table_view table.now)) }
 {
     let mut sheet = Sheet::empty();
@@ -491,7 +491,7 @@ fn sheet_from(alloc: Global, version: Version, table: &Table) -> Result<Sheet, S
 
 /// The sheet of a document.
 pub fn sheet(alloc: Global, table: &Table) -> Result<Sheet, SheetFault>
-    ensures exact { Answers (sheet_of (table_view table.now)) result }
+    ensures exact { IsReadResult (sheet_of (table_view table.now)) result }
     ensures sound { IfOk result (λ _. IsSoundTable (table_view table.now)) }
 {
     let version = version(alloc, table)?;

@@ -1,2 +1,2 @@
-mod Alone
-mod Putting
+mod OtherAccounts
+mod Puts

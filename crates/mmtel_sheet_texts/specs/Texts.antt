@@ -21,6 +21,6 @@ text_at [] account = None
 text_at (entry ∷ texts) account = if entry.0.0 == account.0 then Some entry.1 else text_at texts account
 
 -- the texts, and how many further accounts can have one without allocation
-pub record Table : Type 0 where
+pub record SheetTextsView : Type 0 where
   pub texts : List (Account × List ℕ)
-  pub room : ℕ
+  pub space : ℕ

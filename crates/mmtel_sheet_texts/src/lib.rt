@@ -1,7 +1,7 @@
 //! The texts of service records by account, as they are stored and returned.
 #![tactic(auto)]
 
-pub mod laws;
 mod texts;
+pub mod theorems;
 
 pub use texts::SheetTexts;

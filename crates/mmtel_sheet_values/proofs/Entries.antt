@@ -10,7 +10,7 @@ use Rattle.std.specs.declared.cmp.Ordering.TheVariants.{Less, Equal, Greater}
 use Rattle.std.specs.FinSet as set
 use Rattle.std.specs.FinMap.{FinMap, find, get, insert, remove, from_entries, get-empty, get-insert, get-remove, get_tied, get-from_entries, same_map, nat_cmp-IsAntisymmetric}
 use Rattle.std.specs.FinSet.{FinSet, contains, contains-insert, contains-from_list, contains_tied, same_set}
-use Rattle.mmtel_sheet_values.specs.Places.{in_place, sheets_of, accounts_of}
+use Rattle.mmtel_sheet_values.specs.Slots.{with_slot, sheets_of, accounts_of}
 use Rattle.mmtel_sheet_values.specs.declared.values.Sheet.{Sheet}
 
 -- the look-up in a table of these entries
@@ -46,7 +46,7 @@ flattened : (b : Bool) (place : Option Sheet) (other : Option (Option Sheet)) �
 flattened true place other = refl
 flattened false place other = refl
 
-get-in_place : (m : FinMap nat_cmp Sheet) (k : ℕ) (place : Option Sheet) (q : ℕ) → get (in_place m k place) q ≡ cond (is_eq (nat_cmp q k)) place (get m q)
+get-in_place : (m : FinMap nat_cmp Sheet) (k : ℕ) (place : Option Sheet) (q : ℕ) → get (with_slot m k place) q ≡ cond (is_eq (nat_cmp q k)) place (get m q)
 get-in_place m k None q = get-remove nat_cmp_total m k q
 get-in_place m k (Some s) q = get-insert nat_cmp_total m k s q
 
@@ -57,7 +57,7 @@ get-sheets (e ∷ es) q =
     ∙ ap (cond (is_eq (nat_cmp q e.0)) e.1) (get-sheets es q)
     ∙ flattened (is_eq (nat_cmp q e.0)) e.1 (looked_up es q)
 
-pub placed : (old new : List (ℕ × Option Sheet)) (k : ℕ) (place : Option Sheet) → Puts old new k place → sheets_of new ≡ in_place (sheets_of old) k place
+pub placed : (old new : List (ℕ × Option Sheet)) (k : ℕ) (place : Option Sheet) → Puts old new k place → sheets_of new ≡ with_slot (sheets_of old) k place
 placed old new k place h = same_map nat_cmp_total nat_cmp-IsAntisymmetric _ _ (λ q.
     get-sheets new q ∙ ap option_flatten (h q) ∙ ap (λ b. option_flatten (cond b (Some place) (looked_up old q))) (turned k q)
     ∙ sym (flattened (is_eq (nat_cmp q k)) place (looked_up old q)) ∙ ap (cond (is_eq (nat_cmp q k)) place) (sym (get-sheets old q)) ∙ sym (get-in_place (sheets_of old) k place q))

@@ -1,3 +1,3 @@
-mod Alone
+mod OtherAccounts
 mod Entries
 mod Tables

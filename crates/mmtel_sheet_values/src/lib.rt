@@ -3,9 +3,9 @@
 //! The syntax of a record belongs to the crates above: this one has no text.
 #![tactic(auto)]
 
-pub mod laws;
 mod shared;
 mod sheets;
+pub mod theorems;
 mod values;
 mod view;
 

@@ -12,7 +12,7 @@ use std::rc::Rc;
 /// In contracts it is seen as the sheet.
 #[derive(Drop)]
 pub struct SharedSheet {
-    kept: Rc<Sheet>,
+    inner: Rc<Sheet>,
 }
 
 impl Model for SharedSheet {
@@ -23,7 +23,7 @@ impl Model for SharedSheet {
 
     ghost coded = { row.the_row.coded };
 
-    ghost view = { λ s. s.kept.value };
+    ghost view = { λ s. s.inner.value };
 }
 
 impl SharedSheet {
@@ -32,18 +32,18 @@ impl SharedSheet {
     /// # Errors
     ///
     /// Out of memory only.
-    pub fn of(alloc: Global, sheet: Sheet) -> Result<SharedSheet, NoMemory>
+    pub fn new(alloc: Global, sheet: Sheet) -> Result<SharedSheet, NoMemory>
         ensures its { IfOk result (λ s. s ≡ sheet) }
     {
         let kept = Rc::new(alloc, sheet)?;
-        Ok(SharedSheet { kept })
+        Ok(SharedSheet { inner: kept })
     }
 
     /// The sheet itself. It allocates nothing.
     pub fn sheet(&self) -> &Sheet
         ensures its { result.now ≡ self.now }
     {
-        Rc::as_ref(&self.kept)
+        Rc::as_ref(&self.inner)
     }
 
     /// The same sheet for one more holder. Nothing is copied.
@@ -51,10 +51,10 @@ impl SharedSheet {
     /// # Errors
     ///
     /// Out of memory only: the holders can no longer be counted.
-    pub fn shared(&self) -> Result<SharedSheet, NoMemory>
+    pub fn share(&self) -> Result<SharedSheet, NoMemory>
         ensures same { IfOk result (λ s. s ≡ self.now) }
     {
-        let kept = self.kept.clone()?;
-        Ok(SharedSheet { kept })
+        let kept = self.inner.clone()?;
+        Ok(SharedSheet { inner: kept })
     }
 }

@@ -8,7 +8,7 @@ use Rattle.jiff_core.proofs.CalendarLemmas.{days_from_civil-day_count, days_of_m
 use Rattle.jiff_core.proofs.SignedLemmas.{signed_arith}
 use Rattle.jiff_fmt.specs.Text.{date_text}
 use Rattle.jiff_tz.specs.Year.{years_within, year_of_day}
-use Rattle.mmtel_sheets.specs.Times.{place_of, month_within, month_of, day_of_month, day_text}
+use Rattle.mmtel_sheets.specs.Times.{day_in_year, month_within, month_of, day_of_month, day_text}
 
 years_step : (n : ℕ) → days_of_years (suc n) ≡ days_of_years n + days_in_year (pos n -ℤ pos 10000)
 unfolding days_of_years
@@ -131,12 +131,12 @@ place_from day year count k place counted is_year is is_place =
       sum = omega (arith, signed_arith);
     }
 
-place_is : (day : ℤ) → IsEpochDay day → IsPlace day (year_of_day day) (place_of day)
+place_is : (day : ℤ) → IsEpochDay day → IsPlace day (year_of_day day) (day_in_year day)
 place_is day h =
     let low = h.0 in
     let high = h.1 in
     let counted : pos (unsigned_abs (day +ℤ pos 4_371_953)) ≡ day +ℤ pos 4_371_953 = nonneg_abs (day +ℤ pos 4_371_953) (omega (arith, signed_arith)) in
-    place_from day (year_of_day day) (unsigned_abs (day +ℤ pos 4_371_953)) (years_within 20000 (unsigned_abs (day +ℤ pos 4_371_953))) (place_of day) counted refl (year_count (unsigned_abs (day +ℤ pos 4_371_953)) (omega (arith, signed_arith)) (omega (arith, signed_arith))) refl
+    place_from day (year_of_day day) (unsigned_abs (day +ℤ pos 4_371_953)) (years_within 20000 (unsigned_abs (day +ℤ pos 4_371_953))) (day_in_year day) counted refl (year_count (unsigned_abs (day +ℤ pos 4_371_953)) (omega (arith, signed_arith)) (omega (arith, signed_arith))) refl
 
 -- the date of a day
 pub record IsDated (day : ℤ) : Type 0 where
@@ -147,7 +147,7 @@ pub record IsDated (day : ℤ) : Type 0 where
 pub dated : (day : ℤ) → IsEpochDay day → IsDated day
 dated day h =
     let year : ℤ = year_of_day day in
-    let place : ℕ = place_of day in
+    let place : ℕ = day_in_year day in
     let at = place_is day h in
     let all = days_of_months_all year in
     let found = month_is year 11 place at.low (omega (arith, at.high)) in

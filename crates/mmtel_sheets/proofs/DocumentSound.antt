@@ -3,15 +3,15 @@ use Rattle.std.proofs.Common.{◌≡◌, ℕ, pos, arith, Bool, true, false, Lis
 use Rattle.std.specs.Prelude.{IfSome, slice_index_or}
 use Rattle.std.specs.List.{AllByRecursion}
 use Rattle.toml.specs.Data.{Data, string, integer, boolean, table, Items, no_items, item, push_item, Members, no_members, is_before}
-use Rattle.mmtel_scan.specs.Classes.{in_class}
+use Rattle.mmtel_base.specs.Classes.{in_class}
 use Rattle.mmtel_lex.specs.declared.values.Uri.{Uri}
 use Rattle.mmtel_sheet_grammar.specs.Elements.{is_domain, is_token_text}
-use Rattle.mmtel_sheet_grammar.specs.Keys.{is_diversion, meets_callers, is_outgoing}
+use Rattle.mmtel_sheet_grammar.specs.Keys.{is_diversion, applies_to_callers, is_outgoing}
 use Rattle.mmtel_sheet_grammar.specs.Printable.{IsUriOfText, IsWho, IsWindow, IsWeekly, IsAction, IsRule, AreRules, IsDiversion, IsBar, IsWaiting, IsPrintable}
 use Rattle.mmtel_sheet_grammar.specs.Sound.{IsSound, IsSoundArray, IsSoundTable}
 use Rattle.mmtel_sheet_grammar.specs.Walk.{sheet_of}
-use Rattle.mmtel_sheet_grammar.specs.declared.keys.Notice.{Notice}
-use Rattle.mmtel_sheet_grammar.specs.declared.keys.Notice.TheVariants as notice
+use Rattle.mmtel_sheet_grammar.specs.declared.keys.Notification.{Notification}
+use Rattle.mmtel_sheet_grammar.specs.declared.keys.Notification.TheVariants as notice
 use Rattle.mmtel_sheet_grammar.specs.declared.keys.Service.{Service}
 use Rattle.mmtel_sheet_grammar.specs.declared.keys.Service.TheVariants as service
 use Rattle.mmtel_sheet_values.specs.declared.values.Action.{Action}
@@ -27,7 +27,7 @@ use Rattle.mmtel_sheet_values.specs.declared.values.Window.{Window}
 use Rattle.mmtel_sheet_reader.proofs.Ascii.{token_text, domain_text}
 use Rattle.mmtel_sheet_reader.proofs.Order.{before_through}
 use Rattle.mmtel_sheet_reader.proofs.ReadTables.{read_printable}
-use Rattle.mmtel_sheets.specs.Printing.{comes_before, with_key, each_item, where_true, uri_data, uris_data, except_beside, except_data, text_data, many_data, one_data, from_data, until_data, media_data, day_from_data, day_until_data, with_word, day_words, days_data, offset_data, bound_data, version_data, party_keys, allow_data, target_data, notice_data, late_keys, middle_keys, rule_data, rules_data, diversion_data, rejection_data, bar_data, presentation_data, word_of, restriction_data, waiting_data, part_data, late_tables, document_of}
+use Rattle.mmtel_sheets.specs.Printing.{comes_before, with_key, each_item, where_true, uri_data, uris_data, except_beside, except_data, text_data, many_data, one_data, from_data, until_data, media_data, day_from_data, day_until_data, with_word, day_words, days_data, offset_data, bound_data, version_data, party_keys, allow_data, target_data, notification_data, late_keys, middle_keys, rule_data, rules_data, diversion_data, rejection_data, bar_data, presentation_data, word_of, restriction_data, waiting_data, part_data, late_tables, document_of}
 use Rattle.mmtel_sheets.proofs.DayWords.{to_monday, to_tuesday, to_wednesday, to_thursday, to_friday, to_saturday}
 use Rattle.mmtel_sheets.proofs.MomentTexts.{moment_utf8, hour_utf8}
 use Rattle.mmtel_sheets.proofs.TablesBack.{sheet_back}
@@ -142,7 +142,7 @@ target_sound : (s : Service) (a : Action) → IsAction s a → IfSome (target_da
 target_sound s (Forward f) is = is.1.uri.text
 target_sound s (Allow b) is = tt
 
-notice_sound : (n : Notice) (a : Action) → IfSome (notice_data n a) IsSound
+notice_sound : (n : Notification) (a : Action) → IfSome (notification_data n a) IsSound
 notice_sound notice.NotifyCaller (Forward f) = tt
 notice_sound notice.RevealToCaller (Forward f) = tt
 notice_sound notice.RevealServedToCaller (Forward f) = tt
@@ -183,9 +183,9 @@ module _ (s : Service) (r : Rule) (is : IsRule s r) where
   rule_tail : IsTail (codes "allow") (rule_data s r)
   rule_tail =
       key_tail (codes "allow") (codes "anonymous") _ _ refl (allow_sound r.action)
-      (key_tail (codes "anonymous") (codes "busy") _ _ refl (truth_where (meets_callers s) _)
+      (key_tail (codes "anonymous") (codes "busy") _ _ refl (truth_where (applies_to_callers s) _)
       (key_tail (codes "busy") (codes "communication-diverted") _ _ refl (truth_where (is_diversion s) _)
-      (key_tail (codes "communication-diverted") (codes "day-from") _ _ refl (truth_where (meets_callers s) _)
+      (key_tail (codes "communication-diverted") (codes "day-from") _ _ refl (truth_where (applies_to_callers s) _)
       (key_tail (codes "day-from") (codes "day-until") _ _ refl (day_from_sound r.condition.weekly is.condition.weekly)
       (key_tail (codes "day-until") (codes "days") _ _ refl (day_until_sound r.condition.weekly is.condition.weekly)
       (key_tail (codes "days") (codes "except") _ _ refl (days_sound r.condition.weekly) party_tail))))))

@@ -6,12 +6,12 @@ use Rattle.std.specs.List.{AllByRecursion}
 use Rattle.std.specs.Prelude.{codes}
 use Rattle.jiff_fmt.specs.Text.{pad2}
 use Rattle.toml.specs.Data.{Data, string, integer, array, Items, no_items, item, push_item}
-use Rattle.mmtel_scan.specs.Classes.{in_class}
-use Rattle.mmtel_scan.specs.Numbers.{number_of, within}
-use Rattle.mmtel_scan.specs.declared.classes.Class.TheVariants.{Digit}
+use Rattle.mmtel_base.specs.Classes.{in_class}
+use Rattle.mmtel_base.specs.Numbers.{number_of, value_up_to}
+use Rattle.mmtel_base.specs.declared.classes.Class.TheVariants.{Digit}
 use Rattle.mmtel_lex.specs.Grammar.{uri_text}
 use Rattle.mmtel_lex.specs.declared.values.Uri.{Uri}
-use Rattle.mmtel_sheet_grammar.specs.Answers.{Read, then_do}
+use Rattle.mmtel_sheet_grammar.specs.ReadResults.{Read, then_read}
 use Rattle.mmtel_sheet_grammar.specs.Elements.{number_at, uri_at, target_at, is_domain, domain_at, is_token_text, token_at, time_at, items_from, uris_at, tokens_at, day_of, no_days, day_read, days_from, has_day, days_at, clock_at, is_offset, offset_at}
 use Rattle.mmtel_sheet_grammar.specs.Printable.{IsUriOfText, IsTarget, IsMoment}
 use Rattle.mmtel_sheets.specs.Printing.{each_item, uri_data, uris_data, hour_text, with_word, day_words}
@@ -20,12 +20,12 @@ use Rattle.mmtel_sheets.proofs.DayWords.{to_monday, to_tuesday, to_wednesday, to
 use Rattle.mmtel_sheets.proofs.ReadTimes.{moment_back}
 
 pub uri_back : (at : List ℕ) (u : Uri) → IsUriOfText u → uri_at at (uri_data u) ≡ Ok u
-uri_back at u is = rw is.back
+uri_back at u is = rw is.reads_back
 
 pub target_back : (at : List ℕ) (u : Uri) → IsTarget u → target_at at (uri_data u) ≡ Ok u
 target_back at u is =
     let short : nat_le (length (uri_text u)) 256 ≡ true = grind (arith, nat_tests, is.short) in
-    rw (is.uri.back, is.kind, short)
+    rw (is.uri.reads_back, is.kind, short)
 
 pub token_back : (at t : List ℕ) → is_token_text t ≡ true → token_at at (string t) ≡ Ok t
 token_back at t e = rw e
@@ -67,7 +67,7 @@ digit_worth k h = grind (arith, nat_tests)
 
 -- two digits
 two_back : (limit n : ℕ) → n ≤ limit → n < 100 → number_of limit (pad2 n) ≡ Some n
-unfolding number_of within
+unfolding number_of value_up_to
 two_back limit n h low =
     let tens = digit_class (n / 10) (omega arith) in
     let ones = digit_class (n % 10) (omega arith) in
@@ -89,17 +89,17 @@ pub offset_back : (at : List ℕ) (z : ℤ) → is_offset z ≡ true → offset_
 offset_back at z e = rw e refl
 
 module _ {A : Type 0} where
-  then_nothing : (r : Read A) → then_do r (λ a. Ok a) ≡ r
+  then_nothing : (r : Read A) → then_read r (λ a. Ok a) ≡ r
   then_nothing (Ok a) = refl
   then_nothing (Err e) = refl
 
 module _ {A B C : Type 0} where
-  after_one : (r : Read A) (f : A → Read C) (g : A → Read B) (h : B → Read C) → ((a : A) → f a ≡ then_do (g a) h) → then_do r f ≡ then_do (then_do r g) h
+  after_one : (r : Read A) (f : A → Read C) (g : A → Read B) (h : B → Read C) → ((a : A) → f a ≡ then_read (g a) h) → then_read r f ≡ then_read (then_read r g) h
   after_one (Ok a) f g h e = e a
   after_one (Err x) f g h e = refl
 
 -- one more day after others
-days_push : (at : List ℕ) (days : List Bool) (ds : Items) (d : Data) → days_from at days (push_item ds d) ≡ then_do (days_from at days ds) (λ more. day_read at more d)
+days_push : (at : List ℕ) (days : List Bool) (ds : Items) (d : Data) → days_from at days (push_item ds d) ≡ then_read (days_from at days ds) (λ more. day_read at more d)
 days_push at days no_items d = then_nothing (day_read at days d)
 days_push at days (item e ds) d =
     after_one (day_read at days e) (λ more. days_from at more (push_item ds d)) (λ more. days_from at more ds) (λ more. day_read at more d)

@@ -9,17 +9,17 @@ use Rattle.std.specs.Prelude.{IfSome}
 use Rattle.std.specs.Str.{bytes_eq, is_utf8}
 use Rattle.toml.specs.Parse.{parse_document}
 use Rattle.toml.specs.Data.{Data, Items, no_items, item, Members, no_members, member, get_member, as_array, as_table}
-use Rattle.mmtel_sheet_grammar.specs.Answers.{Read, then_do, or_wrong}
+use Rattle.mmtel_sheet_grammar.specs.ReadResults.{Read, then_read, or_wrong}
 use Rattle.mmtel_sheet_grammar.specs.Elements.{truth_at, number_at}
-use Rattle.mmtel_sheet_grammar.specs.Keys.{rule_key_of, event_of, notice_of, identity_key_of, second_key_of, other_key_of, key_or, notice_or, event_or, is_listed, dotted, rule_path}
-use Rattle.mmtel_sheet_grammar.specs.Rules.{members_from, no_keys, listed, listed_read, action_of, rule_from, rule_of, are_tables, items_count, rules_from, rules_at}
+use Rattle.mmtel_sheet_grammar.specs.Keys.{rule_key_of, event_of, notification_of, identity_key_of, second_key_of, other_key_of, key_or, notification_or, event_or, is_listed, dotted_path, rule_path}
+use Rattle.mmtel_sheet_grammar.specs.Rules.{members_from, empty_draft, listed_key, listed_key_read, action_of, rule_from, rule_of, are_tables, items_count, rules_from, rules_at}
 use Rattle.mmtel_sheet_grammar.specs.Texts.{document_read, sheet_read}
 use Rattle.mmtel_sheet_grammar.specs.Walk.{schema, no_diversion_keys, diversion_key, diversion_part, diversion_of, no_bar_keys, is_rejection, bar_key, bar_part, bar_of, table_key_of, table_read, named_read, name_read, sheet_from, sheet_of}
 use Rattle.mmtel_sheet_grammar.specs.declared.faults.SheetFault.TheVariants.{NotToml, Unknown, Wrong, Many}
 use Rattle.mmtel_sheet_grammar.specs.declared.keys.Service.{Service}
 use Rattle.mmtel_sheet_grammar.specs.declared.keys.Service.TheVariants as service
 use Rattle.mmtel_sheet_grammar.specs.declared.keys.Version.TheVariants as version
-use Rattle.mmtel_sheet_grammar.specs.declared.keys.Notice.{Notice}
+use Rattle.mmtel_sheet_grammar.specs.declared.keys.Notification.{Notification}
 use Rattle.mmtel_sheet_grammar.specs.declared.keys.RuleKey.{RuleKey}
 use Rattle.mmtel_sheet_grammar.specs.declared.keys.RuleKey.TheVariants as key
 use Rattle.mmtel_sheet_grammar.specs.declared.keys.TableKey.{TableKey}
@@ -31,15 +31,15 @@ use Rattle.mmtel_sheet_values.specs.Sheets.{empty_sheet}
 use Rattle.mmtel_sheet_values.specs.declared.values.EventWord.{EventWord}
 use Rattle.mmtel_sheet_values.specs.declared.values.Rule.{Rule}
 use Rattle.mmtel_sheet_values.specs.declared.values.Sheet.{Sheet}
-use Rattle.mmtel_sheets.specs.First.{first_key_of, has_first_key, first_listed, first_rule_key, first_rule, first_rules_from, first_rules_at, first_diversion_key, first_diversion, first_bar_key, first_bar, first_table, first_name, first_from, first_sheet, first_document, first_read, HasNoVersion, NamesNoVersion}
+use Rattle.mmtel_sheets.specs.FirstVersion.{first_key_of, has_first_key, first_listed, first_rule_key, first_rule, first_rules_from, first_rules_at, first_diversion_key, first_diversion, first_bar_key, first_bar, first_table, first_name, first_from, first_sheet, first_document, first_read, HasNoVersion, NamesNoVersion}
 
 module _ {A B : Type 0} where
-  then_alike : (r : Read A) (f g : A → Read B) → ((a : A) → f a ≡ g a) → then_do r f ≡ then_do r g
+  then_alike : (r : Read A) (f g : A → Read B) → ((a : A) → f a ≡ g a) → then_read r f ≡ then_read r g
   then_alike (Ok a) f g same = same a
   then_alike (Err e) f g same = refl
 
-  both_alike : (r q : Read A) (f g : A → Read B) → r ≡ q → ((a : A) → f a ≡ g a) → then_do r f ≡ then_do q g
-  both_alike r q f g one same = ap (λ (x : Read A). then_do x f) one ∙ then_alike q f g same
+  both_alike : (r q : Read A) (f g : A → Read B) → r ≡ q → ((a : A) → f a ≡ g a) → then_read r f ≡ then_read q g
+  both_alike r q f g one same = ap (λ (x : Read A). then_read x f) one ∙ then_alike q f g same
 
 module _ {A : Type 0} where
   -- keys that are read in the same way, one by one
@@ -48,7 +48,7 @@ module _ {A : Type 0} where
       → members_from path read a ms ≡ members_from path first a ms
   members_alike path read first same a no_members = refl
   members_alike path read first same a (member k d ms) =
-      both_alike (read (dotted path k) a k d) (first (dotted path k) a k d) (λ b. members_from path read b ms) (λ b. members_from path first b ms) (same (dotted path k) a k d)
+      both_alike (read (dotted_path path k) a k d) (first (dotted_path path k) a k d) (λ b. members_from path read b ms) (λ b. members_from path first b ms) (same (dotted_path path k) a k d)
       (λ b. members_alike path read first same b ms)
 
 -- ---- keys of rules
@@ -67,13 +67,13 @@ has_same s key.Id = refl
 has_same s key.International = refl
 has_same s key.Many = refl
 has_same s key.Media = refl
-has_same s (key.Notice n) = refl
+has_same s (key.Notification n) = refl
 has_same s key.Offset = refl
 has_same s key.One = refl
 has_same s key.Target = refl
 has_same s key.Until = refl
 
-listed_same : (s : Service) (k : RuleKey) → listed (schema version.One s) (Some k) ≡ first_listed s (Some k)
+listed_same : (s : Service) (k : RuleKey) → listed_key (schema version.One s) (Some k) ≡ first_listed s (Some k)
 listed_same s k = ap (λ (b : Bool). cond b (Some k) None) (has_same s k)
 
 -- a key that the first version does not have, and no other key has its name
@@ -100,29 +100,29 @@ all_new s name =
 
 -- where the first version does not have the new key, and no other has its name
 beside_new : (s : Service) (new other : Option RuleKey) → IfSome new (λ k. (is_listed (schema version.One s) k ≡ false) × (other ≡ None))
-    → listed (schema version.One s) (key_or new other) ≡ first_listed s other
+    → listed_key (schema version.One s) (key_or new other) ≡ first_listed s other
 beside_new s None None is = refl
 beside_new s None (Some k) is = listed_same s k
 beside_new s (Some k) other is = ap (λ (b : Bool). cond b (Some k) None) is.0 ∙ ap (λ (o : Option RuleKey). first_listed s o) (sym is.1)
 
-by_name : (s : Service) (ev : Option EventWord) (notice : Option Notice) (who new other : Option RuleKey) → listed (schema version.One s) (key_or new other) ≡ first_listed s other
-    → listed (schema version.One s) (event_or ev (notice_or notice (key_or who (key_or new other)))) ≡ first_listed s (event_or ev (notice_or notice (key_or who other)))
+by_name : (s : Service) (ev : Option EventWord) (notice : Option Notification) (who new other : Option RuleKey) → listed_key (schema version.One s) (key_or new other) ≡ first_listed s other
+    → listed_key (schema version.One s) (event_or ev (notification_or notice (key_or who (key_or new other)))) ≡ first_listed s (event_or ev (notification_or notice (key_or who other)))
 by_name s (Some e) notice who new other same = refl
 by_name s None (Some n) who new other same = refl
 by_name s None None (Some k) new other same = listed_same s k
 by_name s None None None new other same = same
 
-key_same : (s : Service) (name : List ℕ) → listed (schema version.One s) (rule_key_of name) ≡ first_listed s (first_key_of name)
+key_same : (s : Service) (name : List ℕ) → listed_key (schema version.One s) (rule_key_of name) ≡ first_listed s (first_key_of name)
 key_same s name =
-    by_name s (event_of name) (notice_of name) (identity_key_of name) (second_key_of name) (other_key_of name)
+    by_name s (event_of name) (notification_of name) (identity_key_of name) (second_key_of name) (other_key_of name)
     (beside_new s (second_key_of name) (other_key_of name) (all_new s name))
 
 -- ---- rules
 
 rule_same : (s : Service) (path : List ℕ) (ms : Members) → rule_of (schema version.One s) path ms ≡ first_rule s path ms
 rule_same s path ms =
-    ap (λ (x : Read RuleDraft). then_do x (λ r. then_do (action_of s path r.target r.notices r.allow) (λ a. Ok (rule_from r a))))
-    (members_alike path _ (λ at r k d. first_rule_key s ms at r k d) (λ at r k d. ap (λ (o : Option RuleKey). listed_read ms at r o d) (key_same s k)) no_keys ms)
+    ap (λ (x : Read RuleDraft). then_read x (λ r. then_read (action_of s path r.target r.notifications r.allow) (λ a. Ok (rule_from r a))))
+    (members_alike path _ (λ at r k d. first_rule_key s ms at r k d) (λ at r k d. ap (λ (o : Option RuleKey). listed_key_read ms at r o d) (key_same s k)) empty_draft ms)
 
 rules_each : (s : Service) (path : List ℕ) (done : List Rule) (ds : Items) → rules_from (schema version.One s) path done ds ≡ first_rules_from s path done ds
 rules_each s path done no_items = refl
@@ -140,26 +140,26 @@ rules_same s at d =
 diversion_key_same : (at : List ℕ) (r : DiversionDraft) (k : List ℕ) (d : Data) → diversion_key version.One at r k d ≡ first_diversion_key at r k d
 diversion_key_same at r k d =
     ap (λ (x : Read (List Rule)).
-    cond (bytes_eq k (codes "active")) (then_do (truth_at at d) (λ b. Ok (record r { active = b })))
-    (cond (bytes_eq k (codes "deflection")) (then_do (truth_at at d) (λ b. Ok (record r { deflection = b })))
-    (cond (bytes_eq k (codes "no-reply-time")) (then_do (number_at 5 180 at d) (λ n. Ok (record r { no_reply = n })))
-    (cond (bytes_eq k (codes "rule")) (then_do x (λ rs. Ok (record r { rules = rs }))) (Err (Unknown at))))))
+    cond (bytes_eq k (codes "active")) (then_read (truth_at at d) (λ b. Ok (record r { active = b })))
+    (cond (bytes_eq k (codes "deflection")) (then_read (truth_at at d) (λ b. Ok (record r { deflection = b })))
+    (cond (bytes_eq k (codes "no-reply-time")) (then_read (number_at 5 180 at d) (λ n. Ok (record r { no_reply = n })))
+    (cond (bytes_eq k (codes "rule")) (then_read x (λ rs. Ok (record r { rules = rs }))) (Err (Unknown at))))))
     (rules_same service.Diversion at d)
 
 diversion_same : (at : List ℕ) (ms : Members) → diversion_of version.One at ms ≡ first_diversion at ms
 diversion_same at ms =
-    ap (λ (x : Read DiversionDraft). then_do x (λ r. Ok (diversion_part r))) (members_alike at _ (λ at r k d. first_diversion_key at r k d) diversion_key_same no_diversion_keys ms)
+    ap (λ (x : Read DiversionDraft). then_read x (λ r. Ok (diversion_part r))) (members_alike at _ (λ at r k d. first_diversion_key at r k d) diversion_key_same no_diversion_keys ms)
 
 bar_key_same : (s : Service) (at : List ℕ) (r : BarDraft) (k : List ℕ) (d : Data) → bar_key (schema version.One s) at r k d ≡ first_bar_key s at r k d
 bar_key_same s at r k d =
     ap (λ (x : Read (List Rule)).
-    cond (bytes_eq k (codes "active")) (then_do (truth_at at d) (λ b. Ok (record r { active = b })))
-    (cond (is_rejection s k) (then_do (truth_at at d) (λ b. Ok (record r { reject_anonymous = b })))
-    (cond (bytes_eq k (codes "rule")) (then_do x (λ rs. Ok (record r { rules = rs }))) (Err (Unknown at)))))
+    cond (bytes_eq k (codes "active")) (then_read (truth_at at d) (λ b. Ok (record r { active = b })))
+    (cond (is_rejection s k) (then_read (truth_at at d) (λ b. Ok (record r { reject_anonymous = b })))
+    (cond (bytes_eq k (codes "rule")) (then_read x (λ rs. Ok (record r { rules = rs }))) (Err (Unknown at)))))
     (rules_same s at d)
 
 bar_same : (s : Service) (at : List ℕ) (ms : Members) → bar_of (schema version.One s) at ms ≡ first_bar s at ms
-bar_same s at ms = ap (λ (x : Read BarDraft). then_do x (λ r. Ok (bar_part r))) (members_alike at _ (λ at r k d. first_bar_key s at r k d) (bar_key_same s) no_bar_keys ms)
+bar_same s at ms = ap (λ (x : Read BarDraft). then_read x (λ r. Ok (bar_part r))) (members_alike at _ (λ at r k d. first_bar_key s at r k d) (bar_key_same s) no_bar_keys ms)
 
 table_same : (at : List ℕ) (s : Sheet) (t : TableKey) (ms : Members) → table_read version.One at s t ms ≡ first_table at s t ms
 table_same at s part.Diversion ms = both_alike _ _ _ _ (diversion_same at ms) (λ p. refl)

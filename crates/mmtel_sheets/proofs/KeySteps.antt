@@ -7,17 +7,17 @@ use Rattle.std.specs.Option.{is_some}
 use Rattle.toml.specs.Data.{Data, Members, boolean}
 use Rattle.mmtel_lex.specs.declared.values.Uri.{Uri}
 use Rattle.mmtel_sheet_grammar.specs.Elements.{is_token_text, is_domain}
-use Rattle.mmtel_sheet_grammar.specs.Keys.{rule_key_of, is_listed, is_diversion, meets_callers, is_outgoing, dotted}
+use Rattle.mmtel_sheet_grammar.specs.Keys.{rule_key_of, is_listed, is_diversion, applies_to_callers, is_outgoing, dotted_path}
 use Rattle.mmtel_sheet_grammar.specs.Rules.{keys_from, has_key, event_read, key_read}
 use Rattle.mmtel_sheet_grammar.specs.declared.keys.Service.{Service}
 use Rattle.mmtel_sheet_grammar.specs.declared.keys.Service.TheVariants as service
 use Rattle.mmtel_sheet_grammar.specs.declared.keys.Version.TheVariants as version
 use Rattle.mmtel_sheet_grammar.specs.declared.keys.Schema.{Schema}
-use Rattle.mmtel_sheet_grammar.specs.declared.keys.Notice.{Notice}
-use Rattle.mmtel_sheet_grammar.specs.declared.keys.Notice.TheVariants as notice
+use Rattle.mmtel_sheet_grammar.specs.declared.keys.Notification.{Notification}
+use Rattle.mmtel_sheet_grammar.specs.declared.keys.Notification.TheVariants as notice
 use Rattle.mmtel_sheet_grammar.specs.declared.keys.RuleKey.{RuleKey}
 use Rattle.mmtel_sheet_grammar.specs.declared.keys.RuleKey.TheVariants as key
-use Rattle.mmtel_sheet_grammar.specs.declared.drafts.Notices.{Notices}
+use Rattle.mmtel_sheet_grammar.specs.declared.drafts.Notifications.{Notifications}
 use Rattle.mmtel_sheet_grammar.specs.Walk.{schema}
 use Rattle.mmtel_sheet_grammar.specs.declared.drafts.Hours.{Hours}
 use Rattle.mmtel_sheet_grammar.specs.declared.drafts.RuleDraft.{RuleDraft}
@@ -29,7 +29,7 @@ use Rattle.mmtel_sheet_values.specs.declared.values.Weekly.{Weekly}
 use Rattle.mmtel_sheet_values.specs.declared.values.Who.{Who}
 use Rattle.mmtel_sheet_values.specs.declared.values.Window.{Window}
 use Rattle.mmtel_sheet_grammar.specs.Printable.{IsUriOfText, IsWho, IsWindow, IsWeekly, IsAction}
-use Rattle.mmtel_sheets.specs.Printing.{with_key, where_true, except_beside, except_data, text_data, many_data, one_data, from_data, until_data, media_data, event_data, anonymous_data, diverted_data, abroad_data, day_from_data, day_until_data, days_data, offset_data, allow_data, target_data, notice_data}
+use Rattle.mmtel_sheets.specs.Printing.{with_key, where_true, except_beside, except_data, text_data, many_data, one_data, from_data, until_data, media_data, event_data, anonymous_data, diverted_data, abroad_data, day_from_data, day_until_data, days_data, offset_data, allow_data, target_data, notification_data}
 use Rattle.mmtel_sheets.proofs.ElementsBack.{target_back, domain_back, time_back, uris_back, tokens_back, clock_back, days_back, offset_back}
 
 -- the rules of the service, as they are printed
@@ -42,7 +42,7 @@ StepsTo s ms at r k None after = r ≡ after
 StepsTo s ms at r k (Some d) after = (is_listed (second s) k ≡ true) × (key_read ms at r k d ≡ Ok after)
 
 pub walk : (s : Service) (ms : Members) (path : List ℕ) (r : RuleDraft) (name : List ℕ) (k : RuleKey) (o : Option Data) (rest : Members) (after : RuleDraft)
-    → rule_key_of name ≡ Some k → StepsTo s ms (dotted path name) r k o after → keys_from (second s) ms path r (with_key name o rest) ≡ keys_from (second s) ms path after rest
+    → rule_key_of name ≡ Some k → StepsTo s ms (dotted_path path name) r k o after → keys_from (second s) ms path r (with_key name o rest) ≡ keys_from (second s) ms path after rest
 walk s ms path r name k None rest after named step = ap (λ (x : RuleDraft). keys_from (second s) ms path x rest) step
 walk s ms path r name k (Some d) rest after named step = rw (named, step.0, step.1)
 
@@ -56,12 +56,12 @@ abbrev pub aimed : Action → Option Uri
 aimed (Forward f) = Some f.target
 aimed (Allow b) = None
 
-abbrev pub told : Notice → Action → Notices → Notices
-told n (Allow b) ns = ns
-told notice.NotifyCaller (Forward f) ns = record ns { notify_caller = f.notify_caller }
-told notice.RevealToCaller (Forward f) ns = record ns { reveal_to_caller = f.reveal_to_caller }
-told notice.RevealServedToCaller (Forward f) ns = record ns { reveal_served_to_caller = f.reveal_served_to_caller }
-told notice.RevealToTarget (Forward f) ns = record ns { reveal_to_target = f.reveal_to_target }
+abbrev pub notifications_after : Notification → Action → Notifications → Notifications
+notifications_after n (Allow b) ns = ns
+notifications_after notice.NotifyCaller (Forward f) ns = record ns { notify_caller = f.notify_caller }
+notifications_after notice.RevealToCaller (Forward f) ns = record ns { reveal_to_caller = f.reveal_to_caller }
+notifications_after notice.RevealServedToCaller (Forward f) ns = record ns { reveal_served_to_caller = f.reveal_served_to_caller }
+notifications_after notice.RevealToTarget (Forward f) ns = record ns { reveal_to_target = f.reveal_to_target }
 
 abbrev pub except_of : Option Who → List Uri
 except_of None = []
@@ -125,7 +125,7 @@ module _ (s : Service) (ms : Members) (at : List ℕ) where
   target_step d (Forward f) is e = (is.0, rw (target_back at f.target is.1))
   target_step d (Allow b) is e = ap (λ (x : Option Uri). record d { target = x }) e
 
-  pub notice_step : (d : RuleDraft) (n : Notice) (a : Action) → IsAction s a → StepsTo s ms at d (key.Notice n) (notice_data n a) (record d { notices = told n a d.notices })
+  pub notice_step : (d : RuleDraft) (n : Notification) (a : Action) → IsAction s a → StepsTo s ms at d (key.Notification n) (notification_data n a) (record d { notifications = notifications_after n a d.notifications })
   notice_step d notice.NotifyCaller (Forward f) is = (is.0, refl)
   notice_step d notice.RevealToCaller (Forward f) is = (is.0, refl)
   notice_step d notice.RevealServedToCaller (Forward f) is = (is.0, refl)
@@ -207,7 +207,7 @@ module _ (s : Service) (ms : Members) (at : List ℕ) where
   offset_step d None is had = ap (λ (x : Option Weekly). record d { weekly = x }) had
   offset_step d (Some w) is had = (refl, rw (offset_back at w.offset is.offset, had))
 
-pub diverted_step : (s : Service) (ms : Members) (at : List ℕ) (d : RuleDraft) (b : Bool) → (b ≡ true → meets_callers s ≡ true) → d.diverted ≡ false
+pub diverted_step : (s : Service) (ms : Members) (at : List ℕ) (d : RuleDraft) (b : Bool) → (b ≡ true → applies_to_callers s ≡ true) → d.diverted ≡ false
     → StepsTo s ms at d key.Diverted (diverted_data s b) (record d { diverted = b })
 diverted_step service.Diversion ms at d b fits e = (refl, refl)
 diverted_step service.Incoming ms at d b fits e = (refl, refl)
@@ -222,7 +222,7 @@ abroad_step service.Diversion ms at d false fits e = ap (λ (x : Bool). record d
 abroad_step service.Incoming ms at d true fits e = absurd (let bad = fits refl in cc)
 abroad_step service.Incoming ms at d false fits e = ap (λ (x : Bool). record d { abroad = x }) e
 
-pub anonymous_step : (s : Service) (ms : Members) (at : List ℕ) (d : RuleDraft) (b : Bool) → (b ≡ true → meets_callers s ≡ true) → d.anonymous ≡ false
+pub anonymous_step : (s : Service) (ms : Members) (at : List ℕ) (d : RuleDraft) (b : Bool) → (b ≡ true → applies_to_callers s ≡ true) → d.anonymous ≡ false
     → StepsTo s ms at d key.Anonymous (anonymous_data s b) (record d { anonymous = b })
 anonymous_step service.Diversion ms at d b fits e = (refl, refl)
 anonymous_step service.Incoming ms at d b fits e = (refl, refl)

@@ -11,5 +11,5 @@ pub mod Plain
 pub mod Printed
 pub mod ReadTimes
 pub mod RuleBack
-pub mod Shown
+pub mod PrintedMoments
 pub mod TablesBack

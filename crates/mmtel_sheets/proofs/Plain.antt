@@ -4,9 +4,9 @@ use Rattle.std.proofs.lemmas.Bool.{and_parts}
 use Rattle.std.specs.Prelude.{IfSome, slice_index_or}
 use Rattle.toml.specs.Data.{Data, string, integer, boolean, array, table, Items, no_items, item, push_item, Members, no_members, depth, members_depth, has_valid_dates, items_have_valid_dates, members_have_valid_dates}
 use Rattle.mmtel_lex.specs.declared.values.Uri.{Uri}
-use Rattle.mmtel_sheet_grammar.specs.Keys.{is_diversion, meets_callers, is_outgoing}
-use Rattle.mmtel_sheet_grammar.specs.declared.keys.Notice.{Notice}
-use Rattle.mmtel_sheet_grammar.specs.declared.keys.Notice.TheVariants as notice
+use Rattle.mmtel_sheet_grammar.specs.Keys.{is_diversion, applies_to_callers, is_outgoing}
+use Rattle.mmtel_sheet_grammar.specs.declared.keys.Notification.{Notification}
+use Rattle.mmtel_sheet_grammar.specs.declared.keys.Notification.TheVariants as notice
 use Rattle.mmtel_sheet_grammar.specs.declared.keys.Service.{Service}
 use Rattle.mmtel_sheet_grammar.specs.declared.keys.Service.TheVariants as service
 use Rattle.mmtel_sheet_values.specs.declared.values.Action.{Action}
@@ -18,7 +18,7 @@ use Rattle.mmtel_sheet_values.specs.declared.values.Sheet.{Sheet}
 use Rattle.mmtel_sheet_values.specs.declared.values.Weekly.{Weekly}
 use Rattle.mmtel_sheet_values.specs.declared.values.Who.{Who}
 use Rattle.mmtel_sheet_values.specs.declared.values.Window.{Window}
-use Rattle.mmtel_sheets.specs.Printing.{with_key, each_item, where_true, uri_data, uris_data, except_beside, except_data, text_data, many_data, one_data, from_data, until_data, media_data, day_from_data, day_until_data, with_word, days_data, offset_data, bound_data, party_keys, allow_data, target_data, notice_data, late_keys, middle_keys, rule_data, rules_data, diversion_data, rejection_data, bar_data, presentation_data, restriction_data, waiting_data, part_data, late_tables, document_of}
+use Rattle.mmtel_sheets.specs.Printing.{with_key, each_item, where_true, uri_data, uris_data, except_beside, except_data, text_data, many_data, one_data, from_data, until_data, media_data, day_from_data, day_until_data, with_word, days_data, offset_data, bound_data, party_keys, allow_data, target_data, notification_data, late_keys, middle_keys, rule_data, rules_data, diversion_data, rejection_data, bar_data, presentation_data, restriction_data, waiting_data, part_data, late_tables, document_of}
 use Rattle.mmtel_sheets.proofs.DayWords.{to_monday, to_tuesday, to_wednesday, to_thursday, to_friday, to_saturday}
 
 -- no deeper than this, and no dates
@@ -144,7 +144,7 @@ target_plain : (a : Action) → IfSome (target_data a) (IsPlain 1)
 target_plain (Forward f) = text_plain 1 _
 target_plain (Allow b) = tt
 
-notice_plain : (n : Notice) (a : Action) → IfSome (notice_data n a) (IsPlain 1)
+notice_plain : (n : Notification) (a : Action) → IfSome (notification_data n a) (IsPlain 1)
 notice_plain notice.NotifyCaller (Forward f) = truth_plain 1 _
 notice_plain notice.RevealToCaller (Forward f) = truth_plain 1 _
 notice_plain notice.RevealServedToCaller (Forward f) = truth_plain 1 _
@@ -182,9 +182,9 @@ party_plain s r =
 rule_plain : (s : Service) (r : Rule) → ArePlain 1 (rule_data s r)
 rule_plain s r =
     key_plain 1 _ _ _ (allow_plain r.action)
-    (key_plain 1 _ _ _ (where_plain 1 (meets_callers s) _)
+    (key_plain 1 _ _ _ (where_plain 1 (applies_to_callers s) _)
     (key_plain 1 _ _ _ (where_plain 1 (is_diversion s) _)
-    (key_plain 1 _ _ _ (where_plain 1 (meets_callers s) _)
+    (key_plain 1 _ _ _ (where_plain 1 (applies_to_callers s) _)
     (key_plain 1 _ _ _ (day_from_plain r.condition.weekly)
     (key_plain 1 _ _ _ (day_until_plain r.condition.weekly)
     (key_plain 1 _ _ _ (days_plain r.condition.weekly) (party_plain s r)))))))

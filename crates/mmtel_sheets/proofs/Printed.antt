@@ -4,7 +4,7 @@ use Rattle.std.proofs.lemmas.Str.{IsUtf8-string_bytes, is_utf8-from_IsUtf8}
 use Rattle.toml.specs.Data.{Members, members_depth, members_have_valid_dates}
 use Rattle.toml.specs.Parse.{parse_document}
 use Rattle.mmtel_sheet_grammar.specs.Texts.{version_read}
-use Rattle.mmtel_sheet_grammar.specs.Walk.{Documents}
+use Rattle.mmtel_sheet_grammar.specs.Walk.{IsDocumentReadAs}
 use Rattle.mmtel_sheet_grammar.specs.declared.keys.Version.TheVariants as version
 use Rattle.mmtel_sheet_values.specs.declared.values.Sheet.{Sheet}
 use Rattle.mmtel_sheet_grammar.specs.Printable.{IsPrintable}
@@ -27,7 +27,7 @@ is_document s ms text t is same back =
     (subst (λ (x : List ℕ). IsUtf8 x) (sym same) (IsUtf8-string_bytes text), ap parse_document same ∙ back (shallow s ms is) ∙ ap Some is)
 
 pub reads_back : (s : Sheet) (ms : Members) (text : String Global) (t : List ℕ) → IsPrintable s → ms ≡ document_of s → t ≡ string_bytes text
-    → (members_depth ms ≤ 80 → parse_document (string_bytes text) ≡ Some ms) → Documents t (Ok s)
+    → (members_depth ms ≤ 80 → parse_document (string_bytes text) ≡ Some ms) → IsDocumentReadAs t (Ok s)
 reads_back s ms text t can is same back =
     let whole = is_document s ms text t is same back in
     (whole.0, document_of s, whole.1, sheet_back s can)

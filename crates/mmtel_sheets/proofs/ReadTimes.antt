@@ -22,7 +22,7 @@ use Rattle.jiff_fmt.proofs.TextLemmas.{places-read}
 use Rattle.mmtel_sheet_grammar.specs.Moments.{moment_of_text, first_moment, whole_milliseconds}
 use Rattle.mmtel_sheet_grammar.specs.Printable.{IsMoment}
 use Rattle.mmtel_sheets.specs.Times.{moment_text}
-use Rattle.mmtel_sheets.proofs.Shown.{shown}
+use Rattle.mmtel_sheets.proofs.PrintedMoments.{moment_is_printed}
 
 stops_digit : (rest : List ℕ) → Stops rest → prefix_len is_ascii_digit rest ≡ 0
 stops_digit [] s = refl
@@ -77,7 +77,7 @@ pub moment_back : (m : ℤ) → IsMoment m → moment_of_text (moment_text m) �
 moment_back m h =
     let low = h.0 in
     let high = h.1 in
-    let is = shown m h in
+    let is = moment_is_printed m h in
     let range : IsTimestampNanos (m *ℤ pos 1_000_000) = (omega (arith, signed_arith), omega (arith, signed_arith)) in
     let read = timestamp_back is.clock (m *ℤ pos 1_000_000) is.whole range is.same in
     rw (← is.text, read, whole_back m, year_test m low)

@@ -7,11 +7,11 @@ use Rattle.std.specs.Option.{is_some}
 use Rattle.std.specs.Ordering.{match_ordering}
 use Rattle.std.specs.Prelude.{IfSome}
 use Rattle.toml.specs.Data.{Data, Members, no_members, same_key}
-use Rattle.mmtel_sheet_grammar.specs.Keys.{rule_key_of, event_of, notice_of, identity_key_of, second_key_of, other_key_of, dotted}
-use Rattle.mmtel_sheet_grammar.specs.Rules.{has_key, no_keys, all_told, who_of, action_of, rule_of, keys_from}
+use Rattle.mmtel_sheet_grammar.specs.Keys.{rule_key_of, event_of, notification_of, identity_key_of, second_key_of, other_key_of, dotted_path}
+use Rattle.mmtel_sheet_grammar.specs.Rules.{has_key, empty_draft, all_notified, who_of, action_of, rule_of, keys_from}
 use Rattle.mmtel_sheet_grammar.specs.declared.keys.Service.{Service}
 use Rattle.mmtel_sheet_grammar.specs.declared.keys.Service.TheVariants as service
-use Rattle.mmtel_sheet_grammar.specs.declared.keys.Notice.TheVariants as notice
+use Rattle.mmtel_sheet_grammar.specs.declared.keys.Notification.TheVariants as notice
 use Rattle.mmtel_sheet_grammar.specs.declared.keys.RuleKey.TheVariants as key
 use Rattle.mmtel_sheet_grammar.specs.declared.drafts.RuleDraft.{RuleDraft}
 use Rattle.mmtel_sheet_values.specs.declared.values.Action.{Action}
@@ -20,8 +20,8 @@ use Rattle.mmtel_sheet_values.specs.declared.values.EventWord.TheVariants as eve
 use Rattle.mmtel_sheet_values.specs.declared.values.Rule.{Rule}
 use Rattle.mmtel_sheet_values.specs.declared.values.Who.{Who}
 use Rattle.mmtel_sheet_grammar.specs.Printable.{IsWho, IsAction, IsRule}
-use Rattle.mmtel_sheets.specs.Printing.{with_key, allow_data, anonymous_data, diverted_data, abroad_data, day_from_data, day_until_data, days_data, offset_data, event_data, except_data, from_data, media_data, notice_data, target_data, many_data, one_data, until_data, rule_data}
-use Rattle.mmtel_sheets.proofs.KeySteps.{second, walk, allowed, aimed, told, except_of, many_of, one_of, start_of, day_from_of, hours_of, week_of, at_busy, at_no_answer, at_not_reachable, allow_step, anonymous_step, busy_step, diverted_step, day_from_step, day_until_step, days_step, abroad_step, offset_step, except_step, from_step, many_step, media_step, no_answer_step, not_reachable_step, not_registered_step, notice_step, one_step, target_step, until_step}
+use Rattle.mmtel_sheets.specs.Printing.{with_key, allow_data, anonymous_data, diverted_data, abroad_data, day_from_data, day_until_data, days_data, offset_data, event_data, except_data, from_data, media_data, notification_data, target_data, many_data, one_data, until_data, rule_data}
+use Rattle.mmtel_sheets.proofs.KeySteps.{second, walk, allowed, aimed, notifications_after, except_of, many_of, one_of, start_of, day_from_of, hours_of, week_of, at_busy, at_no_answer, at_not_reachable, allow_step, anonymous_step, busy_step, diverted_step, day_from_step, day_until_step, days_step, abroad_step, offset_step, except_step, from_step, many_step, media_step, no_answer_step, not_reachable_step, not_registered_step, notice_step, one_step, target_step, until_step}
 
 passes : (o : Ordering) (x : Option Data) (d : Data) (b : Bool) → is_eq o ≡ false → is_some x ≡ b → is_some (match_ordering o x (Some d) x) ≡ b
 passes Less x d b apart e = e
@@ -46,13 +46,13 @@ abbrev from-target : Service → Rule → Members
 from-target s r = with_key (codes "target") (target_data r.action) (from-until s r)
 
 abbrev from-served : Service → Rule → Members
-from-served s r = with_key (codes "reveal-served-user-identity-to-caller") (notice_data notice.RevealServedToCaller r.action) (from-target s r)
+from-served s r = with_key (codes "reveal-served-user-identity-to-caller") (notification_data notice.RevealServedToCaller r.action) (from-target s r)
 
 abbrev from-to_target : Service → Rule → Members
-from-to_target s r = with_key (codes "reveal-identity-to-target") (notice_data notice.RevealToTarget r.action) (from-served s r)
+from-to_target s r = with_key (codes "reveal-identity-to-target") (notification_data notice.RevealToTarget r.action) (from-served s r)
 
 abbrev from-to_caller : Service → Rule → Members
-from-to_caller s r = with_key (codes "reveal-identity-to-caller") (notice_data notice.RevealToCaller r.action) (from-to_target s r)
+from-to_caller s r = with_key (codes "reveal-identity-to-caller") (notification_data notice.RevealToCaller r.action) (from-to_target s r)
 
 abbrev from-one : Service → Rule → Members
 from-one s r = with_key (codes "one") (one_data r.condition.identity) (from-to_caller s r)
@@ -61,7 +61,7 @@ abbrev from-offset : Service → Rule → Members
 from-offset s r = with_key (codes "offset") (offset_data r.condition.weekly) (from-one s r)
 
 abbrev from-notify_caller : Service → Rule → Members
-from-notify_caller s r = with_key (codes "notify-caller") (notice_data notice.NotifyCaller r.action) (from-offset s r)
+from-notify_caller s r = with_key (codes "notify-caller") (notification_data notice.NotifyCaller r.action) (from-offset s r)
 
 abbrev from-not_registered : Service → Rule → Members
 from-not_registered s r = with_key (codes "not-registered") (event_data s event.NotRegistered r.condition.event) (from-notify_caller s r)
@@ -125,12 +125,12 @@ has_many s r =
     (skip_to (codes "many") (codes "no-answer") (event_data s event.NoAnswer r.condition.event) (from-not_reachable s r) false refl
     (skip_to (codes "many") (codes "not-reachable") (event_data s event.NotReachable r.condition.event) (from-not_registered s r) false refl
     (skip_to (codes "many") (codes "not-registered") (event_data s event.NotRegistered r.condition.event) (from-notify_caller s r) false refl
-    (skip_to (codes "many") (codes "notify-caller") (notice_data notice.NotifyCaller r.action) (from-offset s r) false refl
+    (skip_to (codes "many") (codes "notify-caller") (notification_data notice.NotifyCaller r.action) (from-offset s r) false refl
     (skip_to (codes "many") (codes "offset") (offset_data r.condition.weekly) (from-one s r) false refl
     (skip_to (codes "many") (codes "one") (one_data r.condition.identity) (from-to_caller s r) false refl
-    (skip_to (codes "many") (codes "reveal-identity-to-caller") (notice_data notice.RevealToCaller r.action) (from-to_target s r) false refl
-    (skip_to (codes "many") (codes "reveal-identity-to-target") (notice_data notice.RevealToTarget r.action) (from-served s r) false refl
-    (skip_to (codes "many") (codes "reveal-served-user-identity-to-caller") (notice_data notice.RevealServedToCaller r.action) (from-target s r) false refl
+    (skip_to (codes "many") (codes "reveal-identity-to-caller") (notification_data notice.RevealToCaller r.action) (from-to_target s r) false refl
+    (skip_to (codes "many") (codes "reveal-identity-to-target") (notification_data notice.RevealToTarget r.action) (from-served s r) false refl
+    (skip_to (codes "many") (codes "reveal-served-user-identity-to-caller") (notification_data notice.RevealServedToCaller r.action) (from-target s r) false refl
     (skip_to (codes "many") (codes "target") (target_data r.action) (from-until s r) false refl
     (skip_to (codes "many") (codes "until") (until_data r.condition.window) no_members false refl refl))))))))))))))))))))))
 
@@ -151,12 +151,12 @@ has_one s r =
     (skip_to (codes "one") (codes "no-answer") (event_data s event.NoAnswer r.condition.event) (from-not_reachable s r) (is_some (one_data r.condition.identity)) refl
     (skip_to (codes "one") (codes "not-reachable") (event_data s event.NotReachable r.condition.event) (from-not_registered s r) (is_some (one_data r.condition.identity)) refl
     (skip_to (codes "one") (codes "not-registered") (event_data s event.NotRegistered r.condition.event) (from-notify_caller s r) (is_some (one_data r.condition.identity)) refl
-    (skip_to (codes "one") (codes "notify-caller") (notice_data notice.NotifyCaller r.action) (from-offset s r) (is_some (one_data r.condition.identity)) refl
+    (skip_to (codes "one") (codes "notify-caller") (notification_data notice.NotifyCaller r.action) (from-offset s r) (is_some (one_data r.condition.identity)) refl
     (skip_to (codes "one") (codes "offset") (offset_data r.condition.weekly) (from-one s r) (is_some (one_data r.condition.identity)) refl
     (found_here (codes "one") (one_data r.condition.identity) (from-to_caller s r)
-    (skip_to (codes "one") (codes "reveal-identity-to-caller") (notice_data notice.RevealToCaller r.action) (from-to_target s r) false refl
-    (skip_to (codes "one") (codes "reveal-identity-to-target") (notice_data notice.RevealToTarget r.action) (from-served s r) false refl
-    (skip_to (codes "one") (codes "reveal-served-user-identity-to-caller") (notice_data notice.RevealServedToCaller r.action) (from-target s r) false refl
+    (skip_to (codes "one") (codes "reveal-identity-to-caller") (notification_data notice.RevealToCaller r.action) (from-to_target s r) false refl
+    (skip_to (codes "one") (codes "reveal-identity-to-target") (notification_data notice.RevealToTarget r.action) (from-served s r) false refl
+    (skip_to (codes "one") (codes "reveal-served-user-identity-to-caller") (notification_data notice.RevealServedToCaller r.action) (from-target s r) false refl
     (skip_to (codes "one") (codes "target") (target_data r.action) (from-until s r) false refl
     (skip_to (codes "one") (codes "until") (until_data r.condition.window) no_members false refl refl))))))))))))))))))))))
 
@@ -177,12 +177,12 @@ has_until s r =
     (skip_to (codes "until") (codes "no-answer") (event_data s event.NoAnswer r.condition.event) (from-not_reachable s r) (is_some (until_data r.condition.window)) refl
     (skip_to (codes "until") (codes "not-reachable") (event_data s event.NotReachable r.condition.event) (from-not_registered s r) (is_some (until_data r.condition.window)) refl
     (skip_to (codes "until") (codes "not-registered") (event_data s event.NotRegistered r.condition.event) (from-notify_caller s r) (is_some (until_data r.condition.window)) refl
-    (skip_to (codes "until") (codes "notify-caller") (notice_data notice.NotifyCaller r.action) (from-offset s r) (is_some (until_data r.condition.window)) refl
+    (skip_to (codes "until") (codes "notify-caller") (notification_data notice.NotifyCaller r.action) (from-offset s r) (is_some (until_data r.condition.window)) refl
     (skip_to (codes "until") (codes "offset") (offset_data r.condition.weekly) (from-one s r) (is_some (until_data r.condition.window)) refl
     (skip_to (codes "until") (codes "one") (one_data r.condition.identity) (from-to_caller s r) (is_some (until_data r.condition.window)) refl
-    (skip_to (codes "until") (codes "reveal-identity-to-caller") (notice_data notice.RevealToCaller r.action) (from-to_target s r) (is_some (until_data r.condition.window)) refl
-    (skip_to (codes "until") (codes "reveal-identity-to-target") (notice_data notice.RevealToTarget r.action) (from-served s r) (is_some (until_data r.condition.window)) refl
-    (skip_to (codes "until") (codes "reveal-served-user-identity-to-caller") (notice_data notice.RevealServedToCaller r.action) (from-target s r)
+    (skip_to (codes "until") (codes "reveal-identity-to-caller") (notification_data notice.RevealToCaller r.action) (from-to_target s r) (is_some (until_data r.condition.window)) refl
+    (skip_to (codes "until") (codes "reveal-identity-to-target") (notification_data notice.RevealToTarget r.action) (from-served s r) (is_some (until_data r.condition.window)) refl
+    (skip_to (codes "until") (codes "reveal-served-user-identity-to-caller") (notification_data notice.RevealServedToCaller r.action) (from-target s r)
     (is_some (until_data r.condition.window)) refl
     (skip_to (codes "until") (codes "target") (target_data r.action) (from-until s r) (is_some (until_data r.condition.window)) refl
     (found_here (codes "until") (until_data r.condition.window) no_members refl))))))))))))))))))))))
@@ -204,12 +204,12 @@ has_day_until s r =
     (skip_to (codes "day-until") (codes "no-answer") (event_data s event.NoAnswer r.condition.event) (from-not_reachable s r) false refl
     (skip_to (codes "day-until") (codes "not-reachable") (event_data s event.NotReachable r.condition.event) (from-not_registered s r) false refl
     (skip_to (codes "day-until") (codes "not-registered") (event_data s event.NotRegistered r.condition.event) (from-notify_caller s r) false refl
-    (skip_to (codes "day-until") (codes "notify-caller") (notice_data notice.NotifyCaller r.action) (from-offset s r) false refl
+    (skip_to (codes "day-until") (codes "notify-caller") (notification_data notice.NotifyCaller r.action) (from-offset s r) false refl
     (skip_to (codes "day-until") (codes "offset") (offset_data r.condition.weekly) (from-one s r) false refl
     (skip_to (codes "day-until") (codes "one") (one_data r.condition.identity) (from-to_caller s r) false refl
-    (skip_to (codes "day-until") (codes "reveal-identity-to-caller") (notice_data notice.RevealToCaller r.action) (from-to_target s r) false refl
-    (skip_to (codes "day-until") (codes "reveal-identity-to-target") (notice_data notice.RevealToTarget r.action) (from-served s r) false refl
-    (skip_to (codes "day-until") (codes "reveal-served-user-identity-to-caller") (notice_data notice.RevealServedToCaller r.action) (from-target s r) false refl
+    (skip_to (codes "day-until") (codes "reveal-identity-to-caller") (notification_data notice.RevealToCaller r.action) (from-to_target s r) false refl
+    (skip_to (codes "day-until") (codes "reveal-identity-to-target") (notification_data notice.RevealToTarget r.action) (from-served s r) false refl
+    (skip_to (codes "day-until") (codes "reveal-served-user-identity-to-caller") (notification_data notice.RevealServedToCaller r.action) (from-target s r) false refl
     (skip_to (codes "day-until") (codes "target") (target_data r.action) (from-until s r) false refl
     (skip_to (codes "day-until") (codes "until") (until_data r.condition.window) no_members false refl refl))))))))))))))))))))))
 
@@ -230,110 +230,110 @@ has_days s r =
     (skip_to (codes "days") (codes "no-answer") (event_data s event.NoAnswer r.condition.event) (from-not_reachable s r) false refl
     (skip_to (codes "days") (codes "not-reachable") (event_data s event.NotReachable r.condition.event) (from-not_registered s r) false refl
     (skip_to (codes "days") (codes "not-registered") (event_data s event.NotRegistered r.condition.event) (from-notify_caller s r) false refl
-    (skip_to (codes "days") (codes "notify-caller") (notice_data notice.NotifyCaller r.action) (from-offset s r) false refl
+    (skip_to (codes "days") (codes "notify-caller") (notification_data notice.NotifyCaller r.action) (from-offset s r) false refl
     (skip_to (codes "days") (codes "offset") (offset_data r.condition.weekly) (from-one s r) false refl
     (skip_to (codes "days") (codes "one") (one_data r.condition.identity) (from-to_caller s r) false refl
-    (skip_to (codes "days") (codes "reveal-identity-to-caller") (notice_data notice.RevealToCaller r.action) (from-to_target s r) false refl
-    (skip_to (codes "days") (codes "reveal-identity-to-target") (notice_data notice.RevealToTarget r.action) (from-served s r) false refl
-    (skip_to (codes "days") (codes "reveal-served-user-identity-to-caller") (notice_data notice.RevealServedToCaller r.action) (from-target s r) false refl
+    (skip_to (codes "days") (codes "reveal-identity-to-caller") (notification_data notice.RevealToCaller r.action) (from-to_target s r) false refl
+    (skip_to (codes "days") (codes "reveal-identity-to-target") (notification_data notice.RevealToTarget r.action) (from-served s r) false refl
+    (skip_to (codes "days") (codes "reveal-served-user-identity-to-caller") (notification_data notice.RevealServedToCaller r.action) (from-target s r) false refl
     (skip_to (codes "days") (codes "target") (target_data r.action) (from-until s r) false refl
     (skip_to (codes "days") (codes "until") (until_data r.condition.window) no_members false refl refl))))))))))))))))))))))
 
 named-allow : rule_key_of (codes "allow") ≡ Some (key.Allow)
-unfolding event_of notice_of identity_key_of second_key_of other_key_of
+unfolding event_of notification_of identity_key_of second_key_of other_key_of
 named-allow = refl
 
 named-anonymous : rule_key_of (codes "anonymous") ≡ Some (key.Anonymous)
-unfolding event_of notice_of identity_key_of second_key_of other_key_of
+unfolding event_of notification_of identity_key_of second_key_of other_key_of
 named-anonymous = refl
 
 named-busy : rule_key_of (codes "busy") ≡ Some (key.Event event.Busy)
-unfolding event_of notice_of identity_key_of second_key_of other_key_of
+unfolding event_of notification_of identity_key_of second_key_of other_key_of
 named-busy = refl
 
 named-diverted : rule_key_of (codes "communication-diverted") ≡ Some (key.Diverted)
-unfolding event_of notice_of identity_key_of second_key_of other_key_of
+unfolding event_of notification_of identity_key_of second_key_of other_key_of
 named-diverted = refl
 
 named-day_from : rule_key_of (codes "day-from") ≡ Some (key.DayFrom)
-unfolding event_of notice_of identity_key_of second_key_of other_key_of
+unfolding event_of notification_of identity_key_of second_key_of other_key_of
 named-day_from = refl
 
 named-day_until : rule_key_of (codes "day-until") ≡ Some (key.DayUntil)
-unfolding event_of notice_of identity_key_of second_key_of other_key_of
+unfolding event_of notification_of identity_key_of second_key_of other_key_of
 named-day_until = refl
 
 named-days : rule_key_of (codes "days") ≡ Some (key.Days)
-unfolding event_of notice_of identity_key_of second_key_of other_key_of
+unfolding event_of notification_of identity_key_of second_key_of other_key_of
 named-days = refl
 
 named-except : rule_key_of (codes "except") ≡ Some (key.Except)
-unfolding event_of notice_of identity_key_of second_key_of other_key_of
+unfolding event_of notification_of identity_key_of second_key_of other_key_of
 named-except = refl
 
 named-from : rule_key_of (codes "from") ≡ Some (key.From)
-unfolding event_of notice_of identity_key_of second_key_of other_key_of
+unfolding event_of notification_of identity_key_of second_key_of other_key_of
 named-from = refl
 
 named-international : rule_key_of (codes "international") ≡ Some (key.International)
-unfolding event_of notice_of identity_key_of second_key_of other_key_of
+unfolding event_of notification_of identity_key_of second_key_of other_key_of
 named-international = refl
 
 named-many : rule_key_of (codes "many") ≡ Some (key.Many)
-unfolding event_of notice_of identity_key_of second_key_of other_key_of
+unfolding event_of notification_of identity_key_of second_key_of other_key_of
 named-many = refl
 
 named-media : rule_key_of (codes "media") ≡ Some (key.Media)
-unfolding event_of notice_of identity_key_of second_key_of other_key_of
+unfolding event_of notification_of identity_key_of second_key_of other_key_of
 named-media = refl
 
 named-no_answer : rule_key_of (codes "no-answer") ≡ Some (key.Event event.NoAnswer)
-unfolding event_of notice_of identity_key_of second_key_of other_key_of
+unfolding event_of notification_of identity_key_of second_key_of other_key_of
 named-no_answer = refl
 
 named-not_reachable : rule_key_of (codes "not-reachable") ≡ Some (key.Event event.NotReachable)
-unfolding event_of notice_of identity_key_of second_key_of other_key_of
+unfolding event_of notification_of identity_key_of second_key_of other_key_of
 named-not_reachable = refl
 
 named-not_registered : rule_key_of (codes "not-registered") ≡ Some (key.Event event.NotRegistered)
-unfolding event_of notice_of identity_key_of second_key_of other_key_of
+unfolding event_of notification_of identity_key_of second_key_of other_key_of
 named-not_registered = refl
 
-named-notify_caller : rule_key_of (codes "notify-caller") ≡ Some (key.Notice notice.NotifyCaller)
-unfolding event_of notice_of identity_key_of second_key_of other_key_of
+named-notify_caller : rule_key_of (codes "notify-caller") ≡ Some (key.Notification notice.NotifyCaller)
+unfolding event_of notification_of identity_key_of second_key_of other_key_of
 named-notify_caller = refl
 
 named-offset : rule_key_of (codes "offset") ≡ Some (key.Offset)
-unfolding event_of notice_of identity_key_of second_key_of other_key_of
+unfolding event_of notification_of identity_key_of second_key_of other_key_of
 named-offset = refl
 
 named-one : rule_key_of (codes "one") ≡ Some (key.One)
-unfolding event_of notice_of identity_key_of second_key_of other_key_of
+unfolding event_of notification_of identity_key_of second_key_of other_key_of
 named-one = refl
 
-named-to_caller : rule_key_of (codes "reveal-identity-to-caller") ≡ Some (key.Notice notice.RevealToCaller)
-unfolding event_of notice_of identity_key_of second_key_of other_key_of
+named-to_caller : rule_key_of (codes "reveal-identity-to-caller") ≡ Some (key.Notification notice.RevealToCaller)
+unfolding event_of notification_of identity_key_of second_key_of other_key_of
 named-to_caller = refl
 
-named-to_target : rule_key_of (codes "reveal-identity-to-target") ≡ Some (key.Notice notice.RevealToTarget)
-unfolding event_of notice_of identity_key_of second_key_of other_key_of
+named-to_target : rule_key_of (codes "reveal-identity-to-target") ≡ Some (key.Notification notice.RevealToTarget)
+unfolding event_of notification_of identity_key_of second_key_of other_key_of
 named-to_target = refl
 
-named-served : rule_key_of (codes "reveal-served-user-identity-to-caller") ≡ Some (key.Notice notice.RevealServedToCaller)
-unfolding event_of notice_of identity_key_of second_key_of other_key_of
+named-served : rule_key_of (codes "reveal-served-user-identity-to-caller") ≡ Some (key.Notification notice.RevealServedToCaller)
+unfolding event_of notification_of identity_key_of second_key_of other_key_of
 named-served = refl
 
 named-target : rule_key_of (codes "target") ≡ Some (key.Target)
-unfolding event_of notice_of identity_key_of second_key_of other_key_of
+unfolding event_of notification_of identity_key_of second_key_of other_key_of
 named-target = refl
 
 named-until : rule_key_of (codes "until") ≡ Some (key.Until)
-unfolding event_of notice_of identity_key_of second_key_of other_key_of
+unfolding event_of notification_of identity_key_of second_key_of other_key_of
 named-until = refl
 
 -- what was read after each key
 abbrev after-allow : Rule → RuleDraft
-after-allow r = record no_keys { allow = allowed r.action }
+after-allow r = record empty_draft { allow = allowed r.action }
 
 abbrev after-anonymous : Rule → RuleDraft
 after-anonymous r = record (after-allow r) { anonymous = r.condition.anonymous }
@@ -378,7 +378,7 @@ abbrev after-not_registered : Rule → RuleDraft
 after-not_registered r = record (after-not_reachable r) { event = r.condition.event }
 
 abbrev after-notify_caller : Rule → RuleDraft
-after-notify_caller r = record (after-not_registered r) { notices = told notice.NotifyCaller r.action (after-not_registered r).notices }
+after-notify_caller r = record (after-not_registered r) { notifications = notifications_after notice.NotifyCaller r.action (after-not_registered r).notifications }
 
 abbrev after-offset : Rule → RuleDraft
 after-offset r = record (after-notify_caller r) { weekly = r.condition.weekly }
@@ -387,13 +387,13 @@ abbrev after-one : Rule → RuleDraft
 after-one r = record (after-offset r) { one = one_of r.condition.identity }
 
 abbrev after-to_caller : Rule → RuleDraft
-after-to_caller r = record (after-one r) { notices = told notice.RevealToCaller r.action (after-one r).notices }
+after-to_caller r = record (after-one r) { notifications = notifications_after notice.RevealToCaller r.action (after-one r).notifications }
 
 abbrev after-to_target : Rule → RuleDraft
-after-to_target r = record (after-to_caller r) { notices = told notice.RevealToTarget r.action (after-to_caller r).notices }
+after-to_target r = record (after-to_caller r) { notifications = notifications_after notice.RevealToTarget r.action (after-to_caller r).notifications }
 
 abbrev after-served : Rule → RuleDraft
-after-served r = record (after-to_target r) { notices = told notice.RevealServedToCaller r.action (after-to_target r).notices }
+after-served r = record (after-to_target r) { notifications = notifications_after notice.RevealServedToCaller r.action (after-to_target r).notifications }
 
 abbrev after-target : Rule → RuleDraft
 after-target r = record (after-served r) { target = aimed r.action }
@@ -407,123 +407,123 @@ module _ (s : Service) (r : Rule) (is : IsRule s r) (ms : Members) (path : List 
     (until_there : has_key (codes "until") ms ≡ is_some (until_data r.condition.window))
     (day_until_there : has_key (codes "day-until") ms ≡ is_some (day_until_data r.condition.weekly))
     (days_there : has_key (codes "days") ms ≡ is_some (days_data r.condition.weekly)) where
-  at-allow : (rest : Members) → keys_from (second s) ms path no_keys (with_key (codes "allow") (allow_data r.action) rest) ≡ keys_from (second s) ms path (after-allow r) rest
-  at-allow rest = walk s ms path no_keys (codes "allow") (key.Allow) (allow_data r.action) rest (after-allow r) named-allow
-      (allow_step s ms (dotted path (codes "allow")) no_keys r.action is.action refl)
+  at-allow : (rest : Members) → keys_from (second s) ms path empty_draft (with_key (codes "allow") (allow_data r.action) rest) ≡ keys_from (second s) ms path (after-allow r) rest
+  at-allow rest = walk s ms path empty_draft (codes "allow") (key.Allow) (allow_data r.action) rest (after-allow r) named-allow
+      (allow_step s ms (dotted_path path (codes "allow")) empty_draft r.action is.action refl)
 
   at-anonymous : (rest : Members) → keys_from (second s) ms path (after-allow r) (with_key (codes "anonymous") (anonymous_data s r.condition.anonymous) rest) ≡ keys_from
       (second s) ms path (after-anonymous r) rest
   at-anonymous rest = walk s ms path (after-allow r) (codes "anonymous") (key.Anonymous) (anonymous_data s r.condition.anonymous) rest (after-anonymous r) named-anonymous
-      (anonymous_step s ms (dotted path (codes "anonymous")) (after-allow r) r.condition.anonymous is.condition.anonymous refl)
+      (anonymous_step s ms (dotted_path path (codes "anonymous")) (after-allow r) r.condition.anonymous is.condition.anonymous refl)
 
   at-busy : (rest : Members) → keys_from (second s) ms path (after-anonymous r) (with_key (codes "busy") (event_data s event.Busy r.condition.event) rest) ≡ keys_from (second s)
       ms path (after-busy r) rest
   at-busy rest = walk s ms path (after-anonymous r) (codes "busy") (key.Event event.Busy) (event_data s event.Busy r.condition.event) rest (after-busy r) named-busy
-      (busy_step s ms (dotted path (codes "busy")) (after-anonymous r) r.condition.event is.condition.event)
+      (busy_step s ms (dotted_path path (codes "busy")) (after-anonymous r) r.condition.event is.condition.event)
 
   at-diverted : (rest : Members) → keys_from (second s) ms path (after-busy r) (with_key (codes "communication-diverted") (diverted_data s r.condition.diverted) rest)
       ≡ keys_from (second s) ms path (after-diverted r) rest
   at-diverted rest = walk s ms path (after-busy r) (codes "communication-diverted") (key.Diverted) (diverted_data s r.condition.diverted) rest (after-diverted r) named-diverted
-      (diverted_step s ms (dotted path (codes "communication-diverted")) (after-busy r) r.condition.diverted is.condition.diverted refl)
+      (diverted_step s ms (dotted_path path (codes "communication-diverted")) (after-busy r) r.condition.diverted is.condition.diverted refl)
 
   at-day_from : (rest : Members) → keys_from (second s) ms path (after-diverted r) (with_key (codes "day-from") (day_from_data r.condition.weekly) rest) ≡ keys_from (second s)
       ms path (after-day_from r) rest
   at-day_from rest = walk s ms path (after-diverted r) (codes "day-from") (key.DayFrom) (day_from_data r.condition.weekly) rest (after-day_from r) named-day_from
-      (day_from_step s ms (dotted path (codes "day-from")) (after-diverted r) r.condition.weekly is.condition.weekly day_until_there days_there refl)
+      (day_from_step s ms (dotted_path path (codes "day-from")) (after-diverted r) r.condition.weekly is.condition.weekly day_until_there days_there refl)
 
   at-day_until : (rest : Members) → keys_from (second s) ms path (after-day_from r) (with_key (codes "day-until") (day_until_data r.condition.weekly) rest) ≡ keys_from
       (second s) ms path (after-day_until r) rest
   at-day_until rest = walk s ms path (after-day_from r) (codes "day-until") (key.DayUntil) (day_until_data r.condition.weekly) rest (after-day_until r) named-day_until
-      (day_until_step s ms (dotted path (codes "day-until")) (after-day_from r) r.condition.weekly is.condition.weekly refl refl)
+      (day_until_step s ms (dotted_path path (codes "day-until")) (after-day_from r) r.condition.weekly is.condition.weekly refl refl)
 
   at-days : (rest : Members) → keys_from (second s) ms path (after-day_until r) (with_key (codes "days") (days_data r.condition.weekly) rest) ≡ keys_from (second s) ms path
       (after-days r) rest
   at-days rest = walk s ms path (after-day_until r) (codes "days") (key.Days) (days_data r.condition.weekly) rest (after-days r) named-days
-      (days_step s ms (dotted path (codes "days")) (after-day_until r) r.condition.weekly is.condition.weekly refl refl)
+      (days_step s ms (dotted_path path (codes "days")) (after-day_until r) r.condition.weekly is.condition.weekly refl refl)
 
   at-except : (rest : Members) → keys_from (second s) ms path (after-days r) (with_key (codes "except") (except_data r.condition.identity) rest) ≡ keys_from (second s) ms path
       (after-except r) rest
   at-except rest = walk s ms path (after-days r) (codes "except") (key.Except) (except_data r.condition.identity) rest (after-except r) named-except
-      (except_step s ms (dotted path (codes "except")) (after-days r) r.condition.identity is.condition.identity refl many_there one_there)
+      (except_step s ms (dotted_path path (codes "except")) (after-days r) r.condition.identity is.condition.identity refl many_there one_there)
 
   at-from : (rest : Members) → keys_from (second s) ms path (after-except r) (with_key (codes "from") (from_data r.condition.window) rest) ≡ keys_from (second s) ms path
       (after-from r) rest
   at-from rest = walk s ms path (after-except r) (codes "from") (key.From) (from_data r.condition.window) rest (after-from r) named-from
-      (from_step s ms (dotted path (codes "from")) (after-except r) r.condition.window is.condition.window until_there refl)
+      (from_step s ms (dotted_path path (codes "from")) (after-except r) r.condition.window is.condition.window until_there refl)
 
   at-international : (rest : Members) → keys_from (second s) ms path (after-from r) (with_key (codes "international") (abroad_data s r.condition.abroad) rest) ≡ keys_from
       (second s) ms path (after-international r) rest
   at-international rest = walk s ms path (after-from r) (codes "international") (key.International) (abroad_data s r.condition.abroad) rest (after-international r)
-      named-international (abroad_step s ms (dotted path (codes "international")) (after-from r) r.condition.abroad is.condition.abroad refl)
+      named-international (abroad_step s ms (dotted_path path (codes "international")) (after-from r) r.condition.abroad is.condition.abroad refl)
 
   at-many : (rest : Members) → keys_from (second s) ms path (after-international r) (with_key (codes "many") (many_data r.condition.identity) rest) ≡ keys_from (second s)
       ms path (after-many r) rest
   at-many rest = walk s ms path (after-international r) (codes "many") (key.Many) (many_data r.condition.identity) rest (after-many r) named-many
-      (many_step s ms (dotted path (codes "many")) (after-international r) r.condition.identity is.condition.identity refl)
+      (many_step s ms (dotted_path path (codes "many")) (after-international r) r.condition.identity is.condition.identity refl)
 
   at-media : (rest : Members) → keys_from (second s) ms path (after-many r) (with_key (codes "media") (media_data r.condition.media) rest) ≡ keys_from (second s) ms path
       (after-media r) rest
   at-media rest = walk s ms path (after-many r) (codes "media") (key.Media) (media_data r.condition.media) rest (after-media r) named-media
-      (media_step s ms (dotted path (codes "media")) (after-many r) r.condition.media is.condition.media refl)
+      (media_step s ms (dotted_path path (codes "media")) (after-many r) r.condition.media is.condition.media refl)
 
   at-no_answer : (rest : Members) → keys_from (second s) ms path (after-media r) (with_key (codes "no-answer") (event_data s event.NoAnswer r.condition.event) rest) ≡ keys_from
       (second s) ms path (after-no_answer r) rest
   at-no_answer rest = walk s ms path (after-media r) (codes "no-answer") (key.Event event.NoAnswer) (event_data s event.NoAnswer r.condition.event) rest (after-no_answer r)
-      named-no_answer (no_answer_step s ms (dotted path (codes "no-answer")) (after-media r) r.condition.event is.condition.event)
+      named-no_answer (no_answer_step s ms (dotted_path path (codes "no-answer")) (after-media r) r.condition.event is.condition.event)
 
   at-not_reachable : (rest : Members) → keys_from (second s) ms path (after-no_answer r)
       (with_key (codes "not-reachable") (event_data s event.NotReachable r.condition.event) rest) ≡ keys_from (second s) ms path (after-not_reachable r) rest
   at-not_reachable rest = walk s ms path (after-no_answer r) (codes "not-reachable") (key.Event event.NotReachable) (event_data s event.NotReachable r.condition.event) rest
-      (after-not_reachable r) named-not_reachable (not_reachable_step s ms (dotted path (codes "not-reachable")) (after-no_answer r) r.condition.event is.condition.event)
+      (after-not_reachable r) named-not_reachable (not_reachable_step s ms (dotted_path path (codes "not-reachable")) (after-no_answer r) r.condition.event is.condition.event)
 
   at-not_registered : (rest : Members) → keys_from (second s) ms path (after-not_reachable r)
       (with_key (codes "not-registered") (event_data s event.NotRegistered r.condition.event) rest) ≡ keys_from (second s) ms path (after-not_registered r) rest
   at-not_registered rest = walk s ms path (after-not_reachable r) (codes "not-registered") (key.Event event.NotRegistered) (event_data s event.NotRegistered r.condition.event)
-      rest (after-not_registered r) named-not_registered (not_registered_step s ms (dotted path (codes "not-registered")) (after-not_reachable r)
+      rest (after-not_registered r) named-not_registered (not_registered_step s ms (dotted_path path (codes "not-registered")) (after-not_reachable r)
       r.condition.event is.condition.event)
 
-  at-notify_caller : (rest : Members) → keys_from (second s) ms path (after-not_registered r) (with_key (codes "notify-caller") (notice_data notice.NotifyCaller r.action) rest)
+  at-notify_caller : (rest : Members) → keys_from (second s) ms path (after-not_registered r) (with_key (codes "notify-caller") (notification_data notice.NotifyCaller r.action) rest)
       ≡ keys_from (second s) ms path (after-notify_caller r) rest
-  at-notify_caller rest = walk s ms path (after-not_registered r) (codes "notify-caller") (key.Notice notice.NotifyCaller) (notice_data notice.NotifyCaller r.action) rest
-      (after-notify_caller r) named-notify_caller (notice_step s ms (dotted path (codes "notify-caller")) (after-not_registered r) notice.NotifyCaller r.action is.action)
+  at-notify_caller rest = walk s ms path (after-not_registered r) (codes "notify-caller") (key.Notification notice.NotifyCaller) (notification_data notice.NotifyCaller r.action) rest
+      (after-notify_caller r) named-notify_caller (notice_step s ms (dotted_path path (codes "notify-caller")) (after-not_registered r) notice.NotifyCaller r.action is.action)
 
   at-offset : (rest : Members) → keys_from (second s) ms path (after-notify_caller r) (with_key (codes "offset") (offset_data r.condition.weekly) rest) ≡ keys_from (second s)
       ms path (after-offset r) rest
   at-offset rest = walk s ms path (after-notify_caller r) (codes "offset") (key.Offset) (offset_data r.condition.weekly) rest (after-offset r) named-offset
-      (offset_step s ms (dotted path (codes "offset")) (after-notify_caller r) r.condition.weekly is.condition.weekly refl)
+      (offset_step s ms (dotted_path path (codes "offset")) (after-notify_caller r) r.condition.weekly is.condition.weekly refl)
 
   at-one : (rest : Members) → keys_from (second s) ms path (after-offset r) (with_key (codes "one") (one_data r.condition.identity) rest) ≡ keys_from (second s) ms path
       (after-one r) rest
   at-one rest = walk s ms path (after-offset r) (codes "one") (key.One) (one_data r.condition.identity) rest (after-one r) named-one
-      (one_step s ms (dotted path (codes "one")) (after-offset r) r.condition.identity is.condition.identity refl refl)
+      (one_step s ms (dotted_path path (codes "one")) (after-offset r) r.condition.identity is.condition.identity refl refl)
 
-  at-to_caller : (rest : Members) → keys_from (second s) ms path (after-one r) (with_key (codes "reveal-identity-to-caller") (notice_data notice.RevealToCaller r.action) rest)
+  at-to_caller : (rest : Members) → keys_from (second s) ms path (after-one r) (with_key (codes "reveal-identity-to-caller") (notification_data notice.RevealToCaller r.action) rest)
       ≡ keys_from (second s) ms path (after-to_caller r) rest
-  at-to_caller rest = walk s ms path (after-one r) (codes "reveal-identity-to-caller") (key.Notice notice.RevealToCaller) (notice_data notice.RevealToCaller r.action) rest
-      (after-to_caller r) named-to_caller (notice_step s ms (dotted path (codes "reveal-identity-to-caller")) (after-one r) notice.RevealToCaller r.action is.action)
+  at-to_caller rest = walk s ms path (after-one r) (codes "reveal-identity-to-caller") (key.Notification notice.RevealToCaller) (notification_data notice.RevealToCaller r.action) rest
+      (after-to_caller r) named-to_caller (notice_step s ms (dotted_path path (codes "reveal-identity-to-caller")) (after-one r) notice.RevealToCaller r.action is.action)
 
   at-to_target : (rest : Members) → keys_from (second s) ms path (after-to_caller r)
-      (with_key (codes "reveal-identity-to-target") (notice_data notice.RevealToTarget r.action) rest) ≡ keys_from (second s) ms path (after-to_target r) rest
-  at-to_target rest = walk s ms path (after-to_caller r) (codes "reveal-identity-to-target") (key.Notice notice.RevealToTarget) (notice_data notice.RevealToTarget r.action) rest
-      (after-to_target r) named-to_target (notice_step s ms (dotted path (codes "reveal-identity-to-target")) (after-to_caller r) notice.RevealToTarget r.action is.action)
+      (with_key (codes "reveal-identity-to-target") (notification_data notice.RevealToTarget r.action) rest) ≡ keys_from (second s) ms path (after-to_target r) rest
+  at-to_target rest = walk s ms path (after-to_caller r) (codes "reveal-identity-to-target") (key.Notification notice.RevealToTarget) (notification_data notice.RevealToTarget r.action) rest
+      (after-to_target r) named-to_target (notice_step s ms (dotted_path path (codes "reveal-identity-to-target")) (after-to_caller r) notice.RevealToTarget r.action is.action)
 
   at-served : (rest : Members) → keys_from (second s) ms path (after-to_target r)
-      (with_key (codes "reveal-served-user-identity-to-caller") (notice_data notice.RevealServedToCaller r.action) rest) ≡ keys_from (second s) ms path (after-served r) rest
-  at-served rest = walk s ms path (after-to_target r) (codes "reveal-served-user-identity-to-caller") (key.Notice notice.RevealServedToCaller)
-      (notice_data notice.RevealServedToCaller r.action) rest (after-served r) named-served
-      (notice_step s ms (dotted path (codes "reveal-served-user-identity-to-caller")) (after-to_target r) notice.RevealServedToCaller r.action is.action)
+      (with_key (codes "reveal-served-user-identity-to-caller") (notification_data notice.RevealServedToCaller r.action) rest) ≡ keys_from (second s) ms path (after-served r) rest
+  at-served rest = walk s ms path (after-to_target r) (codes "reveal-served-user-identity-to-caller") (key.Notification notice.RevealServedToCaller)
+      (notification_data notice.RevealServedToCaller r.action) rest (after-served r) named-served
+      (notice_step s ms (dotted_path path (codes "reveal-served-user-identity-to-caller")) (after-to_target r) notice.RevealServedToCaller r.action is.action)
 
   at-target : (rest : Members) → keys_from (second s) ms path (after-served r) (with_key (codes "target") (target_data r.action) rest) ≡ keys_from (second s) ms path
       (after-target r) rest
   at-target rest = walk s ms path (after-served r) (codes "target") (key.Target) (target_data r.action) rest (after-target r) named-target
-      (target_step s ms (dotted path (codes "target")) (after-served r) r.action is.action refl)
+      (target_step s ms (dotted_path path (codes "target")) (after-served r) r.action is.action refl)
 
   at-until : (rest : Members) → keys_from (second s) ms path (after-target r) (with_key (codes "until") (until_data r.condition.window) rest) ≡ keys_from (second s) ms path
       (after-until r) rest
   at-until rest = walk s ms path (after-target r) (codes "until") (key.Until) (until_data r.condition.window) rest (after-until r) named-until
-      (until_step s ms (dotted path (codes "until")) (after-target r) r.condition.window is.condition.window refl refl)
+      (until_step s ms (dotted_path path (codes "until")) (after-target r) r.condition.window is.condition.window refl refl)
 
-  keys_read : keys_from (second s) ms path no_keys (rule_data s r) ≡ Ok (after-until r)
+  keys_read : keys_from (second s) ms path empty_draft (rule_data s r) ≡ Ok (after-until r)
   keys_read = at-allow _ ∙ at-anonymous _ ∙ at-busy _ ∙ at-diverted _ ∙ at-day_from _ ∙ at-day_until _ ∙ at-days _ ∙ at-except _ ∙ at-from _ ∙ at-international _ ∙ at-many _
       ∙ at-media _ ∙ at-no_answer _ ∙ at-not_reachable _ ∙ at-not_registered _ ∙ at-notify_caller _ ∙ at-offset _ ∙ at-one _ ∙ at-to_caller _ ∙ at-to_target _ ∙ at-served _
       ∙ at-target _ ∙ at-until _
@@ -535,7 +535,7 @@ who_back (Some w) is = refl
 
 -- the action of the rule, by its keys
 action_back : (s : Service) (path : List ℕ) (a : Action) → IsAction s a
-    → action_of s path (aimed a) (told notice.RevealServedToCaller a (told notice.RevealToTarget a (told notice.RevealToCaller a (told notice.NotifyCaller a all_told))))
+    → action_of s path (aimed a) (notifications_after notice.RevealServedToCaller a (notifications_after notice.RevealToTarget a (notifications_after notice.RevealToCaller a (notifications_after notice.NotifyCaller a all_notified))))
     (allowed a) ≡ Ok a
 action_back service.Diversion path (Forward f) is = refl
 action_back service.Incoming path (Forward f) is = absurd (let bad = is.0 in cc)

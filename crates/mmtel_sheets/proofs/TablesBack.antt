@@ -7,8 +7,8 @@ use Rattle.std.specs.Cmp.Lexicographic.{slice_cmp}
 use Rattle.std.specs.Ordering.{match_ordering}
 use Rattle.std.specs.Str.{bytes_eq}
 use Rattle.toml.specs.Data.{Data, string, table, Items, Members, no_members, get_member, same_key, as_table}
-use Rattle.mmtel_sheet_grammar.specs.Answers.{Read, then_do, or_wrong}
-use Rattle.mmtel_sheet_grammar.specs.Keys.{dotted, rule_path}
+use Rattle.mmtel_sheet_grammar.specs.ReadResults.{Read, then_read, or_wrong}
+use Rattle.mmtel_sheet_grammar.specs.Keys.{dotted_path, rule_path}
 use Rattle.mmtel_sheet_grammar.specs.Rules.{are_tables, items_count, rules_from, rules_at}
 use Rattle.mmtel_sheet_grammar.specs.Walk.{diversion_of, bar_of, presentation_of, choice_at, restriction_of, waiting_of, table_key_of, table_read, version_of, sheet_from, sheet_of}
 use Rattle.mmtel_sheet_grammar.specs.declared.keys.Service.{Service}
@@ -59,7 +59,7 @@ rules_back s at rs is =
 
 -- the members of a table
 abbrev reads_table : {A : Type 0} → List ℕ → Data → (Members → Read A) → Read A
-reads_table at d read = then_do (or_wrong at (as_table d)) read
+reads_table at d read = then_read (or_wrong at (as_table d)) read
 
 -- by its bound
 abbrev bounded : DiversionPart → Option ℕ → DiversionPart
@@ -68,16 +68,16 @@ bounded p bound = record p { bound = bound }
 bounded_back : (path : List ℕ) (p : DiversionPart) (bound : Option ℕ) → IsDiversion p → IfSome bound (λ n. n ≤ 16)
     → reads_table path (diversion_data (bounded p bound)) (λ ms. diversion_of version.Two path ms) ≡ Ok (Some (bounded p bound))
 bounded_back path p None is few = rw (
-  number_back 5 180 (dotted path (codes "no-reply-time")) p.no_reply is.least is.most,
+  number_back 5 180 (dotted_path path (codes "no-reply-time")) p.no_reply is.least is.most,
   rules_back service.Diversion
-      (dotted path (codes "rule")) p.rules is.rules,
+      (dotted_path path (codes "rule")) p.rules is.rules,
 )
 bounded_back path p (Some n) is few =
     rw (
-      number_back 0 16 (dotted path (codes "bound")) n (omega arith) few,
-      number_back 5 180 (dotted path (codes "no-reply-time"))
+      number_back 0 16 (dotted_path path (codes "bound")) n (omega arith) few,
+      number_back 5 180 (dotted_path path (codes "no-reply-time"))
           p.no_reply is.least is.most,
-      rules_back service.Diversion (dotted path (codes "rule")) p.rules is.rules,
+      rules_back service.Diversion (dotted_path path (codes "rule")) p.rules is.rules,
     )
 
 diversion_back : (path : List ℕ) (p : DiversionPart) → IsDiversion p → reads_table path (diversion_data p) (λ ms. diversion_of version.Two path ms) ≡ Ok (Some p)
@@ -85,12 +85,12 @@ diversion_back path p is = bounded_back path p p.bound is is.bound
 
 bar_back : (s : Service) (path : List ℕ) (p : BarPart) → IsBar s p → reads_table path (bar_data s p) (λ ms. bar_of (second s) path ms) ≡ Ok (Some p)
 bar_back service.Diversion path p is =
-    let had = rules_back service.Diversion (dotted path (codes "rule")) p.rules is.rules in
+    let had = rules_back service.Diversion (dotted_path path (codes "rule")) p.rules is.rules in
     let never : false ≡ p.reject_anonymous = not_true p.reject_anonymous is.rejection in
     rw (had, ← never)
-bar_back service.Incoming path p is = rw (rules_back service.Incoming (dotted path (codes "rule")) p.rules is.rules)
+bar_back service.Incoming path p is = rw (rules_back service.Incoming (dotted_path path (codes "rule")) p.rules is.rules)
 bar_back service.Outgoing path p is =
-    let had = rules_back service.Outgoing (dotted path (codes "rule")) p.rules is.rules in
+    let had = rules_back service.Outgoing (dotted_path path (codes "rule")) p.rules is.rules in
     let never : false ≡ p.reject_anonymous = not_true p.reject_anonymous is.rejection in
     rw (had, ← never)
 
@@ -105,12 +105,12 @@ choice_back first second at false x y z = rw (y, z)
 restriction_back : (path : List ℕ) (r : Restriction) → reads_table path (restriction_data r) (λ ms. restriction_of path ms) ≡ Ok r
 restriction_back path r =
     rw (
-      choice_back (codes "presentation-restricted") (codes "presentation-not-restricted") (dotted path (codes "default-behaviour")) r.by_default refl refl refl,
-      choice_back (codes "permanent") (codes "temporary") (dotted path (codes "mode")) r.permanent refl refl refl,
+      choice_back (codes "presentation-restricted") (codes "presentation-not-restricted") (dotted_path path (codes "default-behaviour")) r.by_default refl refl refl,
+      choice_back (codes "permanent") (codes "temporary") (dotted_path path (codes "mode")) r.permanent refl refl refl,
     )
 
 waiting_back : (path : List ℕ) (n : ℕ) → IsWaiting n → reads_table path (waiting_data n) (λ ms. waiting_of path ms) ≡ Ok (Some n)
-waiting_back path n is = rw (number_back 2 8 (dotted path (codes "calls")) n is.0 is.1)
+waiting_back path n is = rw (number_back 2 8 (dotted_path path (codes "calls")) n is.0 is.1)
 
 -- ---- the document
 

@@ -1,5 +1,5 @@
 -- Definitions that public contracts cite: a user of the crate has to trust them.
-pub mod First
+pub mod FirstVersion
 pub mod Printing
 pub mod Times
 

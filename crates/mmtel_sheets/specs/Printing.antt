@@ -7,11 +7,11 @@ use Rattle.jiff_fmt.specs.Text.{pad2}
 use Rattle.toml.specs.Data.{Data, string, integer, boolean, array, table, Items, no_items, item, push_item, Members, no_members, member}
 use Rattle.mmtel_lex.specs.Grammar.{uri_text}
 use Rattle.mmtel_lex.specs.declared.values.Uri.{Uri}
-use Rattle.mmtel_sheet_grammar.specs.Keys.{is_diversion, meets_callers, is_outgoing}
+use Rattle.mmtel_sheet_grammar.specs.Keys.{is_diversion, applies_to_callers, is_outgoing}
 use Rattle.mmtel_sheet_grammar.specs.declared.keys.Service.{Service}
 use Rattle.mmtel_sheet_grammar.specs.declared.keys.Service.TheVariants as service
-use Rattle.mmtel_sheet_grammar.specs.declared.keys.Notice.{Notice}
-use Rattle.mmtel_sheet_grammar.specs.declared.keys.Notice.TheVariants as notice
+use Rattle.mmtel_sheet_grammar.specs.declared.keys.Notification.{Notification}
+use Rattle.mmtel_sheet_grammar.specs.declared.keys.Notification.TheVariants as notice
 use Rattle.mmtel_sheet_values.specs.declared.values.Action.{Action}
 use Rattle.mmtel_sheet_values.specs.declared.values.Action.TheVariants.{Forward, Allow}
 use Rattle.mmtel_sheet_values.specs.declared.values.BarPart.{BarPart}
@@ -108,11 +108,11 @@ event_data s e happened = where_true (is_diversion s) (boolean (is_event e happe
 
 -- only where the caller is known
 abbrev pub anonymous_data : Service → Bool → Option Data
-anonymous_data s b = where_true (meets_callers s) (boolean b)
+anonymous_data s b = where_true (applies_to_callers s) (boolean b)
 
 -- only where the caller is known
 abbrev pub diverted_data : Service → Bool → Option Data
-diverted_data s b = where_true (meets_callers s) (boolean b)
+diverted_data s b = where_true (applies_to_callers s) (boolean b)
 
 -- only where the destination of the call is tested
 abbrev pub abroad_data : Service → Bool → Option Data
@@ -164,12 +164,12 @@ abbrev pub target_data : Action → Option Data
 target_data (Forward f) = Some (uri_data f.target)
 target_data (Allow b) = None
 
-abbrev pub notice_data : Notice → Action → Option Data
-notice_data notice.NotifyCaller (Forward f) = Some (boolean f.notify_caller)
-notice_data notice.RevealToCaller (Forward f) = Some (boolean f.reveal_to_caller)
-notice_data notice.RevealServedToCaller (Forward f) = Some (boolean f.reveal_served_to_caller)
-notice_data notice.RevealToTarget (Forward f) = Some (boolean f.reveal_to_target)
-notice_data n (Allow b) = None
+abbrev pub notification_data : Notification → Action → Option Data
+notification_data notice.NotifyCaller (Forward f) = Some (boolean f.notify_caller)
+notification_data notice.RevealToCaller (Forward f) = Some (boolean f.reveal_to_caller)
+notification_data notice.RevealServedToCaller (Forward f) = Some (boolean f.reveal_served_to_caller)
+notification_data notice.RevealToTarget (Forward f) = Some (boolean f.reveal_to_target)
+notification_data n (Allow b) = None
 
 -- ---- rules
 
@@ -177,9 +177,9 @@ notice_data n (Allow b) = None
 abbrev pub late_keys : Rule → Members
 late_keys r =
     with_key (codes "one") (one_data r.condition.identity)
-    (with_key (codes "reveal-identity-to-caller") (notice_data notice.RevealToCaller r.action)
-    (with_key (codes "reveal-identity-to-target") (notice_data notice.RevealToTarget r.action)
-    (with_key (codes "reveal-served-user-identity-to-caller") (notice_data notice.RevealServedToCaller r.action)
+    (with_key (codes "reveal-identity-to-caller") (notification_data notice.RevealToCaller r.action)
+    (with_key (codes "reveal-identity-to-target") (notification_data notice.RevealToTarget r.action)
+    (with_key (codes "reveal-served-user-identity-to-caller") (notification_data notice.RevealServedToCaller r.action)
     (with_key (codes "target") (target_data r.action)
     (with_key (codes "until") (until_data r.condition.window) no_members)))))
 
@@ -190,7 +190,7 @@ middle_keys s r =
     (with_key (codes "no-answer") (event_data s event.NoAnswer r.condition.event)
     (with_key (codes "not-reachable") (event_data s event.NotReachable r.condition.event)
     (with_key (codes "not-registered") (event_data s event.NotRegistered r.condition.event)
-    (with_key (codes "notify-caller") (notice_data notice.NotifyCaller r.action)
+    (with_key (codes "notify-caller") (notification_data notice.NotifyCaller r.action)
     (with_key (codes "offset") (offset_data r.condition.weekly) (late_keys r))))))
 
 -- the keys from "except" on

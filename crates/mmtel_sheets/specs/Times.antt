@@ -14,8 +14,8 @@ abbrev pub clock_of : ℤ → ℕ
 clock_of m = unsigned_abs (int_rem_euclid m (pos 86_400_000))
 
 -- the day of the year, from 1
-abbrev pub place_of : ℤ → ℕ
-place_of day = unsigned_abs ((day +ℤ pos 1) -ℤ days_from_civil (year_of_day day) 1 1)
+abbrev pub day_in_year : ℤ → ℕ
+day_in_year day = unsigned_abs ((day +ℤ pos 1) -ℤ days_from_civil (year_of_day day) 1 1)
 
 -- of the first n + 1 months of the year the last that begins before the day of the year
 unfoldable pub month_within : ℤ → ℕ → ℕ → ℕ
@@ -24,11 +24,11 @@ month_within year (suc n) place = if nat_lt (days_of_months year (suc n)) place 
 
 -- the month of a day
 abbrev pub month_of : ℤ → ℕ
-month_of day = month_within (year_of_day day) 11 (place_of day)
+month_of day = month_within (year_of_day day) 11 (day_in_year day)
 
 -- the day of the month
 abbrev pub day_of_month : ℤ → ℕ
-day_of_month day = place_of day - days_of_months (year_of_day day) (month_of day - 1)
+day_of_month day = day_in_year day - days_of_months (year_of_day day) (month_of day - 1)
 
 -- YYYY-MM-DD
 abbrev pub day_text : ℤ → List ℕ

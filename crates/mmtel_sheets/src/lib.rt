@@ -1,12 +1,12 @@
 //! Service records: their content, as a sheet; reading one from TOML; printing a sheet as the TOML document that reads back to it. This crate re-exports all their public names.
 #![tactic(auto)]
 
-pub mod laws;
 mod members;
 mod moments;
 mod printing;
 mod rules;
 mod tables;
+pub mod theorems;
 mod values;
 
 pub use mmtel_sheet_grammar::SheetFault;

@@ -3,7 +3,7 @@ ghost use Rattle.std.specs.Prelude.{◌≡◌, IfOk, IsUtf8, Ok, false};
 ghost use Rattle.toml.specs.Parse.{parse_document};
 ghost use Rattle.toml.specs.Text.{IsDocumentText};
 ghost use Rattle.mmtel_sheet_grammar.specs.Texts.{version_read};
-ghost use Rattle.mmtel_sheet_grammar.specs.Walk.{Documents};
+ghost use Rattle.mmtel_sheet_grammar.specs.Walk.{IsDocumentReadAs};
 ghost use Rattle.mmtel_sheet_grammar.specs.declared.keys.Version.TheVariants as version;
 ghost use Rattle.mmtel_sheet_grammar.specs.Printable.{IsPrintable};
 ghost use Rattle.mmtel_sheets.specs.Printing.{document_of};
@@ -21,18 +21,18 @@ use toml::table_to_string;
 /// # Errors
 ///
 /// Out of memory only.
-pub fn print_sheet(alloc: Global, s: &Sheet) -> Result<Text, NoMemory>
-    requires { IsPrintable s.now }
+pub fn print_sheet(alloc: Global, sheet: &Sheet) -> Result<Text, NoMemory>
+    requires { IsPrintable sheet.now }
     // The text is the sheet's document, one key a line.
-    ensures text { IfOk result (λ t. IsDocumentText false (document_of s.now) t) }
+    ensures text { IfOk result (λ t. IsDocumentText false (document_of sheet.now) t) }
     // It reads as the sheet's document.
-    ensures document { IfOk result (λ t. IsUtf8 t × (parse_document t ≡ Some (document_of s.now))) }
+    ensures document { IfOk result (λ t. IsUtf8 t × (parse_document t ≡ Some (document_of sheet.now))) }
     // It reads back to the sheet.
-    ensures reads_back { IfOk result (λ t. Documents t (Ok s.now)) }
+    ensures reads_back { IfOk result (λ t. IsDocumentReadAs t (Ok sheet.now)) }
     // It is of the second version.
     ensures second { IfOk result (λ t. version_read t ≡ Ok version.Two) }
 {
-    let table = sheet_table(alloc, s)?;
+    let table = sheet_table(alloc, sheet)?;
     match table_to_string(alloc, &table) {
         Ok(text) => Ok(Text::of(alloc, text.as_bytes())?),
         Err(Error::OutOfMemory) => Err(NoMemory),

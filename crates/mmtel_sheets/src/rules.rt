@@ -8,11 +8,11 @@ ghost use Rattle.mmtel_sheets.specs.Printing.{comes_before, late_keys, middle_ke
 use crate::members::{no_keys, with_key};
 use crate::values::{
     abroad_value, allow_value, anonymous_value, day_from_value, day_until_value, days_value,
-    diverted_value, event_value, except_value, from_value, many_value, media_value, notice_value,
-    offset_value, one_value, target_value, until_value,
+    diverted_value, event_value, except_value, from_value, many_value, media_value,
+    notification_value, offset_value, one_value, target_value, until_value,
 };
 use mmtel_lex::NoMemory;
-use mmtel_sheet_grammar::keys::{Notice, Service};
+use mmtel_sheet_grammar::keys::{Notification, Service};
 use mmtel_sheet_values::{EventWord, Rule};
 use std::alloc::Global;
 use toml::{Table, Value};
@@ -27,11 +27,11 @@ fn late_keys(alloc: Global, service: Service, rule: &Rule) -> Result<Table, NoMe
     let until = with_key(alloc, "until", window, no_keys(alloc))?;
     let goal = target_value(alloc, service, &rule.action)?;
     let target = with_key(alloc, "target", goal, until)?;
-    let told = notice_value(Notice::RevealServedToCaller, &rule.action);
+    let told = notification_value(Notification::RevealServedToCaller, &rule.action);
     let served = with_key(alloc, "reveal-served-user-identity-to-caller", told, target)?;
-    let told = notice_value(Notice::RevealToTarget, &rule.action);
+    let told = notification_value(Notification::RevealToTarget, &rule.action);
     let to_target = with_key(alloc, "reveal-identity-to-target", told, served)?;
-    let told = notice_value(Notice::RevealToCaller, &rule.action);
+    let told = notification_value(Notification::RevealToCaller, &rule.action);
     let to_caller = with_key(alloc, "reveal-identity-to-caller", told, to_target)?;
     let meant = one_value(alloc, &rule.condition.identity)?;
     let one = with_key(alloc, "one", meant, to_caller)?;
@@ -48,7 +48,7 @@ fn middle_keys(alloc: Global, service: Service, rule: &Rule) -> Result<Table, No
     let late = late_keys(alloc, service, rule)?;
     let ahead = offset_value(rule.condition.weekly);
     let offset = with_key(alloc, "offset", ahead, late)?;
-    let told = notice_value(Notice::NotifyCaller, &rule.action);
+    let told = notification_value(Notification::NotifyCaller, &rule.action);
     let notify = with_key(alloc, "notify-caller", told, offset)?;
     let happened = event_value(service, EventWord::NotRegistered, event);
     let not_registered = with_key(alloc, "not-registered", happened, notify)?;

@@ -7,13 +7,13 @@ ghost use Rattle.mmtel_sheet_grammar.specs.Elements.{is_token_text, is_domain};
 ghost use Rattle.mmtel_sheet_grammar.specs.Printable.{IsUriOfText, IsTarget, IsMoment, IsWho, IsWindow, IsWeekly, IsAction};
 ghost use Rattle.mmtel_sheets.specs.Printing.{uri_data, uris_data, each_item, except_data, many_data, one_data, from_data, until_data, media_data, is_event, event_data};
 ghost use Rattle.mmtel_sheets.specs.Printing.{anonymous_data, diverted_data, abroad_data, hour_text, day_from_data, day_until_data, with_word, day_words, days_data};
-ghost use Rattle.mmtel_sheets.specs.Printing.{offset_data, bound_data, allow_data, target_data, notice_data, rejection_data};
+ghost use Rattle.mmtel_sheets.specs.Printing.{offset_data, bound_data, allow_data, target_data, notification_data, rejection_data};
 ghost use Rattle.mmtel_sheets.specs.Times.{moment_text};
 
 use crate::members::string_of;
 use crate::moments::print_moment;
 use mmtel_lex::{List, NoMemory, Text, Uri, print_uri};
-use mmtel_sheet_grammar::keys::{Notice, Service};
+use mmtel_sheet_grammar::keys::{Notification, Service};
 use mmtel_sheet_values::{Action, EventWord, Weekly, Who, Window};
 use std::alloc::Global;
 use toml::Value;
@@ -156,10 +156,10 @@ pub fn media_value(alloc: Global, media: &Option<List<Text>>) -> Result<Option<V
 }
 
 /// Whether this is the event of the rule.
-fn is_event(wanted: EventWord, happened: Option<EventWord>) -> bool
-    ensures { result ≡ is_event wanted happened }
+fn is_event(wanted: EventWord, event: Option<EventWord>) -> bool
+    ensures { result ≡ is_event wanted event }
 {
-    match happened {
+    match event {
         None => false,
         Some(event) => match (wanted, event) {
             (EventWord::Busy, EventWord::Busy) => true,
@@ -172,15 +172,11 @@ fn is_event(wanted: EventWord, happened: Option<EventWord>) -> bool
 }
 
 /// Whether the event is the rule's, where the service has events.
-pub fn event_value(
-    service: Service,
-    wanted: EventWord,
-    happened: Option<EventWord>,
-) -> Option<Value>
-    ensures { option_map view result ≡ event_data service wanted happened }
+pub fn event_value(service: Service, wanted: EventWord, event: Option<EventWord>) -> Option<Value>
+    ensures { option_map view result ≡ event_data service wanted event }
 {
     match service {
-        Service::Diversion => Some(Value::Boolean(is_event(wanted, happened))),
+        Service::Diversion => Some(Value::Boolean(is_event(wanted, event))),
         Service::Incoming => None,
         Service::Outgoing => None,
     }
@@ -347,15 +343,15 @@ pub fn target_value(
 }
 
 /// Whether a party is notified of the diversion.
-pub fn notice_value(notice: Notice, action: &Action) -> Option<Value>
-    ensures { option_map view result ≡ notice_data notice action.now }
+pub fn notification_value(notification: Notification, action: &Action) -> Option<Value>
+    ensures { option_map view result ≡ notification_data notification action.now }
 {
     match action {
-        Action::Forward(forward) => Some(Value::Boolean(match notice {
-            Notice::NotifyCaller => forward.notify_caller,
-            Notice::RevealToCaller => forward.reveal_to_caller,
-            Notice::RevealServedToCaller => forward.reveal_served_to_caller,
-            Notice::RevealToTarget => forward.reveal_to_target,
+        Action::Forward(forward) => Some(Value::Boolean(match notification {
+            Notification::NotifyCaller => forward.notify_caller,
+            Notification::RevealToCaller => forward.reveal_to_caller,
+            Notification::RevealServedToCaller => forward.reveal_served_to_caller,
+            Notification::RevealToTarget => forward.reveal_to_target,
         })),
         Action::Allow(_) => None,
     }

@@ -33,5 +33,5 @@ abbrev pub status_out_of_place : (method : List ℕ) → ℕ
 status_out_of_place method = if bytes_eq method (codes "OPTIONS") then 200 else if bytes_eq method (codes "REFER") then 403 else 481
 
 -- a retransmission gets what was sent last, where it comes from the peer that opened the transaction; nothing after the ACK, nor after the 2xx of an INVITE
-abbrev pub is_given_again : (opener asker : Peer) → (acked succeeded : Bool) → Bool
-is_given_again opener asker acked succeeded = asker.0 == opener.0 && not acked && not succeeded
+abbrev pub is_response_retransmitted : (opener asker : Peer) → (acked succeeded : Bool) → Bool
+is_response_retransmitted opener asker acked succeeded = asker.0 == opener.0 && not acked && not succeeded

@@ -11,8 +11,8 @@ pub fn is_cancel_due(provisional: bool, cancelled: bool) -> bool
 
 /// Whether a 2xx with this To tag belongs to the dialog with this remote tag: each 2xx of an INVITE within a dialog belongs to that dialog, and for one that opens dialogs the
 /// tag decides (RFC 3261 §13.2.2.4).
-pub fn is_of_dialog(within: bool, own: &[u8], tag: &[u8]) -> bool
-    ensures exact { result ≡ is_of_dialog within own.now tag.now }
+pub fn is_of_dialog(in_dialog: bool, own: &[u8], tag: &[u8]) -> bool
+    ensures exact { result ≡ is_of_dialog in_dialog own.now tag.now }
 {
-    within || own == tag
+    in_dialog || own == tag
 }

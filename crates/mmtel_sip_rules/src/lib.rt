@@ -8,6 +8,7 @@ mod statuses;
 
 pub use invites::{is_cancel_due, is_of_dialog};
 pub use requests::{
-    ACK_TIME, is_ack_of, is_given_again, is_same_number, is_same_side, status_out_of_place,
+    ACK_TIME, is_ack_of, is_response_retransmitted, is_same_number, is_same_side,
+    status_out_of_place,
 };
 pub use statuses::{is_provisional, is_redirection, is_refusal, is_success};

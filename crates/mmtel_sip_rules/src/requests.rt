@@ -1,7 +1,7 @@
 //! Decisions about a request: to what an ACK belongs, the status of the response to a request for which the step table has no transition, and whether a retransmission gets the
 //! response again.
 ghost use Rattle.std.specs.Prelude.{◌≡◌};
-ghost use Rattle.mmtel_sip_rules.specs.Requests.{is_ack_of, is_given_again, is_same_number, is_same_side, status_out_of_place};
+ghost use Rattle.mmtel_sip_rules.specs.Requests.{is_ack_of, is_response_retransmitted, is_same_number, is_same_side, status_out_of_place};
 
 use mmtel_types::{Peer, Side};
 
@@ -60,8 +60,8 @@ pub fn status_out_of_place(method: &[u8]) -> u16
 
 /// Whether what a transaction sent last is sent again to a retransmitted request: only to the peer that opened it, until the ACK was received, and not a 2xx of an INVITE
 /// (RFC 3261 §17.2.1, §17.2.2; RFC 6026 §7.1).
-pub fn is_given_again(opener: Peer, asker: Peer, acked: bool, succeeded: bool) -> bool
-    ensures exact { result ≡ is_given_again opener asker acked succeeded }
+pub fn is_response_retransmitted(opener: Peer, sender: Peer, acked: bool, succeeded: bool) -> bool
+    ensures exact { result ≡ is_response_retransmitted opener sender acked succeeded }
 {
-    asker.0 == opener.0 && !acked && !succeeded
+    sender.0 == opener.0 && !acked && !succeeded
 }

@@ -2,15 +2,15 @@ mod Arranged
 mod Choice
 mod Draining
 mod Foremost
-mod Keeping
+mod QueueInvariant
 mod Keys
 mod Removal
 mod Sorting
-mod Turns
+mod QueuePositions
 mod Mapped
 mod Halving
 pub mod Ordered
 pub mod Indexed
-pub mod Looked
+pub mod Lookups
 pub mod Unboxed
-pub mod Onward
+pub mod Advancing

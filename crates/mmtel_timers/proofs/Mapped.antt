@@ -36,15 +36,15 @@ module _ {X Y : Type 0} (f : X → Y) where
   pub put_in : (xs zs : List X) (i : ℕ) (x : X) (y : Y) (ys : List Y) → map f xs ≡ ys → f x ≡ y → zs ≡ insert xs i x → map f zs ≡ insert ys i y
   put_in xs zs i x y ys same is put = ap (map f) put ∙ (insert_mapped xs i x ∙ (ap (λ z. insert (map f xs) i z) is ∙ ap (λ ws. insert ws i y) same))
 
-  pub taken_out : (xs zs : List X) (i : ℕ) (ys : List Y) → map f xs ≡ ys → zs ≡ remove xs i → map f zs ≡ remove ys i
-  taken_out xs zs i ys same out = ap (map f) out ∙ (remove_mapped xs i ∙ ap (λ ws. remove ws i) same)
+  pub queue_without : (xs zs : List X) (i : ℕ) (ys : List Y) → map f xs ≡ ys → zs ≡ remove xs i → map f zs ≡ remove ys i
+  queue_without xs zs i ys same out = ap (map f) out ∙ (remove_mapped xs i ∙ ap (λ ws. remove ws i) same)
 
   -- the rest where one element is removed, if there is one
   pub left : (xs zs : List X) (i n : ℕ) (out : Option X) (ys : List Y) → n ≡ length xs → IsSome out ↔ (i < n) → OnSome out (zs ≡ remove xs i) → IfNone out (zs ≡ xs) → map f xs ≡ ys → map f zs ≡ remove ys i
-  left xs zs i n (Some x) ys long there rest stays same = taken_out xs zs i ys same rest
+  left xs zs i n (Some x) ys long there rest stays same = queue_without xs zs i ys same rest
   left xs zs i n None ys long there rest stays same =
       let past : length xs ≤ i = grind (arith, long, there) in
-      taken_out xs zs i ys same (stays ∙ sym (remove_past xs i past))
+      queue_without xs zs i ys same (stays ∙ sym (remove_past xs i past))
     where
       remove_past : {A : Type 0} (zs : List A) (k : ℕ) → length zs ≤ k → remove zs k ≡ zs
       remove_past [] zero l = refl

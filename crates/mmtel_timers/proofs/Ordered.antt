@@ -134,16 +134,16 @@ module _ {X : Type 0} (R : X → X → Ordering) (o : IsTotalOrder R) where
       by_cases Greater q = o.antisymm x y ∙ ap ordering_reverse q
 
   -- what a search finds is the place of an item that is not in the list
-  pub placed : (p : ℕ) (x : X) (xs : List X) → p ≤ length xs → IsPartitionPoint (λ y. comes_before R x y ≡ true) (λ y. comes_before R x y ≡ false) xs p → ((y : X) → Has y xs → R y x ≡ Equal → ⊥) → Place p x xs
-  placed zero x [] le h n = tt
-  placed zero x (y ∷ ys) le h n = (
+  pub inserted_by_arming : (p : ℕ) (x : X) (xs : List X) → p ≤ length xs → IsPartitionPoint (λ y. comes_before R x y ≡ true) (λ y. comes_before R x y ≡ false) xs p → ((y : X) → Has y xs → R y x ≡ Equal → ⊥) → Place p x xs
+  inserted_by_arming zero x [] le h n = tt
+  inserted_by_arming zero x (y ∷ ys) le h n = (
     after_is x y (h.1 zero y (omega arith) (omega arith)) (n y (inl refl)),
-    placed zero x ys (omega arith) (λ k d a b. absurd (omega (arith, b)), λ k d a b. h.1 (suc k) d (omega arith) (omega (arith, b))) (λ z g. n z (inr g)),
+    inserted_by_arming zero x ys (omega arith) (λ k d a b. absurd (omega (arith, b)), λ k d a b. h.1 (suc k) d (omega arith) (omega (arith, b))) (λ z g. n z (inr g)),
   )
-  placed (suc p) x [] le h n = absurd (omega (arith, le))
-  placed (suc p) x (y ∷ ys) le h n = (
+  inserted_by_arming (suc p) x [] le h n = absurd (omega (arith, le))
+  inserted_by_arming (suc p) x (y ∷ ys) le h n = (
     less_is (R y x) (h.0 zero y (omega arith) (omega arith)),
-    placed p x ys (omega (arith, le)) (λ k d a b. h.0 (suc k) d (omega arith) (omega (arith, b)), λ k d a b. h.1 (suc k) d (omega (arith, a)) (omega (arith, b))) (λ z g. n z (inr g)),
+    inserted_by_arming p x ys (omega (arith, le)) (λ k d a b. h.0 (suc k) d (omega arith) (omega (arith, b)), λ k d a b. h.1 (suc k) d (omega (arith, a)) (omega (arith, b))) (λ z g. n z (inr g)),
   )
 
   -- and of one that is in the list, its place

@@ -9,11 +9,11 @@ use Rattle.std.specs.declared.cmp.Ordering.{Ordering}
 use Rattle.mmtel_timers.specs.Deadlines.{Deadline, IsEachOnce, is_of}
 use Rattle.mmtel_timers.specs.Shelves.{Rises}
 use Rattle.mmtel_timers.specs.declared.deadlines.Key.{Key}
-use Rattle.mmtel_timers.specs.declared.queues.Turn.{Turn}
+use Rattle.mmtel_timers.specs.declared.queues.QueuePosition.{QueuePosition}
 
 -- its place in the order of taking, and the key that is due
 abbrev pub Queued : Type 0
-Queued = Turn × Key
+Queued = QueuePosition × Key
 
 abbrev pub number_of : Queued → ℕ
 number_of q = q.0.number
@@ -22,22 +22,22 @@ abbrev pub deadline_of : Queued → Deadline
 deadline_of q = (q.0.at, q.1)
 
 -- by moment, and for one moment by the number of its arming
-abbrev pub turn_cmp : Turn → Turn → Ordering
-turn_cmp x y = ordering_then (nat_cmp x.at y.at) (nat_cmp x.number y.number)
+abbrev pub queue_position_cmp : QueuePosition → QueuePosition → Ordering
+queue_position_cmp x y = ordering_then (nat_cmp x.at y.at) (nat_cmp x.number y.number)
 
 -- ---- in the order of arming
 
 -- one inserted among others, by the number of its arming
-abbrev pub placed : Queued → List Queued → List Queued
-placed q [] = q ∷ []
-placed q (x ∷ xs) = if nat_lt (number_of q) (number_of x) then q ∷ x ∷ xs else x ∷ placed q xs
+abbrev pub inserted_by_arming : Queued → List Queued → List Queued
+inserted_by_arming q [] = q ∷ []
+inserted_by_arming q (x ∷ xs) = if nat_lt (number_of q) (number_of x) then q ∷ x ∷ xs else x ∷ inserted_by_arming q xs
 
 abbrev pub by_arming : List Queued → List Queued
 by_arming [] = []
-by_arming (q ∷ qs) = placed q (by_arming qs)
+by_arming (q ∷ qs) = inserted_by_arming q (by_arming qs)
 
-abbrev pub seen : List Queued → List Deadline
-seen queue = map (λ q. deadline_of q) (by_arming queue)
+abbrev pub queue_view : List Queued → List Deadline
+queue_view queue = map (λ q. deadline_of q) (by_arming queue)
 
 -- ---- by key
 
@@ -45,33 +45,33 @@ abbrev pub is_same : Key → Key → Bool
 is_same key other = is_eq (nat_cmp key.0 other.0)
 
 -- the turn of a key, among the armed deadlines and in the map by key
-abbrev pub turn_of : Key → List Queued → Option Turn
-turn_of key [] = None
-turn_of key (q ∷ qs) = if is_of key (deadline_of q) then Some q.0 else turn_of key qs
+abbrev pub queue_position_of : Key → List Queued → Option QueuePosition
+queue_position_of key [] = None
+queue_position_of key (q ∷ qs) = if is_of key (deadline_of q) then Some q.0 else queue_position_of key qs
 
-abbrev pub turn_at : Key → List (Key × Turn) → Option Turn
-turn_at key turns = lookup (is_same key) turns
+abbrev pub queue_position_at : Key → List (Key × QueuePosition) → Option QueuePosition
+queue_position_at key turns = lookup (is_same key) turns
 
 -- ---- what is stored
 
 -- they are in order, each was armed before the one that is armed next, each has a number of its own and a key of its own, and the keys have these turns
-pub record AreKept (next : ℕ) (queue : List Queued) (turns : List (Key × Turn)) : Type 0 where
-  pub sorted : IsStrictlySortedBy turn_cmp (keys_of queue)
-  pub before : AllByRecursion (λ q. number_of q < next) queue
+pub record IsQueueState (next : ℕ) (queue : List Queued) (turns : List (Key × QueuePosition)) : Type 0 where
+  pub sorted : IsStrictlySortedBy queue_position_cmp (keys_of queue)
+  pub below_next : AllByRecursion (λ q. number_of q < next) queue
   pub numbered : Rises (λ q. number_of q) (by_arming queue)
-  pub once : IsEachOnce (seen queue)
-  pub turns_of : (key : Key) → turn_at key turns ≡ turn_of key (by_arming queue)
+  pub once : IsEachOnce (queue_view queue)
+  pub positions_of : (key : Key) → queue_position_at key turns ≡ queue_position_of key (by_arming queue)
 
 -- the keys have the turns that they had, except one
-abbrev pub Turns : Key → Option Turn → (before after : List (Key × Turn)) → Type 0
-Turns key turn before after = (k : Key) → turn_at k after ≡ (if is_same key k then turn else turn_at k before)
+abbrev pub ArePositionsBut : Key → Option QueuePosition → (before after : List (Key × QueuePosition)) → Type 0
+ArePositionsBut key turn before after = (k : Key) → queue_position_at k after ≡ (if is_same key k then turn else queue_position_at k before)
 
 -- the deadlines of all other turns
-abbrev pub taken_out : Option Turn → List Queued → List Queued
-taken_out None queue = queue
-taken_out (Some turn) queue = remove_entry (is_at (turn_cmp turn)) queue
+abbrev pub queue_without : Option QueuePosition → List Queued → List Queued
+queue_without None queue = queue
+queue_without (Some turn) queue = remove_entry (is_at (queue_position_cmp turn)) queue
 
 -- a deadline that is due: not later than now
-abbrev pub within : ℕ → Option Deadline → Option Deadline
-within now None = None
-within now (Some deadline) = if nat_le deadline.0 now then Some deadline else None
+abbrev pub if_due : ℕ → Option Deadline → Option Deadline
+if_due now None = None
+if_due now (Some deadline) = if nat_le deadline.0 now then Some deadline else None

@@ -6,8 +6,8 @@ use Rattle.std.specs.declared.cmp.Ordering.{Ordering}
 use Rattle.std.specs.declared.cmp.Ordering.TheVariants.{Less}
 
 -- what is stored in blocks of their own
-abbrev pub unboxed : {X A : Type 0} → List (Box X A) → List X
-unboxed blocks = map (λ b. b.value) blocks
+abbrev pub unboxed_items : {X A : Type 0} → List (Box X A) → List X
+unboxed_items blocks = map (λ b. b.value) blocks
 
 -- an element is in a list
 abbrev pub Has : {X : Type 0} → X → List X → Type 0
@@ -35,6 +35,6 @@ abbrev pub comes_before : {X : Type 0} → (X → X → Ordering) → X → X �
 comes_before R x y = is_lt (R y x)
 
 -- the number of what was found, if it is what was searched for
-abbrev pub answer : {X : Type 0} → (X → Bool) → (X → ℕ) → Option X → Option ℕ
-answer hits number None = None
-answer hits number (Some x) = if hits x then Some (number x) else None
+abbrev pub lookup_result : {X : Type 0} → (X → Bool) → (X → ℕ) → Option X → Option ℕ
+lookup_result hits number None = None
+lookup_result hits number (Some x) = if hits x then Some (number x) else None

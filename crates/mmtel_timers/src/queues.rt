@@ -4,18 +4,18 @@ ghost use Rattle.std.specs.BTreeMap.{insert_entry};
 ghost use Rattle.std.specs.List.{AllByRecursion};
 ghost use Rattle.std.specs.List.Sorted.{IsStrictlySortedBy};
 ghost use Rattle.std.specs.Map.{keys_of};
-ghost use Rattle.mmtel_timers.specs.Deadlines.{armed_last, IsEachOnce, soonest, without};
-ghost use Rattle.mmtel_timers.specs.Queues.{number_of, taken_out, turn_at, turn_cmp, Turns};
+ghost use Rattle.mmtel_timers.specs.Deadlines.{after_arming, IsEachOnce, soonest, without};
+ghost use Rattle.mmtel_timers.specs.Queues.{number_of, queue_without, queue_position_at, queue_position_cmp, ArePositionsBut};
 
 use crate::deadlines::Key;
-use mmtel_scan::NoMemory;
+use mmtel_base::NoMemory;
 use std::alloc::Global;
 use std::collections::BTreeMap;
 use std::marker::Model;
 
 /// The place of a deadline in the order of taking: by moment, and for one moment the first armed first.
 #[derive(Clone, Copy, Debug, PartialEq, Eq, PartialOrd, Ord)]
-pub struct Turn {
+pub struct QueuePosition {
     /// Its moment, in milliseconds since 1970-01-01T00:00:00Z.
     pub at: u64,
     /// How many were armed before it.
@@ -27,21 +27,21 @@ pub struct Turn {
 /// In contracts they are the list of moments and keys in the order of arming.
 #[derive(Drop)]
 pub struct Queue {
-    queue: BTreeMap<Turn, Key>,
-    turns: BTreeMap<Key, Turn>,
+    queue: BTreeMap<QueuePosition, Key>,
+    positions: BTreeMap<Key, QueuePosition>,
     armed: u64,
 }
 
 impl Model for Queue {
     ghost use Rattle.std.specs.Prelude.{List};
     ghost use Rattle.mmtel_timers.specs.Deadlines.{Deadline};
-    ghost use Rattle.mmtel_timers.specs.Queues.{AreKept, seen};
+    ghost use Rattle.mmtel_timers.specs.Queues.{IsQueueState, queue_view};
 
     ghost Value = { List Deadline };
 
-    ghost view = { λ q. seen q.queue.entries };
+    ghost view = { λ q. queue_view q.queue.entries };
 
-    ghost invariant = { λ q. AreKept q.armed q.queue.entries q.turns.entries };
+    ghost invariant = { λ q. IsQueueState q.armed q.queue.entries q.positions.entries };
 }
 
 impl Queue {
@@ -51,7 +51,7 @@ impl Queue {
     {
         Queue {
             queue: BTreeMap::new(alloc),
-            turns: BTreeMap::new(alloc),
+            positions: BTreeMap::new(alloc),
             armed: 0,
         }
     }
@@ -62,18 +62,18 @@ impl Queue {
     ///
     /// Out of memory only, for its entries, or out of numbers: keys are armed at most 2^64 - 1 times in all. The deadlines are then as before.
     pub fn arm(&mut self, at: u64, key: Key) -> Result<(), NoMemory>
-        ensures ok { OnOk result (self.new ≡ armed_last at key self.old) }
+        ensures ok { OnOk result (self.new ≡ after_arming at key self.old) }
         ensures err { OnErr result (self.new ≡ self.old) }
     {
         if self.armed == u64::MAX {
             return Err(NoMemory);
         }
-        let turn = Turn {
+        let turn = QueuePosition {
             at,
             number: self.armed,
         };
-        let earlier = put(&mut self.queue, &mut self.turns, turn, key)?;
-        take_out(&mut self.queue, earlier);
+        let earlier = insert_position(&mut self.queue, &mut self.positions, turn, key)?;
+        remove_position(&mut self.queue, earlier);
         self.armed += 1;
         Ok(())
     }
@@ -82,8 +82,8 @@ impl Queue {
     pub fn disarm(&mut self, key: Key)
         ensures { self.new ≡ without key self.old }
     {
-        let turn = self.turns.remove(&key);
-        take_out(&mut self.queue, turn);
+        let turn = self.positions.remove(&key);
+        remove_position(&mut self.queue, turn);
     }
 
     /// The deadline that comes before all others, whether or not it is due.
@@ -109,42 +109,42 @@ impl Queue {
 /// # Errors
 ///
 /// Out of memory only; all is then as before.
-fn put(
-    queue: &mut BTreeMap<Turn, Key>,
-    turns: &mut BTreeMap<Key, Turn>,
-    turn: Turn,
+fn insert_position(
+    queue: &mut BTreeMap<QueuePosition, Key>,
+    positions: &mut BTreeMap<Key, QueuePosition>,
+    position: QueuePosition,
     key: Key,
-) -> Result<Option<Turn>, NoMemory>
-    requires { AllByRecursion (λ q. number_of q < turn.number) queue.old.entries }
-    ensures queue { OnOk result (queue.new.entries ≡ insert_entry turn_cmp queue.old.entries turn key) }
-    ensures sorted { OnOk result (IsStrictlySortedBy turn_cmp (keys_of queue.new.entries)) }
-    ensures turns { OnOk result (Turns key (Some turn) turns.old.entries turns.new.entries) }
-    ensures earlier { IfOk result (λ earlier. earlier ≡ turn_at key turns.old.entries) }
+) -> Result<Option<QueuePosition>, NoMemory>
+    requires { AllByRecursion (λ q. number_of q < position.number) queue.old.entries }
+    ensures queue { OnOk result (queue.new.entries ≡ insert_entry queue_position_cmp queue.old.entries position key) }
+    ensures sorted { OnOk result (IsStrictlySortedBy queue_position_cmp (keys_of queue.new.entries)) }
+    ensures turns { OnOk result (ArePositionsBut key (Some position) positions.old.entries positions.new.entries) }
+    ensures earlier { IfOk result (λ earlier. earlier ≡ queue_position_at key positions.old.entries) }
     ensures err_queue { OnErr result (queue.new.entries ≡ queue.old.entries) }
-    ensures err_turns { OnErr result (turns.new.entries ≡ turns.old.entries) }
+    ensures err_turns { OnErr result (positions.new.entries ≡ positions.old.entries) }
 {
-    match queue.insert(turn, key) {
+    match queue.insert(position, key) {
         Ok(_) => {}
         Err(_) => return Err(NoMemory),
     }
-    match turns.insert(key, turn) {
+    match positions.insert(key, position) {
         Ok(earlier) => Ok(earlier),
         Err(_) => {
-            queue.remove(&turn);
+            queue.remove(&position);
             Err(NoMemory)
         }
     }
 }
 
 /// Removes a turn from the queue.
-fn take_out(queue: &mut BTreeMap<Turn, Key>, turn: Option<Turn>)
-    requires { IsStrictlySortedBy turn_cmp (keys_of queue.old.entries) }
-    ensures taken { queue.new.entries ≡ taken_out turn queue.old.entries }
-    ensures sorted { IsStrictlySortedBy turn_cmp (keys_of queue.new.entries) }
+fn remove_position(queue: &mut BTreeMap<QueuePosition, Key>, position: Option<QueuePosition>)
+    requires { IsStrictlySortedBy queue_position_cmp (keys_of queue.old.entries) }
+    ensures taken { queue.new.entries ≡ queue_without position queue.old.entries }
+    ensures sorted { IsStrictlySortedBy queue_position_cmp (keys_of queue.new.entries) }
 {
-    match turn {
-        Some(turn) => {
-            queue.remove(&turn);
+    match position {
+        Some(position) => {
+            queue.remove(&position);
         }
         None => {}
     }

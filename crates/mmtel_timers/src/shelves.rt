@@ -3,7 +3,7 @@ ghost use Rattle.std.specs.Prelude.{◌≡◌, ℕ, Bool, true, false, ◌+◌, 
 ghost use Rattle.std.specs.List.Sorted.{IsPartitionedBy, IsPartitionPoint};
 
 use crate::steps::Steps;
-use mmtel_scan::NoMemory;
+use mmtel_base::NoMemory;
 use std::alloc::Global;
 use std::cmp::Ordering;
 use std::collections::VecDeque;
@@ -66,11 +66,11 @@ impl<T: Ranked + Drop> Drop for Shelf<T> {
 }
 
 /// A place that is searched for: it decides for each item whether that comes before it.
-pub trait Mark<T: Ranked> {
+pub trait SearchKey<T: Ranked> {
     ghost before: { Self → T → Bool };
 
     /// Its rank: an item of a lower one comes before the place, and one of a higher one does not.
-    fn rank_sought(&self) -> u64
+    fn key_rank(&self) -> u64
         ensures lower { (x : T) → T.rank x < result → before self.now x ≡ true }
         ensures higher { (x : T) → result < T.rank x → before self.now x ≡ false };
 
@@ -81,22 +81,22 @@ pub trait Mark<T: Ranked> {
 
 /// A place, and the item there, None at the end.
 #[derive(Clone, Copy)]
-pub struct Sought<'a, T> {
-    pub place: usize,
+pub struct SearchResult<'a, T> {
+    pub position: usize,
     pub item: Option<&'a T>,
 }
 
 /// Whether the item of a slot comes before the place: by the ranks, where they differ.
-fn comes_before<T: Ranked, M: Mark<T>>(slot: &Slot<T>, rank: u64, mark: &M) -> bool
+fn comes_before<T: Ranked, M: SearchKey<T>>(slot: &Slot<T>, rank: u64, key: &M) -> bool
     requires ranked { slot.now.rank ≡ T.rank slot.now.block.value }
-    requires lower { (x : T) → T.rank x < rank → M.before mark.now x ≡ true }
-    requires higher { (x : T) → rank < T.rank x → M.before mark.now x ≡ false }
-    ensures { result ≡ M.before mark.now slot.now.block.value }
+    requires lower { (x : T) → T.rank x < rank → M.before key.now x ≡ true }
+    requires higher { (x : T) → rank < T.rank x → M.before key.now x ≡ false }
+    ensures { result ≡ M.before key.now slot.now.block.value }
 {
     match slot.rank.cmp(&rank) {
         Ordering::Less => true,
         Ordering::Greater => false,
-        Ordering::Equal => mark.is_before(slot.block.as_ref()),
+        Ordering::Equal => key.is_before(slot.block.as_ref()),
     }
 }
 
@@ -163,18 +163,18 @@ impl<T: Ranked> Shelf<T> {
     }
 
     /// Removes and returns the item at a place, and inserts another one where it belongs. It allocates nothing.
-    pub fn exchange<L: Ledger, M: Mark<T>>(
+    pub fn exchange<L: Ledger, M: SearchKey<T>>(
         &mut self,
         from: usize,
-        mark: &M,
+        key: &M,
         item: T,
         steps: &mut Steps<L>,
     ) -> (T, usize)
         requires from { from < length self.old }
-        requires parted { IsPartitionedBy (M.before mark.now) (remove self.old from) }
+        requires parted { IsPartitionedBy (M.before key.now) (remove self.old from) }
         ensures taken { slice_get self.old from ≡ Some result.0 }
         ensures within { result.1 ≤ length (remove self.old from) }
-        ensures place { IsPartitionPoint (λ x. M.before mark.now x ≡ true) (λ x. M.before mark.now x ≡ false) (remove self.old from) result.1 }
+        ensures place { IsPartitionPoint (λ x. M.before key.now x ≡ true) (λ x. M.before key.now x ≡ false) (remove self.old from) result.1 }
         ensures rest { self.new ≡ insert (remove self.old from) result.1 item }
         ensures rise { steps.old ≤ steps.new }
     {
@@ -184,7 +184,7 @@ impl<T: Ranked> Shelf<T> {
             None => unreachable!(),
         };
         let taken = Box::replace(&mut block, item);
-        let place = self.seek(mark, steps).place;
+        let place = self.seek(key, steps).position;
         match self.items.insert(place, Slot { rank, block }) {
             Ok(()) => (taken, place),
             Err(_) => unreachable!(),
@@ -192,15 +192,19 @@ impl<T: Ranked> Shelf<T> {
     }
 
     /// The first place whose item does not come before what is searched for. With n items it takes s steps with 2^s at most 2n + 1, so at most as many as n has binary digits.
-    pub fn seek<L: Ledger, M: Mark<T>>(&self, mark: &M, steps: &mut Steps<L>) -> Sought<'_, T>
-        requires { IsPartitionedBy (M.before mark.now) self.now }
-        ensures within { result.place ≤ length self.now }
-        ensures parted { IsPartitionPoint (λ x. M.before mark.now x ≡ true) (λ x. M.before mark.now x ≡ false) self.now result.place }
-        ensures item { option_copied result.item ≡ slice_get self.now result.place }
+    pub fn seek<L: Ledger, M: SearchKey<T>>(
+        &self,
+        key: &M,
+        steps: &mut Steps<L>,
+    ) -> SearchResult<'_, T>
+        requires { IsPartitionedBy (M.before key.now) self.now }
+        ensures within { result.position ≤ length self.now }
+        ensures parted { IsPartitionPoint (λ x. M.before key.now x ≡ true) (λ x. M.before key.now x ≡ false) self.now result.position }
+        ensures item { option_copied result.item ≡ slice_get self.now result.position }
         ensures cost { 2 ^ (steps.new - steps.old) ≤ 2 * length self.now + 1 }
         ensures rise { steps.old ≤ steps.new }
     {
-        let rank = mark.rank_sought();
+        let rank = key.key_rank();
         let mut low = 0;
         let mut high = self.items.len();
         let mut found = None;
@@ -208,7 +212,7 @@ impl<T: Ranked> Shelf<T> {
             let middle = low + (high - low) / 2;
             steps.tick();
             let slot = &self.items[middle];
-            if comes_before(slot, rank, mark) {
+            if comes_before(slot, rank, key) {
                 low = middle + 1;
             } else {
                 high = middle;
@@ -216,12 +220,12 @@ impl<T: Ranked> Shelf<T> {
             }
         }
         match found {
-            None => Sought {
-                place: low,
+            None => SearchResult {
+                position: low,
                 item: None,
             },
-            Some(slot) => Sought {
-                place: low,
+            Some(slot) => SearchResult {
+                position: low,
                 item: Some(slot.block.as_ref()),
             },
         }

@@ -16,16 +16,16 @@ use Rattle.mmtel_timers.specs.Shelves.{Has, IsIndex, Rises}
 use Rattle.mmtel_timers.proofs.Ordered.{all_has, not_both, Place}
 use Rattle.mmtel_timers.proofs.Indexed.{Gains, Loses, Matches, index_in, index_out, index_past, index_same, index_without}
 use Rattle.mmtel_transaction.specs.declared.entries.Entry.{Entry}
-use Rattle.mmtel_transaction.specs.declared.names.Name.{Name}
-use Rattle.mmtel_transaction.specs.declared.names.Waits.{Waits}
-use Rattle.mmtel_transaction.specs.Answers.{is_of}
-use Rattle.mmtel_transaction.specs.Changes.{hit, with_answers}
-use Rattle.mmtel_transaction.specs.Calls.{is_live}
-use Rattle.mmtel_transaction.specs.Table.{settle}
-use Rattle.mmtel_transaction.specs.Indexes.{AreTables, call_name, call_named, client_name, client_named, name_cmp, server_name, server_named, waiting, waits, waits_cmp}
+use Rattle.mmtel_transaction.specs.declared.match_keys.MatchKey.{MatchKey}
+use Rattle.mmtel_transaction.specs.declared.match_keys.DeadlineKey.{DeadlineKey}
+use Rattle.mmtel_transaction.specs.Results.{is_of}
+use Rattle.mmtel_transaction.specs.Changes.{change_of_key, with_reliable_if}
+use Rattle.mmtel_transaction.specs.Operations.{is_live}
+use Rattle.mmtel_transaction.specs.Table.{table_after_change}
+use Rattle.mmtel_transaction.specs.Indexes.{AreTables, call_match, client_match, deadline_cmp, deadline_key, indexed_call, indexed_client, indexed_deadline, indexed_server, match_cmp, server_match}
 use Rattle.mmtel_transaction.proofs.Having.{has_append_back, has_left, has_map, has_map_back, has_right}
 use Rattle.mmtel_transaction.proofs.Lists.{Keeps}
-use Rattle.mmtel_transaction.proofs.Naming.{names_total, waits_total}
+use Rattle.mmtel_transaction.proofs.Naming.{deadlines_total, matches_total}
 
 abbrev pub key_of_entry : Entry → ℕ
 key_of_entry e = e.key
@@ -78,10 +78,10 @@ last_of_five Less a b c d i j q = absurd cc
 last_of_five Greater a b c d i j q = absurd cc
 last_of_five Equal a b c d i j q = last_of_four a b c d i j q
 
-pub name_key : (x y : Name) → name_cmp x y ≡ Equal → x.key ≡ y.key
-name_key x y q = last_of_five (nat_cmp x.told y.told) (slice_cmp nat_cmp x.id y.id) (slice_cmp nat_cmp x.from y.from) (slice_cmp nat_cmp x.method y.method) (nat_cmp x.number y.number) x.key y.key q
+pub name_key : (x y : MatchKey) → match_cmp x y ≡ Equal → x.key ≡ y.key
+name_key x y q = last_of_five (nat_cmp x.hash y.hash) (slice_cmp nat_cmp x.id y.id) (slice_cmp nat_cmp x.from y.from) (slice_cmp nat_cmp x.method y.method) (nat_cmp x.number y.number) x.key y.key q
 
-pub waits_key : (x y : Waits) → waits_cmp x y ≡ Equal → x.key ≡ y.key
+pub waits_key : (x y : DeadlineKey) → deadline_cmp x y ≡ Equal → x.key ≡ y.key
 waits_key x y q = last_key (nat_cmp x.at y.at) (nat_cmp x.step y.step) (nat_cmp x.order y.order) x.key y.key q
 
 -- one number belongs to one transaction
@@ -208,38 +208,38 @@ module _ (f : Entry → Entry) (keeps : (e : Entry) → Keeps e (f e)) where
     back = λ d h. let w = has_map_back f d es h in (w.0, w.1, ap item w.2 ∙ same w.0);
   }
 
-  server_kept : (e : Entry) → server_name (f e) ≡ server_name e
+  server_kept : (e : Entry) → indexed_server (f e) ≡ indexed_server e
   server_kept e = let w = keeps e in rw (w.server, w.asked, w.key) refl
 
-  client_kept : (e : Entry) → client_name (f e) ≡ client_name e
+  client_kept : (e : Entry) → indexed_client (f e) ≡ indexed_client e
   client_kept e = let w = keeps e in rw (w.server, w.asked, w.key) refl
 
-  call_kept : (e : Entry) → call_name (f e) ≡ call_name e
+  call_kept : (e : Entry) → indexed_call (f e) ≡ indexed_call e
   call_kept e = let w = keeps e in rw (w.server, w.asked, w.key) refl
 
-  pub tables_mapped : (es : List Entry) (ss cs ts : List Name) (ds fs : List Waits) → AreTables es ss cs ts ds → IsIndex waiting waits_cmp (map f es) fs → AreTables (map f es) ss cs ts fs
+  pub tables_mapped : (es : List Entry) (ss cs ts : List MatchKey) (ds fs : List DeadlineKey) → AreTables es ss cs ts ds → IsIndex indexed_deadline deadline_cmp (map f es) fs → AreTables (map f es) ss cs ts fs
   tables_mapped es ss cs ts ds fs t due = record {
     rises = rises_mapped es t.rises;
-    servers = index_same server_name name_cmp names_total es (map f es) ss t.servers (matches_mapped server_name server_kept es);
-    clients = index_same client_name name_cmp names_total es (map f es) cs t.clients (matches_mapped client_name client_kept es);
-    calls = index_same call_name name_cmp names_total es (map f es) ts t.calls (matches_mapped call_name call_kept es);
+    servers = index_same indexed_server match_cmp matches_total es (map f es) ss t.servers (matches_mapped indexed_server server_kept es);
+    clients = index_same indexed_client match_cmp matches_total es (map f es) cs t.clients (matches_mapped indexed_client client_kept es);
+    calls = index_same indexed_call match_cmp matches_total es (map f es) ts t.calls (matches_mapped indexed_call call_kept es);
     due = due;
     server_count = t.server_count ∙ sym (count_mapped (λ (e : Entry). e.is_server) (λ e. (keeps e).server) es);
     client_count = t.client_count ∙ sym (count_mapped (λ (e : Entry). not e.is_server) (λ e. ap not ((keeps e).server)) es);
   }
 
-of_waits : (es : List Entry) (old : Entry) → Rises key_of_entry es → Has old es → (e : Entry) → Has e es → waiting e ≡ Some (waits old) → e ≡ old
-of_waits es old r h e g s = one_key es e old r g h (ap (λ (y : Waits). y.key) (same_Some (waits e) (waits old) s))
+of_waits : (es : List Entry) (old : Entry) → Rises key_of_entry es → Has old es → (e : Entry) → Has e es → indexed_deadline e ≡ Some (deadline_key old) → e ≡ old
+of_waits es old r h e g s = one_key es e old r g h (ap (λ (y : DeadlineKey). y.key) (same_Some (deadline_key e) (deadline_key old) s))
 
 -- the transaction of a key changes
 module _ (k : ℕ) (f : Entry → Entry) where
-  pub hit_own : (e : Entry) → e.key ≡ k → hit k f e ≡ f e
+  pub hit_own : (e : Entry) → e.key ≡ k → change_of_key k f e ≡ f e
   hit_own e q = rw (is_equal e.key k q) refl
 
-  pub hit_other : (e : Entry) → (e.key == k) ≡ false → hit k f e ≡ e
+  pub hit_other : (e : Entry) → (e.key == k) ≡ false → change_of_key k f e ≡ e
   hit_other e n = rw n refl
 
-  none_hit : (es : List Entry) → AllByRecursion (λ (y : Entry). k < y.key) es → map (hit k f) es ≡ es
+  none_hit : (es : List Entry) → AllByRecursion (λ (y : Entry). k < y.key) es → map (change_of_key k f) es ≡ es
   none_hit [] a = refl
   none_hit (e ∷ es) a =
       let l : k < e.key = a.0 in
@@ -247,21 +247,21 @@ module _ (k : ℕ) (f : Entry → Entry) where
       rw (hit_other e n, none_hit es a.1) refl
 
   -- as it is at the position where it was changed
-  pub set_hit : (es : List Entry) (i : ℕ) (d x : Entry) → Rises key_of_entry es → i < length es → (get_or es i d).key ≡ k → x ≡ f (get_or es i d) → set es i x ≡ map (hit k f) es
+  pub set_hit : (es : List Entry) (i : ℕ) (d x : Entry) → Rises key_of_entry es → i < length es → (get_or es i d).key ≡ k → x ≡ f (get_or es i d) → set es i x ≡ map (change_of_key k f) es
   set_hit [] i d x r l q s = absurd (omega (arith, l))
-  set_hit (e ∷ es) zero d x r l q s = ap (λ y. y ∷ es) (s ∙ sym (hit_own e q)) ∙ ap (λ ys. hit k f e ∷ ys) (sym (none_hit es (subst (λ i. AllByRecursion (λ (y : Entry). i < y.key) es) q r.0)))
+  set_hit (e ∷ es) zero d x r l q s = ap (λ y. y ∷ es) (s ∙ sym (hit_own e q)) ∙ ap (λ ys. change_of_key k f e ∷ ys) (sym (none_hit es (subst (λ i. AllByRecursion (λ (y : Entry). i < y.key) es) q r.0)))
   set_hit (e ∷ es) (suc i) d x r l q s =
       let less : e.key < (get_or es i d).key = All-from_recursion (λ (y : Entry). e.key < y.key) es r.0 i d (omega (arith, l)) in
       let n : (e.key == k) ≡ false = grind (arith, nat_tests) in
-      ap (λ ys. e ∷ ys) (set_hit es i d x r.1 (omega (arith, l)) q s) ∙ ap (λ y. y ∷ map (hit k f) es) (sym (hit_other e n))
+      ap (λ ys. e ∷ ys) (set_hit es i d x r.1 (omega (arith, l)) q s) ∙ ap (λ y. y ∷ map (change_of_key k f) es) (sym (hit_other e n))
 
-  gains_hit : (old : Entry) (es : List Entry) → Rises key_of_entry es → Has old es → old.key ≡ k → Gains (f old) (rest k es) (map (hit k f) es)
+  gains_hit : (old : Entry) (es : List Entry) → Rises key_of_entry es → Has old es → old.key ≡ k → Gains (f old) (rest k es) (map (change_of_key k f) es)
   gains_hit old es r h q = record {
     kept = λ e g.
         let w = rest_back k e es g in
-        subst (λ (y : Entry). Has y (map (hit k f) es)) (hit_other e (other e.key k w.1)) (has_map (hit k f) e es w.0);
-    added = subst (λ (y : Entry). Has y (map (hit k f) es)) (hit_own old q) (has_map (hit k f) old es h);
-    back = λ e g. let w = has_map_back (hit k f) e es g in by_test e w.0 w.1 w.2 (w.0.key == k) refl;
+        subst (λ (y : Entry). Has y (map (change_of_key k f) es)) (hit_other e (other e.key k w.1)) (has_map (change_of_key k f) e es w.0);
+    added = subst (λ (y : Entry). Has y (map (change_of_key k f) es)) (hit_own old q) (has_map (change_of_key k f) old es h);
+    back = λ e g. let w = has_map_back (change_of_key k f) e es g in by_test e w.0 w.1 w.2 (w.0.key == k) refl;
   }
     where
       other : (i j : ℕ) → (i ≡ j → ⊥) → (i == j) ≡ false
@@ -271,18 +271,18 @@ module _ (k : ℕ) (f : Entry → Entry) where
           either true t = absurd (n (is_same i j t))
           either false t = t
 
-      by_test : (e x : Entry) → Has x es → e ≡ hit k f x → (b : Bool) → (x.key == k) ≡ b → (e ≡ f old) ⊎ Has e (rest k es)
+      by_test : (e x : Entry) → Has x es → e ≡ change_of_key k f x → (b : Bool) → (x.key == k) ≡ b → (e ≡ f old) ⊎ Has e (rest k es)
       by_test e x g s true t = inl (s ∙ (hit_own x (is_same x.key k t) ∙ ap f (one_key es x old r g h (is_same x.key k t ∙ sym q))))
       by_test e x g s false t = inr (subst (λ (y : Entry). Has y (rest k es)) (sym (s ∙ hit_other x t)) (rest_has k x es g t))
 
   -- its deadline key is removed at one position and inserted at another
-  pub due_hit : (old : Entry) (es : List Entry) (ds : List Waits) (p q : ℕ) → Rises key_of_entry es → IsIndex waiting waits_cmp es ds → Has old es → old.key ≡ k → slice_get ds p ≡ Some (waits old) → Place waits_cmp waits_total q (waits (f old)) (remove ds p) → IsIndex waiting waits_cmp (map (hit k f) es) (insert (remove ds p) q (waits (f old)))
-  due_hit old es ds p q r due h key at place = index_in waiting waits_cmp waits_total (f old) (waits (f old)) (rest k es) (map (hit k f) es) (remove ds p) q
-      (index_out waiting waits_cmp waits_total old (waits old) es (rest k es) ds p due (loses_rest k old es r h key) refl (of_waits es old r h) at)
+  pub due_hit : (old : Entry) (es : List Entry) (ds : List DeadlineKey) (p q : ℕ) → Rises key_of_entry es → IsIndex indexed_deadline deadline_cmp es ds → Has old es → old.key ≡ k → slice_get ds p ≡ Some (deadline_key old) → Place deadline_cmp deadlines_total q (deadline_key (f old)) (remove ds p) → IsIndex indexed_deadline deadline_cmp (map (change_of_key k f) es) (insert (remove ds p) q (deadline_key (f old)))
+  due_hit old es ds p q r due h key at place = index_in indexed_deadline deadline_cmp deadlines_total (f old) (deadline_key (f old)) (rest k es) (map (change_of_key k f) es) (remove ds p) q
+      (index_out indexed_deadline deadline_cmp deadlines_total old (deadline_key old) es (rest k es) ds p due (loses_rest k old es r h key) refl (of_waits es old r h) at)
       (gains_hit old es r h key) refl place
 
   -- a change that ends the transaction removes it
-  pub settle_over : (old : Entry) (es : List Entry) → Rises key_of_entry es → Has old es → old.key ≡ k → is_live (f old) ≡ false → settle k f es ≡ rest k es
+  pub settle_over : (old : Entry) (es : List Entry) → Rises key_of_entry es → Has old es → old.key ≡ k → is_live (f old) ≡ false → table_after_change k f es ≡ rest k es
   settle_over old [] r h q o = absurd h
   settle_over old (x ∷ es) r (inl s) q o =
       let key : x.key ≡ k = ap key_of_entry (sym s) ∙ q in
@@ -294,11 +294,11 @@ module _ (k : ℕ) (f : Entry → Entry) where
       rw (n, settle_over old es r.1 h q o) refl
 
 -- where none has the key, none changes
-absent_if : (k n : ℕ) (f : Entry → Entry) (e : Entry) (es : List Entry) (b : Bool) → suc (length es) ≤ cond (not b) (1 + n) 0 → (length es ≤ n → map (hit k f) es ≡ es) → cond b (f e) e ∷ map (hit k f) es ≡ e ∷ es
+absent_if : (k n : ℕ) (f : Entry → Entry) (e : Entry) (es : List Entry) (b : Bool) → suc (length es) ≤ cond (not b) (1 + n) 0 → (length es ≤ n → map (change_of_key k f) es ≡ es) → cond b (f e) e ∷ map (change_of_key k f) es ≡ e ∷ es
 absent_if k n f e es true l ih = absurd (omega (arith, l))
 absent_if k n f e es false l ih = ap (λ xs. e ∷ xs) (ih (omega (arith, l)))
 
-absent_at : (k : ℕ) (f : Entry → Entry) (es : List Entry) → length es ≤ position_or_len (is_of k) es → map (hit k f) es ≡ es
+absent_at : (k : ℕ) (f : Entry → Entry) (es : List Entry) → length es ≤ position_or_len (is_of k) es → map (change_of_key k f) es ≡ es
 absent_at k f [] l = refl
 absent_at k f (e ∷ es) l = absent_if k (position_or_len (is_of k) es) f e es (is_of k e) l (absent_at k f es)
 
@@ -306,37 +306,37 @@ past : (b : Bool) (n : ℕ) → cond b (Some n) None ≡ None → b ≡ false
 past true n q = cc
 past false n q = refl
 
-pub not_hit : (k : ℕ) (f : Entry → Entry) (es : List Entry) → position (is_of k) es ≡ None → map (hit k f) es ≡ es
+pub not_hit : (k : ℕ) (f : Entry → Entry) (es : List Entry) → position (is_of k) es ≡ None → map (change_of_key k f) es ≡ es
 not_hit k f es p =
     let w : nat_lt (position_or_len (is_of k) es) (length es) ≡ false = past (nat_lt (position_or_len (is_of k) es) (length es)) (position_or_len (is_of k) es) p in
     absent_at k f es (grind (arith, nat_tests))
 
 -- where nothing changes
-pub hit_none : (k : ℕ) (es : List Entry) → es ≡ map (hit k (with_answers None)) es
+pub hit_none : (k : ℕ) (es : List Entry) → es ≡ map (change_of_key k (with_reliable_if None)) es
 hit_none k [] = refl
 hit_none k (e ∷ es) = either (e.key == k) (hit_none k es)
   where
-    either : (b : Bool) → es ≡ map (hit k (with_answers None)) es → e ∷ es ≡ cond b e e ∷ map (hit k (with_answers None)) es
+    either : (b : Bool) → es ≡ map (change_of_key k (with_reliable_if None)) es → e ∷ es ≡ cond b e e ∷ map (change_of_key k (with_reliable_if None)) es
     either true ih = ap (λ xs. e ∷ xs) ih
     either false ih = ap (λ xs. e ∷ xs) ih
 
 -- whose match key is an item
-server_if : (e : Entry) (n x : Name) (b : Bool) → cond b (Some n) None ≡ Some x → n ≡ x
+server_if : (e : Entry) (n x : MatchKey) (b : Bool) → cond b (Some n) None ≡ Some x → n ≡ x
 server_if e n x true q = same_Some n x q
 server_if e n x false q = absurd (none-some x q)
 
-client_if : (e : Entry) (n x : Name) (b : Bool) → cond b None (Some n) ≡ Some x → n ≡ x
+client_if : (e : Entry) (n x : MatchKey) (b : Bool) → cond b None (Some n) ≡ Some x → n ≡ x
 client_if e n x false q = same_Some n x q
 client_if e n x true q = absurd (none-some x q)
 
-of_server : (es : List Entry) (old : Entry) → Rises key_of_entry es → Has old es → (e : Entry) → Has e es → server_name e ≡ Some (server_named old) → e ≡ old
-of_server es old r h e g s = one_key es e old r g h (ap (λ (y : Name). y.key) (server_if e (server_named e) (server_named old) e.is_server s))
+of_server : (es : List Entry) (old : Entry) → Rises key_of_entry es → Has old es → (e : Entry) → Has e es → indexed_server e ≡ Some (server_match old) → e ≡ old
+of_server es old r h e g s = one_key es e old r g h (ap (λ (y : MatchKey). y.key) (server_if e (server_match e) (server_match old) e.is_server s))
 
-of_call : (es : List Entry) (old : Entry) → Rises key_of_entry es → Has old es → (e : Entry) → Has e es → call_name e ≡ Some (call_named old) → e ≡ old
-of_call es old r h e g s = one_key es e old r g h (ap (λ (y : Name). y.key) (server_if e (call_named e) (call_named old) e.is_server s))
+of_call : (es : List Entry) (old : Entry) → Rises key_of_entry es → Has old es → (e : Entry) → Has e es → indexed_call e ≡ Some (call_match old) → e ≡ old
+of_call es old r h e g s = one_key es e old r g h (ap (λ (y : MatchKey). y.key) (server_if e (call_match e) (call_match old) e.is_server s))
 
-of_client : (es : List Entry) (old : Entry) → Rises key_of_entry es → Has old es → (e : Entry) → Has e es → client_name e ≡ Some (client_named old) → e ≡ old
-of_client es old r h e g s = one_key es e old r g h (ap (λ (y : Name). y.key) (client_if e (client_named e) (client_named old) e.is_server s))
+of_client : (es : List Entry) (old : Entry) → Rises key_of_entry es → Has old es → (e : Entry) → Has e es → indexed_client e ≡ Some (client_match old) → e ≡ old
+of_client es old r h e g s = one_key es e old r g h (ap (λ (y : MatchKey). y.key) (client_if e (client_match e) (client_match old) e.is_server s))
 
 one_less : (n m i : ℕ) → i + 1 ≡ n → n ≡ m → (j : ℕ) → j + 1 ≡ m → i ≡ j
 one_less n m i a b j c = omega (arith, a, b, c)
@@ -348,86 +348,86 @@ abbrev is_a_client : Entry → Bool
 is_a_client e = not e.is_server
 
 -- a server transaction ends: its match keys and its deadline key are removed
-pub server_over : (k : ℕ) (old : Entry) (es : List Entry) (ss cs ts : List Name) (ds : List Waits) (p q o : ℕ) → AreTables es ss cs ts ds → Has old es → old.key ≡ k → old.is_server ≡ true → slice_get ds p ≡ Some (waits old) → slice_get ss q ≡ Some (server_named old) → slice_get ts o ≡ Some (call_named old) → AreTables (rest k es) (remove ss q) cs (remove ts o) (remove ds p)
+pub server_over : (k : ℕ) (old : Entry) (es : List Entry) (ss cs ts : List MatchKey) (ds : List DeadlineKey) (p q o : ℕ) → AreTables es ss cs ts ds → Has old es → old.key ≡ k → old.is_server ≡ true → slice_get ds p ≡ Some (deadline_key old) → slice_get ss q ≡ Some (server_match old) → slice_get ts o ≡ Some (call_match old) → AreTables (rest k es) (remove ss q) cs (remove ts o) (remove ds p)
 server_over k old es ss cs ts ds p q o t h key kind at named called =
     let less : Loses old es (rest k es) = loses_rest k old es t.rises h key in
     let gone : count_by is_a_server (rest k es) + 1 ≡ count_by is_a_server es = subst (λ b. count_by is_a_server (rest k es) + cond b 1 0 ≡ count_by is_a_server es) kind (count_rest is_a_server k old es t.rises h key) in
     let stay : count_by is_a_client (rest k es) + 0 ≡ count_by is_a_client es = subst (λ b. count_by is_a_client (rest k es) + cond (not b) 1 0 ≡ count_by is_a_client es) kind (count_rest is_a_client k old es t.rises h key) in
     record {
       rises = rises_rest k es t.rises;
-      servers = index_out server_name name_cmp names_total old (server_named old) es (rest k es) ss q t.servers less (ap (λ b. cond b (Some (server_named old)) None) kind) (of_server es old t.rises h) named;
-      clients = index_without client_name name_cmp names_total old es (rest k es) cs t.clients less (ap (λ b. cond b None (Some (client_named old))) kind);
-      calls = index_out call_name name_cmp names_total old (call_named old) es (rest k es) ts o t.calls less (ap (λ b. cond b (Some (call_named old)) None) kind) (of_call es old t.rises h) called;
-      due = index_out waiting waits_cmp waits_total old (waits old) es (rest k es) ds p t.due less refl (of_waits es old t.rises h) at;
-      server_count = one_less (length ss) _ (length (remove ss q)) (length-remove ss q (slice_get_within ss q (server_named old) named)) t.server_count _ gone;
+      servers = index_out indexed_server match_cmp matches_total old (server_match old) es (rest k es) ss q t.servers less (ap (λ b. cond b (Some (server_match old)) None) kind) (of_server es old t.rises h) named;
+      clients = index_without indexed_client match_cmp matches_total old es (rest k es) cs t.clients less (ap (λ b. cond b None (Some (client_match old))) kind);
+      calls = index_out indexed_call match_cmp matches_total old (call_match old) es (rest k es) ts o t.calls less (ap (λ b. cond b (Some (call_match old)) None) kind) (of_call es old t.rises h) called;
+      due = index_out indexed_deadline deadline_cmp deadlines_total old (deadline_key old) es (rest k es) ds p t.due less refl (of_waits es old t.rises h) at;
+      server_count = one_less (length ss) _ (length (remove ss q)) (length-remove ss q (slice_get_within ss q (server_match old) named)) t.server_count _ gone;
       client_count = omega (arith, t.client_count, stay);
     }
 
 -- a client transaction ends: its match key and its deadline key are removed
-pub client_over : (k : ℕ) (old : Entry) (es : List Entry) (ss cs ts : List Name) (ds : List Waits) (p q : ℕ) → AreTables es ss cs ts ds → Has old es → old.key ≡ k → old.is_server ≡ false → slice_get ds p ≡ Some (waits old) → slice_get cs q ≡ Some (client_named old) → AreTables (rest k es) ss (remove cs q) ts (remove ds p)
+pub client_over : (k : ℕ) (old : Entry) (es : List Entry) (ss cs ts : List MatchKey) (ds : List DeadlineKey) (p q : ℕ) → AreTables es ss cs ts ds → Has old es → old.key ≡ k → old.is_server ≡ false → slice_get ds p ≡ Some (deadline_key old) → slice_get cs q ≡ Some (client_match old) → AreTables (rest k es) ss (remove cs q) ts (remove ds p)
 client_over k old es ss cs ts ds p q t h key kind at named =
     let less : Loses old es (rest k es) = loses_rest k old es t.rises h key in
     let stay : count_by is_a_server (rest k es) + 0 ≡ count_by is_a_server es = subst (λ b. count_by is_a_server (rest k es) + cond b 1 0 ≡ count_by is_a_server es) kind (count_rest is_a_server k old es t.rises h key) in
     let gone : count_by is_a_client (rest k es) + 1 ≡ count_by is_a_client es = subst (λ b. count_by is_a_client (rest k es) + cond (not b) 1 0 ≡ count_by is_a_client es) kind (count_rest is_a_client k old es t.rises h key) in
     record {
       rises = rises_rest k es t.rises;
-      servers = index_without server_name name_cmp names_total old es (rest k es) ss t.servers less (ap (λ b. cond b (Some (server_named old)) None) kind);
-      clients = index_out client_name name_cmp names_total old (client_named old) es (rest k es) cs q t.clients less (ap (λ b. cond b None (Some (client_named old))) kind) (of_client es old t.rises h) named;
-      calls = index_without call_name name_cmp names_total old es (rest k es) ts t.calls less (ap (λ b. cond b (Some (call_named old)) None) kind);
-      due = index_out waiting waits_cmp waits_total old (waits old) es (rest k es) ds p t.due less refl (of_waits es old t.rises h) at;
+      servers = index_without indexed_server match_cmp matches_total old es (rest k es) ss t.servers less (ap (λ b. cond b (Some (server_match old)) None) kind);
+      clients = index_out indexed_client match_cmp matches_total old (client_match old) es (rest k es) cs q t.clients less (ap (λ b. cond b None (Some (client_match old))) kind) (of_client es old t.rises h) named;
+      calls = index_without indexed_call match_cmp matches_total old es (rest k es) ts t.calls less (ap (λ b. cond b (Some (call_match old)) None) kind);
+      due = index_out indexed_deadline deadline_cmp deadlines_total old (deadline_key old) es (rest k es) ds p t.due less refl (of_waits es old t.rises h) at;
       server_count = omega (arith, t.server_count, stay);
-      client_count = one_less (length cs) _ (length (remove cs q)) (length-remove cs q (slice_get_within cs q (client_named old) named)) t.client_count _ gone;
+      client_count = one_less (length cs) _ (length (remove cs q)) (length-remove cs q (slice_get_within cs q (client_match old) named)) t.client_count _ gone;
     }
 
 -- one more transaction
-below : (e u : Entry) (n y : Name) → n ≡ y → n.key ≡ u.key → u.key < e.key → y.key ≡ e.key → ⊥
-below e u n y is own less same = let key : n.key ≡ y.key = ap (λ (z : Name). z.key) is in omega (arith, key, own, less, same)
+below : (e u : Entry) (n y : MatchKey) → n ≡ y → n.key ≡ u.key → u.key < e.key → y.key ≡ e.key → ⊥
+below e u n y is own less same = let key : n.key ≡ y.key = ap (λ (z : MatchKey). z.key) is in omega (arith, key, own, less, same)
 
-pub below_server : (e : Entry) (es : List Entry) (ss : List Name) → IsIndex server_name name_cmp es ss → ((x : Entry) → Has x es → x.key < e.key) → (y : Name) → Has y ss → name_cmp y (server_named e) ≡ Equal → ⊥
-below_server e es ss i l y h q = let u = i.only y h in below e u.0 (server_named u.0) y (server_if u.0 (server_named u.0) y u.0.is_server u.2) refl (l u.0 u.1) (name_key y (server_named e) q)
+pub below_server : (e : Entry) (es : List Entry) (ss : List MatchKey) → IsIndex indexed_server match_cmp es ss → ((x : Entry) → Has x es → x.key < e.key) → (y : MatchKey) → Has y ss → match_cmp y (server_match e) ≡ Equal → ⊥
+below_server e es ss i l y h q = let u = i.only y h in below e u.0 (server_match u.0) y (server_if u.0 (server_match u.0) y u.0.is_server u.2) refl (l u.0 u.1) (name_key y (server_match e) q)
 
-pub below_client : (e : Entry) (es : List Entry) (cs : List Name) → IsIndex client_name name_cmp es cs → ((x : Entry) → Has x es → x.key < e.key) → (y : Name) → Has y cs → name_cmp y (client_named e) ≡ Equal → ⊥
-below_client e es cs i l y h q = let u = i.only y h in below e u.0 (client_named u.0) y (client_if u.0 (client_named u.0) y u.0.is_server u.2) refl (l u.0 u.1) (name_key y (client_named e) q)
+pub below_client : (e : Entry) (es : List Entry) (cs : List MatchKey) → IsIndex indexed_client match_cmp es cs → ((x : Entry) → Has x es → x.key < e.key) → (y : MatchKey) → Has y cs → match_cmp y (client_match e) ≡ Equal → ⊥
+below_client e es cs i l y h q = let u = i.only y h in below e u.0 (client_match u.0) y (client_if u.0 (client_match u.0) y u.0.is_server u.2) refl (l u.0 u.1) (name_key y (client_match e) q)
 
-pub below_call : (e : Entry) (es : List Entry) (ts : List Name) → IsIndex call_name name_cmp es ts → ((x : Entry) → Has x es → x.key < e.key) → (y : Name) → Has y ts → name_cmp y (call_named e) ≡ Equal → ⊥
-below_call e es ts i l y h q = let u = i.only y h in below e u.0 (call_named u.0) y (server_if u.0 (call_named u.0) y u.0.is_server u.2) refl (l u.0 u.1) (name_key y (call_named e) q)
+pub below_call : (e : Entry) (es : List Entry) (ts : List MatchKey) → IsIndex indexed_call match_cmp es ts → ((x : Entry) → Has x es → x.key < e.key) → (y : MatchKey) → Has y ts → match_cmp y (call_match e) ≡ Equal → ⊥
+below_call e es ts i l y h q = let u = i.only y h in below e u.0 (call_match u.0) y (server_if u.0 (call_match u.0) y u.0.is_server u.2) refl (l u.0 u.1) (name_key y (call_match e) q)
 
-pub below_waits : (e : Entry) (es : List Entry) (ds : List Waits) → IsIndex waiting waits_cmp es ds → ((x : Entry) → Has x es → x.key < e.key) → (y : Waits) → Has y ds → waits_cmp y (waits e) ≡ Equal → ⊥
+pub below_waits : (e : Entry) (es : List Entry) (ds : List DeadlineKey) → IsIndex indexed_deadline deadline_cmp es ds → ((x : Entry) → Has x es → x.key < e.key) → (y : DeadlineKey) → Has y ds → deadline_cmp y (deadline_key e) ≡ Equal → ⊥
 below_waits e es ds i l y h q =
     let u = i.only y h in
-    let key : y.key ≡ u.0.key = ap (λ (z : Waits). z.key) (sym (same_Some (waits u.0) y u.2)) in
-    let same : y.key ≡ e.key = waits_key y (waits e) q in
+    let key : y.key ≡ u.0.key = ap (λ (z : DeadlineKey). z.key) (sym (same_Some (deadline_key u.0) y u.2)) in
+    let same : y.key ≡ e.key = waits_key y (deadline_key e) q in
     let less : u.0.key < e.key = l u.0 u.1 in
     omega (arith, key, same, less)
 
-module _ (e : Entry) (es : List Entry) (ss cs ts : List Name) (ds : List Waits) (t : AreTables es ss cs ts ds) (above : (x : Entry) → Has x es → x.key < e.key) where
-  counted : (p : Entry → Bool) (b : Bool) → p e ≡ b → count_by p (es ++ e ∷ []) ≡ count_by p es + cond b 1 0
-  counted p b q = count_last p es e ∙ ap (λ c. count_by p es + cond c 1 0) q
+module _ (e : Entry) (es : List Entry) (ss cs ts : List MatchKey) (ds : List DeadlineKey) (t : AreTables es ss cs ts ds) (above : (x : Entry) → Has x es → x.key < e.key) where
+  scheduled_moment : (p : Entry → Bool) (b : Bool) → p e ≡ b → count_by p (es ++ e ∷ []) ≡ count_by p es + cond b 1 0
+  scheduled_moment p b q = count_last p es e ∙ ap (λ c. count_by p es + cond c 1 0) q
 
-  pub server_more : (p q o : ℕ) → e.is_server ≡ true → p ≤ length ss → Place name_cmp names_total p (server_named e) ss → Place name_cmp names_total o (call_named e) ts → Place waits_cmp waits_total q (waits e) ds → AreTables (es ++ e ∷ []) (insert ss p (server_named e)) cs (insert ts o (call_named e)) (insert ds q (waits e))
+  pub server_more : (p q o : ℕ) → e.is_server ≡ true → p ≤ length ss → Place match_cmp matches_total p (server_match e) ss → Place match_cmp matches_total o (call_match e) ts → Place deadline_cmp deadlines_total q (deadline_key e) ds → AreTables (es ++ e ∷ []) (insert ss p (server_match e)) cs (insert ts o (call_match e)) (insert ds q (deadline_key e))
   server_more p q o kind le place called due =
-      let one : count_by is_a_server (es ++ e ∷ []) ≡ count_by is_a_server es + 1 = counted is_a_server true kind in
-      let none : count_by is_a_client (es ++ e ∷ []) ≡ count_by is_a_client es + 0 = counted is_a_client false (ap not kind) in
+      let one : count_by is_a_server (es ++ e ∷ []) ≡ count_by is_a_server es + 1 = scheduled_moment is_a_server true kind in
+      let none : count_by is_a_client (es ++ e ∷ []) ≡ count_by is_a_client es + 0 = scheduled_moment is_a_client false (ap not kind) in
       record {
         rises = rises_last es e t.rises above;
-        servers = index_in server_name name_cmp names_total e (server_named e) es (es ++ e ∷ []) ss p t.servers (gains_last e es) (ap (λ b. cond b (Some (server_named e)) None) kind) place;
-        clients = index_past client_name name_cmp names_total e es (es ++ e ∷ []) cs t.clients (gains_last e es) (ap (λ b. cond b None (Some (client_named e))) kind);
-        calls = index_in call_name name_cmp names_total e (call_named e) es (es ++ e ∷ []) ts o t.calls (gains_last e es) (ap (λ b. cond b (Some (call_named e)) None) kind) called;
-        due = index_in waiting waits_cmp waits_total e (waits e) es (es ++ e ∷ []) ds q t.due (gains_last e es) refl due;
-        server_count = omega (arith, length-insert ss p (server_named e) le, t.server_count, one);
+        servers = index_in indexed_server match_cmp matches_total e (server_match e) es (es ++ e ∷ []) ss p t.servers (gains_last e es) (ap (λ b. cond b (Some (server_match e)) None) kind) place;
+        clients = index_past indexed_client match_cmp matches_total e es (es ++ e ∷ []) cs t.clients (gains_last e es) (ap (λ b. cond b None (Some (client_match e))) kind);
+        calls = index_in indexed_call match_cmp matches_total e (call_match e) es (es ++ e ∷ []) ts o t.calls (gains_last e es) (ap (λ b. cond b (Some (call_match e)) None) kind) called;
+        due = index_in indexed_deadline deadline_cmp deadlines_total e (deadline_key e) es (es ++ e ∷ []) ds q t.due (gains_last e es) refl due;
+        server_count = omega (arith, length-insert ss p (server_match e) le, t.server_count, one);
         client_count = omega (arith, t.client_count, none);
       }
 
-  pub client_more : (p q : ℕ) → e.is_server ≡ false → p ≤ length cs → Place name_cmp names_total p (client_named e) cs → Place waits_cmp waits_total q (waits e) ds → AreTables (es ++ e ∷ []) ss (insert cs p (client_named e)) ts (insert ds q (waits e))
+  pub client_more : (p q : ℕ) → e.is_server ≡ false → p ≤ length cs → Place match_cmp matches_total p (client_match e) cs → Place deadline_cmp deadlines_total q (deadline_key e) ds → AreTables (es ++ e ∷ []) ss (insert cs p (client_match e)) ts (insert ds q (deadline_key e))
   client_more p q kind le place due =
-      let none : count_by is_a_server (es ++ e ∷ []) ≡ count_by is_a_server es + 0 = counted is_a_server false kind in
-      let one : count_by is_a_client (es ++ e ∷ []) ≡ count_by is_a_client es + 1 = counted is_a_client true (ap not kind) in
+      let none : count_by is_a_server (es ++ e ∷ []) ≡ count_by is_a_server es + 0 = scheduled_moment is_a_server false kind in
+      let one : count_by is_a_client (es ++ e ∷ []) ≡ count_by is_a_client es + 1 = scheduled_moment is_a_client true (ap not kind) in
       record {
         rises = rises_last es e t.rises above;
-        servers = index_past server_name name_cmp names_total e es (es ++ e ∷ []) ss t.servers (gains_last e es) (ap (λ b. cond b (Some (server_named e)) None) kind);
-        clients = index_in client_name name_cmp names_total e (client_named e) es (es ++ e ∷ []) cs p t.clients (gains_last e es) (ap (λ b. cond b None (Some (client_named e))) kind) place;
-        calls = index_past call_name name_cmp names_total e es (es ++ e ∷ []) ts t.calls (gains_last e es) (ap (λ b. cond b (Some (call_named e)) None) kind);
-        due = index_in waiting waits_cmp waits_total e (waits e) es (es ++ e ∷ []) ds q t.due (gains_last e es) refl due;
+        servers = index_past indexed_server match_cmp matches_total e es (es ++ e ∷ []) ss t.servers (gains_last e es) (ap (λ b. cond b (Some (server_match e)) None) kind);
+        clients = index_in indexed_client match_cmp matches_total e (client_match e) es (es ++ e ∷ []) cs p t.clients (gains_last e es) (ap (λ b. cond b None (Some (client_match e))) kind) place;
+        calls = index_past indexed_call match_cmp matches_total e es (es ++ e ∷ []) ts t.calls (gains_last e es) (ap (λ b. cond b (Some (call_match e)) None) kind);
+        due = index_in indexed_deadline deadline_cmp deadlines_total e (deadline_key e) es (es ++ e ∷ []) ds q t.due (gains_last e es) refl due;
         server_count = omega (arith, t.server_count, none);
-        client_count = omega (arith, length-insert cs p (client_named e) le, t.client_count, one);
+        client_count = omega (arith, length-insert cs p (client_match e) le, t.client_count, one);
       }

@@ -4,8 +4,8 @@ use Rattle.std.specs.Prelude.{decimal}
 use Rattle.std.proofs.Math.Nat.{min-eq_left}
 use Rattle.std.proofs.lemmas.Fmt.{decimal_injective}
 use Rattle.std.proofs.lemmas.List.{append_cancel_left}
-use Rattle.mmtel_scan.specs.Numbers.{next_number}
-use Rattle.mmtel_transaction.specs.Laws.{TokensDiffer}
+use Rattle.mmtel_base.specs.Numbers.{next_number}
+use Rattle.mmtel_transaction.specs.Theorems.{TokensDiffer}
 
 next_is : (n : ℕ) → n < 2 ^ 64 - 1 → next_number n ≡ n + 1
 next_is n l = min-eq_left (omega (arith, l))

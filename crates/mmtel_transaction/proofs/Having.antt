@@ -6,8 +6,8 @@ use Rattle.std.proofs.lemmas.Bool.{eq-eqb, eqb-true, false_from_ne_true}
 use Rattle.std.proofs.lemmas.Option.{none-some, same_Some}
 use Rattle.mmtel_timers.specs.Shelves.{Has}
 use Rattle.mmtel_transaction.specs.declared.entries.Entry.{Entry}
-use Rattle.mmtel_transaction.specs.Calls.{Done, DidBegin, DidHear, DidAsk, DidReply, DidAck, DidFire, DidSettle, change, entry_of, is_live, live, offers, opened, opens, step_of}
-use Rattle.mmtel_transaction.specs.Answers.{by_key, is_of}
+use Rattle.mmtel_transaction.specs.Operations.{TransactionOp, DidBegin, DidHear, DidAsk, DidReply, DidAck, DidFire, DidSettle, change, entry_of, is_live, live, send_count, openings, opens, step_of}
+use Rattle.mmtel_transaction.specs.Results.{by_key, is_of}
 use Rattle.mmtel_transaction.specs.Runs.{IsRun}
 use Rattle.mmtel_transaction.proofs.Lists.{Rising, live_more, rising}
 
@@ -92,40 +92,40 @@ alone lo hi (y ∷ es) e x r (inl p) (inr h) k = let w : e.key ≡ y.key = ap (�
 alone lo hi (y ∷ es) e x r (inr g) (inl q) k = let w : x.key ≡ y.key = ap (λ (z : Entry). z.key) q in absurd (omega (arith, k, w, above (suc y.key) hi es e r.1 g))
 alone lo hi (y ∷ es) e x r (inr g) (inr h) k = alone (suc y.key) hi es e x r.1 g h k
 
-pub same_entry : (h : List Done) (e x : Entry) → Has e (live h) → Has x (live h) → e.key ≡ x.key → e ≡ x
-same_entry h e x = alone 0 (length (opened h)) (live h) e x (rising h)
+pub same_entry : (h : List TransactionOp) (e x : Entry) → Has e (live h) → Has x (live h) → e.key ≡ x.key → e ≡ x
+same_entry h e x = alone 0 (length (openings h)) (live h) e x (rising h)
 
-pub at_key : (h : List Done) (e : Entry) → Has e (live h) → by_key e.key (live h) ≡ Some e
+pub at_key : (h : List TransactionOp) (e : Entry) → Has e (live h) → by_key e.key (live h) ≡ Some e
 at_key h e g =
     let w = finds (is_of e.key) e (live h) g (eq-eqb e.key e.key refl) in
     let x : Entry = w.0 in
     let v = found_in (is_of e.key) x (live h) w.1 in
     w.1 ∙ ap Some (same_entry h x e v.0 g (eqb-true x.key e.key v.1))
 
-pub of_key : (h : List Done) (k : ℕ) (e : Entry) → by_key k (live h) ≡ Some e → Has e (live h) × (e.key ≡ k)
+pub of_key : (h : List TransactionOp) (k : ℕ) (e : Entry) → by_key k (live h) ≡ Some e → Has e (live h) × (e.key ≡ k)
 of_key h k e q = let v = found_in (is_of k) e (live h) q in (v.0, eqb-true e.key k v.1)
 
 -- one more operation
-pub has_live : (h : List Done) (e : Entry) → Has e (live h) → is_live e ≡ true
-has_live h e g = (has_filter_back is_live e (map (entry_of h) (opened h)) g).1
+pub has_live : (h : List TransactionOp) (e : Entry) → Has e (live h) → is_live e ≡ true
+has_live h e g = (has_filter_back is_live e (map (entry_of h) (openings h)) g).1
 
-pub has_more : (c : Done) (h : List Done) (e : Entry) → Has e (live h) → is_live (change (step_of h) (offers h) c e) ≡ true → Has (change (step_of h) (offers h) c e) (live (c ∷ h))
+pub has_more : (c : TransactionOp) (h : List TransactionOp) (e : Entry) → Has e (live h) → is_live (change (step_of h) (send_count h) c e) ≡ true → Has (change (step_of h) (send_count h) c e) (live (c ∷ h))
 has_more c h e g l =
-    let f = change (step_of h) (offers h) c in
-    subst (λ es. Has (f e) es) (sym (live_more c h)) (has_left (f e) (filter is_live (map f (live h))) (opens (step_of h) (offers h) (length (opened h)) c) (has_filter is_live (f e) (map f (live h)) (has_map f e (live h) g) l))
+    let f = change (step_of h) (send_count h) c in
+    subst (λ es. Has (f e) es) (sym (live_more c h)) (has_left (f e) (filter is_live (map f (live h))) (opens (step_of h) (send_count h) (length (openings h)) c) (has_filter is_live (f e) (map f (live h)) (has_map f e (live h) g) l))
 
-pub has_new : (c : Done) (h : List Done) (e : Entry) → Has e (opens (step_of h) (offers h) (length (opened h)) c) → Has e (live (c ∷ h))
-has_new c h e g = subst (λ es. Has e es) (sym (live_more c h)) (has_right e (filter is_live (map (change (step_of h) (offers h) c) (live h))) (opens (step_of h) (offers h) (length (opened h)) c) g)
+pub has_new : (c : TransactionOp) (h : List TransactionOp) (e : Entry) → Has e (opens (step_of h) (send_count h) (length (openings h)) c) → Has e (live (c ∷ h))
+has_new c h e g = subst (λ es. Has e es) (sym (live_more c h)) (has_right e (filter is_live (map (change (step_of h) (send_count h) c) (live h))) (opens (step_of h) (send_count h) (length (openings h)) c) g)
 
-pub has_more_back : (c : Done) (h : List Done) (e : Entry) → Has e (live (c ∷ h)) → ((x : Entry) × Has x (live h) × (e ≡ change (step_of h) (offers h) c x)) ⊎ Has e (opens (step_of h) (offers h) (length (opened h)) c)
+pub has_more_back : (c : TransactionOp) (h : List TransactionOp) (e : Entry) → Has e (live (c ∷ h)) → ((x : Entry) × Has x (live h) × (e ≡ change (step_of h) (send_count h) c x)) ⊎ Has e (opens (step_of h) (send_count h) (length (openings h)) c)
 has_more_back c h e g =
-    let f = change (step_of h) (offers h) c in
-    elim (has_append_back e (filter is_live (map f (live h))) (opens (step_of h) (offers h) (length (opened h)) c) (subst (λ es. Has e es) (live_more c h) g)) [
+    let f = change (step_of h) (send_count h) c in
+    elim (has_append_back e (filter is_live (map f (live h))) (opens (step_of h) (send_count h) (length (openings h)) c) (subst (λ es. Has e es) (live_more c h) g)) [
       | inl a ↦ inl (has_map_back f e (live h) (has_filter_back is_live e (map f (live h)) a).0)
       | inr b ↦ inr b
     ]
 
-pub run_before : (c : Done) (h : List Done) → IsRun (c ∷ h) → IsRun h
+pub run_before : (c : TransactionOp) (h : List TransactionOp) → IsRun (c ∷ h) → IsRun h
 run_before (DidBegin n) h r = r
 run_before (DidHear p m now t) h r = r.1
 run_before (DidAsk p m now) h r = r

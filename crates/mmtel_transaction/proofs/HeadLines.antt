@@ -3,17 +3,17 @@ use Rattle.std.proofs.Common.{◌≡◌, ℕ, ◌+◌, List, [], ◌∷◌, leng
 use Rattle.std.specs.Prelude.{count_by, ◌==◌}
 use Rattle.std.specs.Option.{option_map}
 use Rattle.std.proofs.lemmas.List.Recursion.{is_count_by}
-use Rattle.mmtel_scan.specs.Chain.{◌>>=◌}
+use Rattle.mmtel_base.specs.Chain.{◌>>=◌}
 use Rattle.mmtel_lex.specs.Reading.{name_addr_of}
 use Rattle.mmtel_lex.specs.declared.values.NameAddr.{NameAddr}
-use Rattle.mmtel_message.specs.Fields.{call_in, cseq_at, filled, five_at, first_part, only_value, parties_in, party_in, via_at, via_in}
-use Rattle.mmtel_message.specs.Message.{Message, first_value, is_line, named}
+use Rattle.mmtel_message.specs.Fields.{call_in, cseq_at, if_not_empty, five_at, first_part, only_value, parties_in, party_in, via_at, via_in}
+use Rattle.mmtel_message.specs.Message.{Message, first_value, is_line, lines_named}
 use Rattle.mmtel_message.specs.declared.fields.CSeq.{CSeq}
 use Rattle.mmtel_message.specs.declared.fields.Via.{Via}
 use Rattle.mmtel_message.specs.declared.messages.Start.{Start}
 use Rattle.mmtel_message.specs.declared.messages.Start.TheVariants.{Request, Status}
 use Rattle.mmtel_transaction.specs.Heads.{code_of, head_of, head_with, is_request, method_of, param_text}
-use Rattle.mmtel_transaction.specs.HeadsRead.{HeadsRestOnFields, HeadsRestOnFiveNames, LinesAlike, ReadAlike, start_read, tag_read, via_read}
+use Rattle.mmtel_transaction.specs.HeadsRead.{HeadsRestOnFields, HeadsRestOnFiveNames, LinesEquivalent, ReadEquivalent, start_read, tag_read, via_read}
 use Rattle.mmtel_transaction.specs.declared.heads.Head.{Head}
 
 abbrev Lines : Type 0
@@ -85,9 +85,9 @@ first_if : (b : Bool) (name : List ℕ) (l : List ℕ × List ℕ) (ls xs : Line
 first_if true name l ls xs q = refl
 first_if false name l ls xs q = q
 
-first_named : (name : List ℕ) (ls : Lines) → first_value name ls ≡ first_in (named name ls)
+first_named : (name : List ℕ) (ls : Lines) → first_value name ls ≡ first_in (lines_named name ls)
 first_named name [] = refl
-first_named name (l ∷ ls) = first_if (is_line name l) name l ls (named name ls) (first_named name ls)
+first_named name (l ∷ ls) = first_if (is_line name l) name l ls (lines_named name ls) (first_named name ls)
 
 tally : (b : Bool) (l : List ℕ × List ℕ) (xs : Lines) → length (cond b (l ∷ xs) xs) ≡ cond b (1 + length xs) (length xs)
 tally true l xs = omega arith
@@ -96,31 +96,31 @@ tally false l xs = refl
 abbrev only_in : Lines → Option (List ℕ)
 only_in ls = cond (length ls == 1) (first_in ls) None
 
-one_of : (name : List ℕ) (ls : Lines) → only_value name ls ≡ only_in (named name ls)
+one_of : (name : List ℕ) (ls : Lines) → only_value name ls ≡ only_in (lines_named name ls)
 one_of name ls =
-    let n : length (named name ls) ≡ count_by (λ l. is_line name l) ls = is_count_by (λ xs. length (named name xs)) (λ l. is_line name l) refl (λ x xs. tally (is_line name x) x (named name xs)) ls in
+    let n : length (lines_named name ls) ≡ count_by (λ l. is_line name l) ls = is_count_by (λ xs. length (lines_named name xs)) (λ l. is_line name l) refl (λ x xs. tally (is_line name x) x (lines_named name xs)) ls in
     rw (sym n, first_named name ls) refl
 
-one_alike : (name : List ℕ) (ls ks : Lines) → named name ls ≡ named name ks → only_value name ls ≡ only_value name ks
+one_alike : (name : List ℕ) (ls ks : Lines) → lines_named name ls ≡ lines_named name ks → only_value name ls ≡ only_value name ks
 one_alike name ls ks q = one_of name ls ∙ (ap only_in q ∙ sym (one_of name ks))
 
-first_alike : (name : List ℕ) (ls ks : Lines) → named name ls ≡ named name ks → first_value name ls ≡ first_value name ks
+first_alike : (name : List ℕ) (ls ks : Lines) → lines_named name ls ≡ lines_named name ks → first_value name ls ≡ first_value name ks
 first_alike name ls ks q = first_named name ls ∙ (ap first_in q ∙ sym (first_named name ks))
 
-tag_alike : (name : List ℕ) (ls ks : Lines) → named name ls ≡ named name ks → tag_read name ls ≡ tag_read name ks
+tag_alike : (name : List ℕ) (ls ks : Lines) → lines_named name ls ≡ lines_named name ks → tag_read name ls ≡ tag_read name ks
 tag_alike name ls ks q = ap (λ (o : Option (List ℕ)). tag_of (o >>= λ v. name_addr_of v)) (one_alike name ls ks q)
 
 abbrev call_by : Option (List ℕ) → Option (List ℕ) → Option (List ℕ × CSeq)
-call_by i c = i >>= λ s. filled s >>= λ id. c >>= λ t. cseq_at t >>= λ x. Some (id, x)
+call_by i c = i >>= λ s. if_not_empty s >>= λ id. c >>= λ t. cseq_at t >>= λ x. Some (id, x)
 
 call_is : (ls : Lines) → call_in ls ≡ call_by (only_value (codes "Call-ID") ls) (only_value (codes "CSeq") ls)
 unfolding call_in
 call_is ls = refl
 
-call_alike : (ls ks : Lines) → named (codes "Call-ID") ls ≡ named (codes "Call-ID") ks → named (codes "CSeq") ls ≡ named (codes "CSeq") ks → call_in ls ≡ call_in ks
+call_alike : (ls ks : Lines) → lines_named (codes "Call-ID") ls ≡ lines_named (codes "Call-ID") ks → lines_named (codes "CSeq") ls ≡ lines_named (codes "CSeq") ks → call_in ls ≡ call_in ks
 call_alike ls ks i c = call_is ls ∙ (ap (λ o. call_by o (only_value (codes "CSeq") ls)) (one_alike (codes "Call-ID") ls ks i) ∙ (ap (call_by (only_value (codes "Call-ID") ks)) (one_alike (codes "CSeq") ls ks c) ∙ sym (call_is ks)))
 
-read_alike : (m n : Message Start) → LinesAlike m n → ReadAlike m n
+read_alike : (m n : Message Start) → LinesEquivalent m n → ReadEquivalent m n
 read_alike m n l = record {
   start = l.start;
   via = ap (λ (o : Option (List ℕ)). place_of (o >>= λ v. via_at (first_part v))) (first_alike (codes "Via") m.lines n.lines l.via);

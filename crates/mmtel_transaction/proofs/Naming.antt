@@ -14,23 +14,23 @@ use Rattle.std.proofs.lemmas.Bool.Decides.{nat_tests}
 use Rattle.std.proofs.lemmas.Cmp.{nat_cmp_total, nat_list_cmp_total, on_total, ranked, then_total, tied_itself}
 use Rattle.std.proofs.lemmas.Option.{none-some, same_Some}
 use Rattle.std.proofs.lemmas.Slice.Eq.{bytes_eq-Decides}
-use Rattle.mmtel_timers.specs.Shelves.{answer, comes_before, IsIndex, Rises}
-use Rattle.mmtel_timers.proofs.Looked.{looked}
+use Rattle.mmtel_timers.specs.Shelves.{lookup_result, comes_before, IsIndex, Rises}
+use Rattle.mmtel_timers.proofs.Lookups.{looked}
 use Rattle.mmtel_transaction.specs.declared.entries.Entry.{Entry}
-use Rattle.mmtel_transaction.specs.declared.names.Name.{Name}
-use Rattle.mmtel_transaction.specs.declared.names.Waits.{Waits}
-use Rattle.mmtel_transaction.specs.Answers.{is_client_named, is_server_named}
-use Rattle.mmtel_transaction.specs.Indexes.{client_name, client_named, has_name, name_cmp, named, said_cmp, server_name, server_named, waits_cmp}
-use Rattle.mmtel_transaction.specs.Told.{told_of}
+use Rattle.mmtel_transaction.specs.declared.match_keys.MatchKey.{MatchKey}
+use Rattle.mmtel_transaction.specs.declared.match_keys.DeadlineKey.{DeadlineKey}
+use Rattle.mmtel_transaction.specs.Results.{is_client_with, is_server_with}
+use Rattle.mmtel_transaction.specs.Indexes.{client_match, deadline_cmp, indexed_client, indexed_server, is_same_match, match_cmp, match_key, server_match, text_cmp}
+use Rattle.mmtel_transaction.specs.Hashes.{hash_of}
 
-said_total : IsTotalOrder said_cmp
-said_total = then_total (on_total (λ (x : Name). x.id) nat_list_cmp_total) (then_total (on_total (λ (x : Name). x.from) nat_list_cmp_total) (then_total (on_total (λ (x : Name). x.method) nat_list_cmp_total) (then_total (on_total (λ (x : Name). x.number) nat_cmp_total) (on_total (λ (x : Name). x.key) nat_cmp_total))))
+said_total : IsTotalOrder text_cmp
+said_total = then_total (on_total (λ (x : MatchKey). x.id) nat_list_cmp_total) (then_total (on_total (λ (x : MatchKey). x.from) nat_list_cmp_total) (then_total (on_total (λ (x : MatchKey). x.method) nat_list_cmp_total) (then_total (on_total (λ (x : MatchKey). x.number) nat_cmp_total) (on_total (λ (x : MatchKey). x.key) nat_cmp_total))))
 
-pub names_total : IsTotalOrder name_cmp
-names_total = then_total (on_total (λ (x : Name). x.told) nat_cmp_total) said_total
+pub matches_total : IsTotalOrder match_cmp
+matches_total = then_total (on_total (λ (x : MatchKey). x.hash) nat_cmp_total) said_total
 
-pub waits_total : IsTotalOrder waits_cmp
-waits_total = then_total (on_total (λ (x : Waits). x.at) nat_cmp_total) (then_total (on_total (λ (x : Waits). x.step) nat_cmp_total) (then_total (on_total (λ (x : Waits). x.order) nat_cmp_total) (on_total (λ (x : Waits). x.key) nat_cmp_total)))
+pub deadlines_total : IsTotalOrder deadline_cmp
+deadlines_total = then_total (on_total (λ (x : DeadlineKey). x.at) nat_cmp_total) (then_total (on_total (λ (x : DeadlineKey). x.step) nat_cmp_total) (then_total (on_total (λ (x : DeadlineKey). x.order) nat_cmp_total) (on_total (λ (x : DeadlineKey). x.key) nat_cmp_total)))
 
 -- lists that are equal in order are equal
 same_first : (x y : ℕ) (xs ys : List ℕ) (r : Ordering) → r ≡ nat_cmp x y → ordering_then r (slice_cmp nat_cmp xs ys) ≡ Equal → (slice_cmp nat_cmp xs ys ≡ Equal → xs ≡ ys) → x ∷ xs ≡ y ∷ ys
@@ -59,32 +59,32 @@ decided Equal Equal Equal Equal Greater k z l n = absurd cc
 decided Equal Equal Equal Equal Equal k z l n = (refl, refl, refl, refl, refl, l)
 
 module _ (b s m : List ℕ) (n : ℕ) where
-  abbrev bound : Name
-  bound = named b s m n 0
+  abbrev bound : MatchKey
+  bound = match_key b s m n 0
 
-  pub record Alike (x : Name) : Type 0 where
-    pub told : x.told ≡ told_of b
+  pub record Equivalent (x : MatchKey) : Type 0 where
+    pub told : x.hash ≡ hash_of b
     pub id : x.id ≡ b
     pub from : x.from ≡ s
     pub method : x.method ≡ m
     pub number : x.number ≡ n
 
-  pub alike : (x : Name) → has_name bound x ≡ true → Alike x
+  pub alike : (x : MatchKey) → is_same_match bound x ≡ true → Equivalent x
   alike x h =
-      let o = and_parts ((x.told == told_of b) && bytes_eq x.id b && bytes_eq x.from s && bytes_eq x.method m) (x.number == n) h in
-      let p = and_parts ((x.told == told_of b) && bytes_eq x.id b && bytes_eq x.from s) (bytes_eq x.method m) o.0 in
-      let q = and_parts ((x.told == told_of b) && bytes_eq x.id b) (bytes_eq x.from s) p.0 in
-      let r = and_parts (x.told == told_of b) (bytes_eq x.id b) q.0 in
+      let o = and_parts ((x.hash == hash_of b) && bytes_eq x.id b && bytes_eq x.from s && bytes_eq x.method m) (x.number == n) h in
+      let p = and_parts ((x.hash == hash_of b) && bytes_eq x.id b && bytes_eq x.from s) (bytes_eq x.method m) o.0 in
+      let q = and_parts ((x.hash == hash_of b) && bytes_eq x.id b) (bytes_eq x.from s) p.0 in
+      let r = and_parts (x.hash == hash_of b) (bytes_eq x.id b) q.0 in
       record {
-        told = eqb-true x.told (told_of b) r.0;
+        told = eqb-true x.hash (hash_of b) r.0;
         id = (bytes_eq-Decides x.id b).0 r.1;
         from = (bytes_eq-Decides x.from s).0 q.1;
         method = (bytes_eq-Decides x.method m).0 p.1;
         number = eqb-true x.number n o.1;
       }
 
-  pub hits : (x : Name) → x.told ≡ told_of b → x.id ≡ b → x.from ≡ s → x.method ≡ m → x.number ≡ n → has_name bound x ≡ true
-  hits x u p q r t = and_from _ _ (and_from _ _ (and_from _ _ (and_from _ _ (eq-eqb x.told (told_of b) u) ((bytes_eq-Decides x.id b).1 p)) ((bytes_eq-Decides x.from s).1 q)) ((bytes_eq-Decides x.method m).1 r)) (eq-eqb x.number n t)
+  pub hits : (x : MatchKey) → x.hash ≡ hash_of b → x.id ≡ b → x.from ≡ s → x.method ≡ m → x.number ≡ n → is_same_match bound x ≡ true
+  hits x u p q r t = and_from _ _ (and_from _ _ (and_from _ _ (and_from _ _ (eq-eqb x.hash (hash_of b) u) ((bytes_eq-Decides x.id b).1 p)) ((bytes_eq-Decides x.from s).1 q)) ((bytes_eq-Decides x.method m).1 r)) (eq-eqb x.number n t)
 
   not_less : (k : ℕ) → is_lt (nat_cmp k 0) ≡ false
   not_less k = let w : nat_lt k 0 ≡ false = grind (arith, nat_tests) in rw w (either (nat_eq k 0))
@@ -96,11 +96,11 @@ module _ (b s m : List ℕ) (n : ℕ) where
   same_parts : (o a c d e k : Ordering) → o ≡ Equal → a ≡ Equal → c ≡ Equal → d ≡ Equal → e ≡ Equal → is_lt k ≡ false → is_lt (ordering_then o (ordering_then a (ordering_then c (ordering_then d (ordering_then e k))))) ≡ false
   same_parts o a c d e k u p q r t l = rw (u, p, q, r, t) l
 
-  pub not_before : (x : Name) → has_name bound x ≡ true → comes_before name_cmp bound x ≡ false
+  pub not_before : (x : MatchKey) → is_same_match bound x ≡ true → comes_before match_cmp bound x ≡ false
   not_before x h =
       let a = alike x h in
-      same_parts (nat_cmp x.told (told_of b)) (slice_cmp nat_cmp x.id b) (slice_cmp nat_cmp x.from s) (slice_cmp nat_cmp x.method m) (nat_cmp x.number n) (nat_cmp x.key 0)
-      (ap (λ y. nat_cmp y (told_of b)) a.told ∙ tied_itself nat_cmp_total (told_of b))
+      same_parts (nat_cmp x.hash (hash_of b)) (slice_cmp nat_cmp x.id b) (slice_cmp nat_cmp x.from s) (slice_cmp nat_cmp x.method m) (nat_cmp x.number n) (nat_cmp x.key 0)
+      (ap (λ y. nat_cmp y (hash_of b)) a.told ∙ tied_itself nat_cmp_total (hash_of b))
       (ap (λ y. slice_cmp nat_cmp y b) a.id ∙ tied_itself nat_list_cmp_total b)
       (ap (λ y. slice_cmp nat_cmp y s) a.from ∙ tied_itself nat_list_cmp_total s)
       (ap (λ y. slice_cmp nat_cmp y m) a.method ∙ tied_itself nat_list_cmp_total m)
@@ -108,74 +108,74 @@ module _ (b s m : List ℕ) (n : ℕ) where
       (not_less x.key)
 
   -- for one with the same parts the bound says the same
-  as_bound : (x y : Name) → Alike x → name_cmp y x ≡ Less → ordering_then (nat_cmp y.told (told_of b)) (ordering_then (slice_cmp nat_cmp y.id b) (ordering_then (slice_cmp nat_cmp y.from s) (ordering_then (slice_cmp nat_cmp y.method m) (ordering_then (nat_cmp y.number n) (nat_cmp y.key x.key))))) ≡ Less
+  as_bound : (x y : MatchKey) → Equivalent x → match_cmp y x ≡ Less → ordering_then (nat_cmp y.hash (hash_of b)) (ordering_then (slice_cmp nat_cmp y.id b) (ordering_then (slice_cmp nat_cmp y.from s) (ordering_then (slice_cmp nat_cmp y.method m) (ordering_then (nat_cmp y.number n) (nat_cmp y.key x.key))))) ≡ Less
   as_bound x y a l =
-      ap (λ z. ordering_then (nat_cmp y.told z) (ordering_then (slice_cmp nat_cmp y.id b) (ordering_then (slice_cmp nat_cmp y.from s) (ordering_then (slice_cmp nat_cmp y.method m) (ordering_then (nat_cmp y.number n) (nat_cmp y.key x.key)))))) (sym a.told)
-      ∙ (ap (λ z. ordering_then (nat_cmp y.told x.told) (ordering_then (slice_cmp nat_cmp y.id z) (ordering_then (slice_cmp nat_cmp y.from s) (ordering_then (slice_cmp nat_cmp y.method m) (ordering_then (nat_cmp y.number n) (nat_cmp y.key x.key)))))) (sym a.id)
-      ∙ (ap (λ z. ordering_then (nat_cmp y.told x.told) (ordering_then (slice_cmp nat_cmp y.id x.id) (ordering_then (slice_cmp nat_cmp y.from z) (ordering_then (slice_cmp nat_cmp y.method m) (ordering_then (nat_cmp y.number n) (nat_cmp y.key x.key)))))) (sym a.from)
-      ∙ (ap (λ z. ordering_then (nat_cmp y.told x.told) (ordering_then (slice_cmp nat_cmp y.id x.id) (ordering_then (slice_cmp nat_cmp y.from x.from) (ordering_then (slice_cmp nat_cmp y.method z) (ordering_then (nat_cmp y.number n) (nat_cmp y.key x.key)))))) (sym a.method)
-      ∙ (ap (λ z. ordering_then (nat_cmp y.told x.told) (ordering_then (slice_cmp nat_cmp y.id x.id) (ordering_then (slice_cmp nat_cmp y.from x.from) (ordering_then (slice_cmp nat_cmp y.method x.method) (ordering_then (nat_cmp y.number z) (nat_cmp y.key x.key)))))) (sym a.number) ∙ l))))
+      ap (λ z. ordering_then (nat_cmp y.hash z) (ordering_then (slice_cmp nat_cmp y.id b) (ordering_then (slice_cmp nat_cmp y.from s) (ordering_then (slice_cmp nat_cmp y.method m) (ordering_then (nat_cmp y.number n) (nat_cmp y.key x.key)))))) (sym a.told)
+      ∙ (ap (λ z. ordering_then (nat_cmp y.hash x.hash) (ordering_then (slice_cmp nat_cmp y.id z) (ordering_then (slice_cmp nat_cmp y.from s) (ordering_then (slice_cmp nat_cmp y.method m) (ordering_then (nat_cmp y.number n) (nat_cmp y.key x.key)))))) (sym a.id)
+      ∙ (ap (λ z. ordering_then (nat_cmp y.hash x.hash) (ordering_then (slice_cmp nat_cmp y.id x.id) (ordering_then (slice_cmp nat_cmp y.from z) (ordering_then (slice_cmp nat_cmp y.method m) (ordering_then (nat_cmp y.number n) (nat_cmp y.key x.key)))))) (sym a.from)
+      ∙ (ap (λ z. ordering_then (nat_cmp y.hash x.hash) (ordering_then (slice_cmp nat_cmp y.id x.id) (ordering_then (slice_cmp nat_cmp y.from x.from) (ordering_then (slice_cmp nat_cmp y.method z) (ordering_then (nat_cmp y.number n) (nat_cmp y.key x.key)))))) (sym a.method)
+      ∙ (ap (λ z. ordering_then (nat_cmp y.hash x.hash) (ordering_then (slice_cmp nat_cmp y.id x.id) (ordering_then (slice_cmp nat_cmp y.from x.from) (ordering_then (slice_cmp nat_cmp y.method x.method) (ordering_then (nat_cmp y.number z) (nat_cmp y.key x.key)))))) (sym a.number) ∙ l))))
 
-  pub between : (y x : Name) → comes_before name_cmp bound y ≡ false → has_name bound x ≡ true → name_cmp y x ≡ Less → (has_name bound y ≡ true) × (y.key < x.key)
+  pub between : (y x : MatchKey) → comes_before match_cmp bound y ≡ false → is_same_match bound x ≡ true → match_cmp y x ≡ Less → (is_same_match bound y ≡ true) × (y.key < x.key)
   between y x t h l =
       let a = alike x h in
-      let l : ordering_then (nat_cmp y.told (told_of b)) (ordering_then (slice_cmp nat_cmp y.id b) (ordering_then (slice_cmp nat_cmp y.from s) (ordering_then (slice_cmp nat_cmp y.method m) (ordering_then (nat_cmp y.number n) (nat_cmp y.key x.key))))) ≡ Less = as_bound x y a l in
-      let d = decided (nat_cmp y.told (told_of b)) (slice_cmp nat_cmp y.id b) (slice_cmp nat_cmp y.from s) (slice_cmp nat_cmp y.method m) (nat_cmp y.number n) (nat_cmp y.key x.key) (nat_cmp y.key 0) l t in
-      (hits y (ranked y.told (told_of b) Equal (sym d.0)) (same_list y.id b d.1) (same_list y.from s d.2) (same_list y.method m d.3) (ranked y.number n Equal (sym d.4)), ranked y.key x.key Less (sym d.5))
+      let l : ordering_then (nat_cmp y.hash (hash_of b)) (ordering_then (slice_cmp nat_cmp y.id b) (ordering_then (slice_cmp nat_cmp y.from s) (ordering_then (slice_cmp nat_cmp y.method m) (ordering_then (nat_cmp y.number n) (nat_cmp y.key x.key))))) ≡ Less = as_bound x y a l in
+      let d = decided (nat_cmp y.hash (hash_of b)) (slice_cmp nat_cmp y.id b) (slice_cmp nat_cmp y.from s) (slice_cmp nat_cmp y.method m) (nat_cmp y.number n) (nat_cmp y.key x.key) (nat_cmp y.key 0) l t in
+      (hits y (ranked y.hash (hash_of b) Equal (sym d.0)) (same_list y.id b d.1) (same_list y.from s d.2) (same_list y.method m d.3) (ranked y.number n Equal (sym d.4)), ranked y.key x.key Less (sym d.5))
 
 -- equal bytes have the same hash
-pub told_alike : (bytes others : List ℕ) → bytes_eq bytes others ≡ true → (told_of bytes == told_of others) ≡ true
-told_alike bytes others q = eq-eqb (told_of bytes) (told_of others) (ap told_of ((bytes_eq-Decides bytes others).0 q))
+pub hash_same : (bytes others : List ℕ) → bytes_eq bytes others ≡ true → (hash_of bytes == hash_of others) ≡ true
+hash_same bytes others q = eq-eqb (hash_of bytes) (hash_of others) (ap hash_of ((bytes_eq-Decides bytes others).0 q))
 
 -- of servers
 module _ (b s m : List ℕ) where
-  server_item : (e : Entry) → is_server_named b s m e ≡ true → (x : Name) × (server_name e ≡ Some x) × (has_name (named b s m 0 0) x ≡ true)
+  server_item : (e : Entry) → is_server_with b s m e ≡ true → (x : MatchKey) × (indexed_server e ≡ Some x) × (is_same_match (match_key b s m 0 0) x ≡ true)
   server_item e q =
-      let p = and_parts (e.is_server && bytes_eq e.asked.branch b && bytes_eq e.asked.sent_by s) (bytes_eq e.asked.method m) q in
-      let r = and_parts (e.is_server && bytes_eq e.asked.branch b) (bytes_eq e.asked.sent_by s) p.0 in
-      let t = and_parts e.is_server (bytes_eq e.asked.branch b) r.0 in
-      (server_named e, ap (λ c. cond c (Some (server_named e)) None) t.0, and_from _ _ (and_from _ _ (and_from _ _ (and_from _ _ (told_alike e.asked.branch b t.1) t.1) r.1) p.1) refl)
+      let p = and_parts (e.is_server && bytes_eq e.head.branch b && bytes_eq e.head.sent_by s) (bytes_eq e.head.method m) q in
+      let r = and_parts (e.is_server && bytes_eq e.head.branch b) (bytes_eq e.head.sent_by s) p.0 in
+      let t = and_parts e.is_server (bytes_eq e.head.branch b) r.0 in
+      (server_match e, ap (λ c. cond c (Some (server_match e)) None) t.0, and_from _ _ (and_from _ _ (and_from _ _ (and_from _ _ (hash_same e.head.branch b t.1) t.1) r.1) p.1) refl)
 
-  server_if : (e : Entry) (x : Name) (c : Bool) → e.is_server ≡ c → cond c (Some (server_named e)) None ≡ Some x → (e.is_server ≡ true) × (server_named e ≡ x)
-  server_if e x true t q = (t, same_Some (server_named e) x q)
+  server_if : (e : Entry) (x : MatchKey) (c : Bool) → e.is_server ≡ c → cond c (Some (server_match e)) None ≡ Some x → (e.is_server ≡ true) × (server_match e ≡ x)
+  server_if e x true t q = (t, same_Some (server_match e) x q)
   server_if e x false t q = absurd (none-some x q)
 
-  server_is_of : (e : Entry) (x : Name) → server_name e ≡ Some x → has_name (named b s m 0 0) x ≡ true → is_server_named b s m e ≡ true
+  server_is_of : (e : Entry) (x : MatchKey) → indexed_server e ≡ Some x → is_same_match (match_key b s m 0 0) x ≡ true → is_server_with b s m e ≡ true
   server_is_of e x q h =
       let w = server_if e x e.is_server refl q in
-      let a = alike b s m 0 (server_named e) (ap (has_name (named b s m 0 0)) w.1 ∙ h) in
-      and_from _ _ (and_from _ _ (and_from _ _ w.0 ((bytes_eq-Decides e.asked.branch b).1 a.id)) ((bytes_eq-Decides e.asked.sent_by s).1 a.from)) ((bytes_eq-Decides e.asked.method m).1 a.method)
+      let a = alike b s m 0 (server_match e) (ap (is_same_match (match_key b s m 0 0)) w.1 ∙ h) in
+      and_from _ _ (and_from _ _ (and_from _ _ w.0 ((bytes_eq-Decides e.head.branch b).1 a.id)) ((bytes_eq-Decides e.head.sent_by s).1 a.from)) ((bytes_eq-Decides e.head.method m).1 a.method)
 
-  server_number : (e : Entry) (x : Name) → server_name e ≡ Some x → x.key ≡ e.key
-  server_number e x q = ap (λ (y : Name). y.key) (sym (server_if e x e.is_server refl q).1)
+  server_number : (e : Entry) (x : MatchKey) → indexed_server e ≡ Some x → x.key ≡ e.key
+  server_number e x q = ap (λ (y : MatchKey). y.key) (sym (server_if e x e.is_server refl q).1)
 
-  pub server_looked : (es : List Entry) (xs : List Name) (p : ℕ) → IsIndex server_name name_cmp es xs → Rises (λ (e : Entry). e.key) es → IsPartitionPoint (λ x. comes_before name_cmp (named b s m 0 0) x ≡ true) (λ x. comes_before name_cmp (named b s m 0 0) x ≡ false) xs p → answer (has_name (named b s m 0 0)) (λ (x : Name). x.key) (slice_get xs p) ≡ option_map (λ (e : Entry). e.key) (find (is_server_named b s m) es)
-  server_looked = looked server_name name_cmp names_total (is_server_named b s m) (comes_before name_cmp (named b s m 0 0)) (has_name (named b s m 0 0)) (λ (e : Entry). e.key) (λ (x : Name). x.key) server_item server_is_of server_number (not_before b s m 0) (between b s m 0)
+  pub server_looked : (es : List Entry) (xs : List MatchKey) (p : ℕ) → IsIndex indexed_server match_cmp es xs → Rises (λ (e : Entry). e.key) es → IsPartitionPoint (λ x. comes_before match_cmp (match_key b s m 0 0) x ≡ true) (λ x. comes_before match_cmp (match_key b s m 0 0) x ≡ false) xs p → lookup_result (is_same_match (match_key b s m 0 0)) (λ (x : MatchKey). x.key) (slice_get xs p) ≡ option_map (λ (e : Entry). e.key) (find (is_server_with b s m) es)
+  server_looked = looked indexed_server match_cmp matches_total (is_server_with b s m) (comes_before match_cmp (match_key b s m 0 0)) (is_same_match (match_key b s m 0 0)) (λ (e : Entry). e.key) (λ (x : MatchKey). x.key) server_item server_is_of server_number (not_before b s m 0) (between b s m 0)
 
 -- of clients
 module _ (b m : List ℕ) where
-  client_item : (e : Entry) → is_client_named b m e ≡ true → (x : Name) × (client_name e ≡ Some x) × (has_name (named b [] m 0 0) x ≡ true)
+  client_item : (e : Entry) → is_client_with b m e ≡ true → (x : MatchKey) × (indexed_client e ≡ Some x) × (is_same_match (match_key b [] m 0 0) x ≡ true)
   client_item e q =
-      let p = and_parts (not e.is_server && bytes_eq e.asked.branch b) (bytes_eq e.asked.method m) q in
-      let t = and_parts (not e.is_server) (bytes_eq e.asked.branch b) p.0 in
-      (client_named e, client_there e.is_server t.0, and_from _ _ (and_from _ _ (and_from _ _ (and_from _ _ (told_alike e.asked.branch b t.1) t.1) refl) p.1) refl)
+      let p = and_parts (not e.is_server && bytes_eq e.head.branch b) (bytes_eq e.head.method m) q in
+      let t = and_parts (not e.is_server) (bytes_eq e.head.branch b) p.0 in
+      (client_match e, client_there e.is_server t.0, and_from _ _ (and_from _ _ (and_from _ _ (and_from _ _ (hash_same e.head.branch b t.1) t.1) refl) p.1) refl)
     where
-      client_there : (c : Bool) → not c ≡ true → cond c None (Some (client_named e)) ≡ Some (client_named e)
+      client_there : (c : Bool) → not c ≡ true → cond c None (Some (client_match e)) ≡ Some (client_match e)
       client_there true n = absurd cc
       client_there false n = refl
 
-  client_if : (e : Entry) (x : Name) (c : Bool) → e.is_server ≡ c → cond c None (Some (client_named e)) ≡ Some x → (not e.is_server ≡ true) × (client_named e ≡ x)
+  client_if : (e : Entry) (x : MatchKey) (c : Bool) → e.is_server ≡ c → cond c None (Some (client_match e)) ≡ Some x → (not e.is_server ≡ true) × (client_match e ≡ x)
   client_if e x true t q = absurd (none-some x q)
-  client_if e x false t q = (ap not t, same_Some (client_named e) x q)
+  client_if e x false t q = (ap not t, same_Some (client_match e) x q)
 
-  client_is_of : (e : Entry) (x : Name) → client_name e ≡ Some x → has_name (named b [] m 0 0) x ≡ true → is_client_named b m e ≡ true
+  client_is_of : (e : Entry) (x : MatchKey) → indexed_client e ≡ Some x → is_same_match (match_key b [] m 0 0) x ≡ true → is_client_with b m e ≡ true
   client_is_of e x q h =
       let w = client_if e x e.is_server refl q in
-      let a = alike b [] m 0 (client_named e) (ap (has_name (named b [] m 0 0)) w.1 ∙ h) in
-      and_from _ _ (and_from _ _ w.0 ((bytes_eq-Decides e.asked.branch b).1 a.id)) ((bytes_eq-Decides e.asked.method m).1 a.method)
+      let a = alike b [] m 0 (client_match e) (ap (is_same_match (match_key b [] m 0 0)) w.1 ∙ h) in
+      and_from _ _ (and_from _ _ w.0 ((bytes_eq-Decides e.head.branch b).1 a.id)) ((bytes_eq-Decides e.head.method m).1 a.method)
 
-  client_number : (e : Entry) (x : Name) → client_name e ≡ Some x → x.key ≡ e.key
-  client_number e x q = ap (λ (y : Name). y.key) (sym (client_if e x e.is_server refl q).1)
+  client_number : (e : Entry) (x : MatchKey) → indexed_client e ≡ Some x → x.key ≡ e.key
+  client_number e x q = ap (λ (y : MatchKey). y.key) (sym (client_if e x e.is_server refl q).1)
 
-  pub client_looked : (es : List Entry) (xs : List Name) (p : ℕ) → IsIndex client_name name_cmp es xs → Rises (λ (e : Entry). e.key) es → IsPartitionPoint (λ x. comes_before name_cmp (named b [] m 0 0) x ≡ true) (λ x. comes_before name_cmp (named b [] m 0 0) x ≡ false) xs p → answer (has_name (named b [] m 0 0)) (λ (x : Name). x.key) (slice_get xs p) ≡ option_map (λ (e : Entry). e.key) (find (is_client_named b m) es)
-  client_looked = looked client_name name_cmp names_total (is_client_named b m) (comes_before name_cmp (named b [] m 0 0)) (has_name (named b [] m 0 0)) (λ (e : Entry). e.key) (λ (x : Name). x.key) client_item client_is_of client_number (not_before b [] m 0) (between b [] m 0)
+  pub client_looked : (es : List Entry) (xs : List MatchKey) (p : ℕ) → IsIndex indexed_client match_cmp es xs → Rises (λ (e : Entry). e.key) es → IsPartitionPoint (λ x. comes_before match_cmp (match_key b [] m 0 0) x ≡ true) (λ x. comes_before match_cmp (match_key b [] m 0 0) x ≡ false) xs p → lookup_result (is_same_match (match_key b [] m 0 0)) (λ (x : MatchKey). x.key) (slice_get xs p) ≡ option_map (λ (e : Entry). e.key) (find (is_client_with b m) es)
+  client_looked = looked indexed_client match_cmp matches_total (is_client_with b m) (comes_before match_cmp (match_key b [] m 0 0)) (is_same_match (match_key b [] m 0 0)) (λ (e : Entry). e.key) (λ (x : MatchKey). x.key) client_item client_is_of client_number (not_before b [] m 0) (between b [] m 0)

@@ -13,11 +13,11 @@ use Rattle.std.proofs.lemmas.List.Folds.{find_at}
 use Rattle.std.proofs.lemmas.List.Quantifiers.{position-Some}
 use Rattle.std.proofs.lemmas.Option.{none-some, same_Some, slice_get-get_or, slice_get-map, slice_get_past}
 use Rattle.std.proofs.lemmas.List.Elements.{All-from_recursion}
-use Rattle.mmtel_timers.specs.Shelves.{Has, Rises, unboxed}
-use Rattle.mmtel_timers.proofs.Looked.{find_has, find_misses}
+use Rattle.mmtel_timers.specs.Shelves.{Has, Rises, unboxed_items}
+use Rattle.mmtel_timers.proofs.Lookups.{find_has, find_misses}
 use Rattle.mmtel_timers.proofs.Unboxed.{length_unboxed, read_unboxed, remove_unboxed}
 use Rattle.mmtel_transaction.specs.declared.entries.Entry.{Entry}
-use Rattle.mmtel_transaction.specs.Answers.{by_key, is_of}
+use Rattle.mmtel_transaction.specs.Results.{by_key, is_of}
 use Rattle.mmtel_transaction.proofs.Changing.{one_key}
 
 module _ {E : Type 0} (key : E → ℕ) where
@@ -84,22 +84,22 @@ module _ {E : Type 0} (key : E → ℕ) where
       }
 
 -- the same of boxes
-rises_boxed : {A : Type 0} (i : ℕ) (bs : List (Box Entry A)) → AllByRecursion (λ (e : Entry). i < e.key) (unboxed bs) → AllByRecursion (λ (b : Box Entry A). i < b.value.key) bs
+rises_boxed : {A : Type 0} (i : ℕ) (bs : List (Box Entry A)) → AllByRecursion (λ (e : Entry). i < e.key) (unboxed_items bs) → AllByRecursion (λ (b : Box Entry A). i < b.value.key) bs
 rises_boxed i [] a = tt
 rises_boxed i (b ∷ bs) a = (a.0, rises_boxed i bs a.1)
 
-boxes_rise : {A : Type 0} (bs : List (Box Entry A)) → Rises (λ (e : Entry). e.key) (unboxed bs) → Rises (λ (b : Box Entry A). b.value.key) bs
+boxes_rise : {A : Type 0} (bs : List (Box Entry A)) → Rises (λ (e : Entry). e.key) (unboxed_items bs) → Rises (λ (b : Box Entry A). b.value.key) bs
 boxes_rise [] r = tt
 boxes_rise (b ∷ bs) r = (rises_boxed b.value.key bs r.0, boxes_rise bs r.1)
 
-pos_unboxed : {A : Type 0} (k : ℕ) (bs : List (Box Entry A)) → position_or_len (is_of k) (unboxed bs) ≡ position_or_len (λ (b : Box Entry A). b.value.key == k) bs
+pos_unboxed : {A : Type 0} (k : ℕ) (bs : List (Box Entry A)) → position_or_len (is_of k) (unboxed_items bs) ≡ position_or_len (λ (b : Box Entry A). b.value.key == k) bs
 pos_unboxed k [] = refl
 pos_unboxed k (b ∷ bs) = ap (λ n. cond (not (b.value.key == k)) (1 + n) 0) (pos_unboxed k bs)
 
-position_unboxed : {A : Type 0} (k : ℕ) (bs : List (Box Entry A)) → position (is_of k) (unboxed bs) ≡ position (λ (b : Box Entry A). b.value.key == k) bs
-position_unboxed k bs = ap (λ n. cond (nat_lt n (length (unboxed bs))) (Some n) None) (pos_unboxed k bs) ∙ ap (λ m. cond (nat_lt (position_or_len (λ b. b.value.key == k) bs) m) (Some (position_or_len (λ b. b.value.key == k) bs)) None) (length_unboxed bs)
+position_unboxed : {A : Type 0} (k : ℕ) (bs : List (Box Entry A)) → position (is_of k) (unboxed_items bs) ≡ position (λ (b : Box Entry A). b.value.key == k) bs
+position_unboxed k bs = ap (λ n. cond (nat_lt n (length (unboxed_items bs))) (Some n) None) (pos_unboxed k bs) ∙ ap (λ m. cond (nat_lt (position_or_len (λ b. b.value.key == k) bs) m) (Some (position_or_len (λ b. b.value.key == k) bs)) None) (length_unboxed bs)
 
-pub searched_boxes : {A : Type 0} (k : ℕ) (bs : List (Box Entry A)) (r : Result ℕ ℕ) → Rises (λ (e : Entry). e.key) (unboxed bs) → IsSearchInRange r (length bs) → IsBinarySearchResult (λ (b : Box Entry A). nat_cmp b.value.key k) bs r → record { found : IfOk r (λ i. position (is_of k) (unboxed bs) ≡ Some i); absent : IfErr r (λ i. position (is_of k) (unboxed bs) ≡ None) }
+pub searched_boxes : {A : Type 0} (k : ℕ) (bs : List (Box Entry A)) (r : Result ℕ ℕ) → Rises (λ (e : Entry). e.key) (unboxed_items bs) → IsSearchInRange r (length bs) → IsBinarySearchResult (λ (b : Box Entry A). nat_cmp b.value.key k) bs r → record { found : IfOk r (λ i. position (is_of k) (unboxed_items bs) ≡ Some i); absent : IfErr r (λ i. position (is_of k) (unboxed_items bs) ≡ None) }
 searched_boxes k bs (Ok i) rises range said =
     let w = searched (λ (b : Box Entry _). b.value.key) k bs (Ok i) (boxes_rise bs rises) range said in
     record { found = position_unboxed k bs ∙ w.found; absent = tt }
@@ -108,21 +108,21 @@ searched_boxes k bs (Err i) rises range said =
     record { found = tt; absent = position_unboxed k bs ∙ w.absent }
 
 -- a box of the key, at its position
-pub placed_box : {A : Type 0} (k : ℕ) (bs : List (Box Entry A)) (i : ℕ) (b : Box Entry A) → Rises (λ (e : Entry). e.key) (unboxed bs) → i < length bs → b ≡ get_or bs i b → b.value.key ≡ k → position (is_of k) (unboxed bs) ≡ Some i
+pub placed_box : {A : Type 0} (k : ℕ) (bs : List (Box Entry A)) (i : ℕ) (b : Box Entry A) → Rises (λ (e : Entry). e.key) (unboxed_items bs) → i < length bs → b ≡ get_or bs i b → b.value.key ≡ k → position (is_of k) (unboxed_items bs) ≡ Some i
 placed_box k bs i b rises inside at same = position_unboxed k bs ∙ placed (λ (c : Box Entry _). c.value.key) k bs i b (boxes_rise bs rises) inside at same
 
-pub set_unboxed : {X A : Type 0} (bs : List (Box X A)) (i : ℕ) (b : Box X A) → unboxed (set bs i b) ≡ set (unboxed bs) i b.value
+pub set_unboxed : {X A : Type 0} (bs : List (Box X A)) (i : ℕ) (b : Box X A) → unboxed_items (set bs i b) ≡ set (unboxed_items bs) i b.value
 set_unboxed bs i b = map-set (λ c. c.value) bs i b
 
-pub push_unboxed : {X A : Type 0} (bs : List (Box X A)) (b : Box X A) → unboxed (bs ++ b ∷ []) ≡ unboxed bs ++ b.value ∷ []
+pub push_unboxed : {X A : Type 0} (bs : List (Box X A)) (b : Box X A) → unboxed_items (bs ++ b ∷ []) ≡ unboxed_items bs ++ b.value ∷ []
 push_unboxed [] b = refl
 push_unboxed (c ∷ bs) b = ap (λ xs. c.value ∷ xs) (push_unboxed bs b)
 
-pub box_at : {A : Type 0} (k : ℕ) (bs : List (Box Entry A)) (i : ℕ) (b : Box Entry A) (x : Entry) → position (is_of k) (unboxed bs) ≡ Some i → b ≡ get_or bs i b → x ≡ b.value → x ≡ get_or (unboxed bs) i x
-box_at k bs i b x at e q = read_unboxed bs i b x (unboxed bs) (position-Some (is_of k) (unboxed bs) i x at).0 e q refl
+pub box_at : {A : Type 0} (k : ℕ) (bs : List (Box Entry A)) (i : ℕ) (b : Box Entry A) (x : Entry) → position (is_of k) (unboxed_items bs) ≡ Some i → b ≡ get_or bs i b → x ≡ b.value → x ≡ get_or (unboxed_items bs) i x
+box_at k bs i b x at e q = read_unboxed bs i b x (unboxed_items bs) (position-Some (is_of k) (unboxed_items bs) i x at).0 e q refl
 
-pub removed_boxed : {X A : Type 0} (bs cs : List (Box X A)) (i : ℕ) (b : Box X A) → cs ≡ remove (set bs i b) i → unboxed cs ≡ remove (set (unboxed bs) i b.value) i
-removed_boxed bs cs i b e = ap unboxed e ∙ (remove_unboxed (set bs i b) i ∙ ap (λ xs. remove xs i) (set_unboxed bs i b))
+pub removed_boxed : {X A : Type 0} (bs cs : List (Box X A)) (i : ℕ) (b : Box X A) → cs ≡ remove (set bs i b) i → unboxed_items cs ≡ remove (set (unboxed_items bs) i b.value) i
+removed_boxed bs cs i b e = ap unboxed_items e ∙ (remove_unboxed (set bs i b) i ∙ ap (λ xs. remove xs i) (set_unboxed bs i b))
 
 -- the transaction of a key is the one at its position
 pub found_there : (k : ℕ) (es : List Entry) (i : ℕ) (x : Entry) → position (is_of k) es ≡ Some i → x ≡ get_or es i x → Some x ≡ by_key k es
@@ -165,9 +165,9 @@ nothing_found q es s = by_cases (find q es) s
     by_cases (Some e) s = absurd (none-some e.key s)
 
 -- the last one, in its block
-pub last_boxed : {A : Type 0} (bs : List (Box Entry A)) (b : Box Entry A) (x : Entry) → Some b ≡ slice_get bs (length bs - 1) → x ≡ b.value → slice_get (unboxed bs) (length (unboxed bs) - 1) ≡ Some x
+pub last_boxed : {A : Type 0} (bs : List (Box Entry A)) (b : Box Entry A) (x : Entry) → Some b ≡ slice_get bs (length bs - 1) → x ≡ b.value → slice_get (unboxed_items bs) (length (unboxed_items bs) - 1) ≡ Some x
 last_boxed bs b x at is =
-    ap (λ n. slice_get (unboxed bs) (n - 1)) (length_unboxed bs)
+    ap (λ n. slice_get (unboxed_items bs) (n - 1)) (length_unboxed bs)
     ∙ (slice_get-map (λ (c : Box Entry _). c.value) bs (length bs - 1) ∙ (ap (option_map (λ (c : Box Entry _). c.value)) (sym at) ∙ ap Some (sym is)))
 
 pub last_of_queue : {X : Type 0} (xs : List X) (x : X) (n : ℕ) → n ≡ length xs → 0 < n → x ≡ get_or xs (n - 1) x → Some x ≡ slice_get xs (length xs - 1)

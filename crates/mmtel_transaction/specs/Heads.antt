@@ -2,8 +2,8 @@
 -- status (§7.2, §21).
 use Rattle.std.specs.Prelude.{ℕ, Bool, ◌&&◌, ◌==◌, nat_le, nat_lt, if◌then◌else◌, List, [], codes, Option, Some, None}
 use Rattle.std.specs.Str.{bytes_eq}
-use Rattle.mmtel_scan.specs.Chain.{◌>>=◌}
-use Rattle.mmtel_scan.specs.Numbers.{number_of}
+use Rattle.mmtel_base.specs.Chain.{◌>>=◌}
+use Rattle.mmtel_base.specs.Numbers.{number_of}
 use Rattle.mmtel_message.specs.Message.{Message, first_value}
 pub use Rattle.mmtel_message.specs.Faults.{is_request}
 pub use Rattle.mmtel_message.specs.Identifiers.{param_text}

@@ -2,7 +2,7 @@
 use Rattle.std.specs.Prelude.{◌≡◌, ℕ, List, [], codes, Option, option_map}
 use Rattle.mmtel_lex.specs.declared.values.NameAddr.{NameAddr}
 use Rattle.mmtel_message.specs.Fields.{call_in, party_in, via_in}
-use Rattle.mmtel_message.specs.Message.{Message, named}
+use Rattle.mmtel_message.specs.Message.{Message, lines_named}
 use Rattle.mmtel_message.specs.declared.fields.Via.{Via}
 use Rattle.mmtel_message.specs.declared.messages.Start.{Start}
 use Rattle.mmtel_message.specs.declared.messages.Start.TheVariants.{Request, Status}
@@ -22,7 +22,7 @@ abbrev pub tag_read : List ℕ → List (List ℕ × List ℕ) → Option (List 
 tag_read name ls = option_map (λ (party : NameAddr). param_text (codes "tag") party.params) (party_in name ls)
 
 -- two messages of which the same is read; Call-ID and CSeq are read entirely
-pub record ReadAlike (m n : Message Start) : Type 0 where
+pub record ReadEquivalent (m n : Message Start) : Type 0 where
   pub start : start_read m.start ≡ start_read n.start
   pub via : via_read m.lines ≡ via_read n.lines
   pub from : tag_read (codes "From") m.lines ≡ tag_read (codes "From") n.lines
@@ -31,17 +31,17 @@ pub record ReadAlike (m n : Message Start) : Type 0 where
 
 -- they have the same head, whatever else their lines and bodies are
 abbrev pub HeadsRestOnFields : Type 0
-HeadsRestOnFields = (m n : Message Start) → ReadAlike m n → head_of m ≡ head_of n
+HeadsRestOnFields = (m n : Message Start) → ReadEquivalent m n → head_of m ≡ head_of n
 
 -- two messages whose start lines are read with the same result, and which have the same lines of the five names
-pub record LinesAlike (m n : Message Start) : Type 0 where
+pub record LinesEquivalent (m n : Message Start) : Type 0 where
   pub start : start_read m.start ≡ start_read n.start
-  pub via : named (codes "Via") m.lines ≡ named (codes "Via") n.lines
-  pub from : named (codes "From") m.lines ≡ named (codes "From") n.lines
-  pub to : named (codes "To") m.lines ≡ named (codes "To") n.lines
-  pub call_id : named (codes "Call-ID") m.lines ≡ named (codes "Call-ID") n.lines
-  pub cseq : named (codes "CSeq") m.lines ≡ named (codes "CSeq") n.lines
+  pub via : lines_named (codes "Via") m.lines ≡ lines_named (codes "Via") n.lines
+  pub from : lines_named (codes "From") m.lines ≡ lines_named (codes "From") n.lines
+  pub to : lines_named (codes "To") m.lines ≡ lines_named (codes "To") n.lines
+  pub call_id : lines_named (codes "Call-ID") m.lines ≡ lines_named (codes "Call-ID") n.lines
+  pub cseq : lines_named (codes "CSeq") m.lines ≡ lines_named (codes "CSeq") n.lines
 
 -- the same is read of them, so they have the same head
 abbrev pub HeadsRestOnFiveNames : Type 0
-HeadsRestOnFiveNames = (m n : Message Start) → LinesAlike m n → ReadAlike m n × (head_of m ≡ head_of n)
+HeadsRestOnFiveNames = (m n : Message Start) → LinesEquivalent m n → ReadEquivalent m n × (head_of m ≡ head_of n)

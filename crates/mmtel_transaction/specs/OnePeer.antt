@@ -3,18 +3,18 @@ use Rattle.std.specs.Prelude.{◌≡◌, ◌<◌, ℕ, List, ◌∷◌, ◌++◌
 use Rattle.mmtel_types.specs.declared.numbers.Peer.{Peer}
 use Rattle.mmtel_message.specs.Message.{Message}
 use Rattle.mmtel_message.specs.declared.messages.Start.{Start}
-use Rattle.mmtel_transaction.specs.Calls.{Done, DidAsk, DidHear, live, opened}
-use Rattle.mmtel_transaction.specs.Answers.{peer_of}
-use Rattle.mmtel_transaction.specs.declared.parts.Part.TheVariants as part
+use Rattle.mmtel_transaction.specs.Operations.{TransactionOp, DidAsk, DidHear, live, openings}
+use Rattle.mmtel_transaction.specs.Results.{peer_of}
+use Rattle.mmtel_transaction.specs.declared.message_class.MessageClass.TheVariants as part
 
 -- a new request that is received opens a transaction whose peer is the one that sent it
 abbrev pub NewPeers : Type 0
-NewPeers = (h : List Done) (p : Peer) (m : Message Start) (now : ℕ) → peer_of (length (opened h)) (live (DidHear p m now part.Fresh ∷ h)) ≡ Some p
+NewPeers = (h : List TransactionOp) (p : Peer) (m : Message Start) (now : ℕ) → peer_of (length (openings h)) (live (DidHear p m now part.Fresh ∷ h)) ≡ Some p
 
 -- a request that is sent opens a transaction whose peer is the one to which it is sent
-abbrev pub AskedPeers : Type 0
-AskedPeers = (h : List Done) (p : Peer) (m : Message Start) (now : ℕ) → peer_of (length (opened h)) (live (DidAsk p m now ∷ h)) ≡ Some p
+abbrev pub RequestPeers : Type 0
+RequestPeers = (h : List TransactionOp) (p : Peer) (m : Message Start) (now : ℕ) → peer_of (length (openings h)) (live (DidAsk p m now ∷ h)) ≡ Some p
 
 -- and an opened transaction has that peer for as long as it is live, whatever is called
 abbrev pub KeepsPeers : Type 0
-KeepsPeers = (h g : List Done) (key : ℕ) (p : Peer) → key < length (opened h) → peer_of key (live (g ++ h)) ≡ Some p → peer_of key (live h) ≡ Some p
+KeepsPeers = (h g : List TransactionOp) (key : ℕ) (p : Peer) → key < length (openings h) → peer_of key (live (g ++ h)) ≡ Some p → peer_of key (live h) ≡ Some p

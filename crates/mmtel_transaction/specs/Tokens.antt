@@ -2,6 +2,6 @@
 use Rattle.std.specs.Prelude.{ℕ, List}
 
 -- a text, and the number of the last token drawn from it
-pub record Drawn : Type 0 where
+pub record TokensView : Type 0 where
   pub token : List ℕ
   pub drawn : ℕ

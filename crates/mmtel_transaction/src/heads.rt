@@ -3,8 +3,8 @@ ghost use Rattle.std.specs.Prelude.{◌≡◌, [], IfOk, None};
 ghost use Rattle.std.specs.Option.{option_copied, unwrap_or};
 ghost use Rattle.mmtel_transaction.specs.Heads.{code_of, head_by, head_of, head_with, is_ack, is_cancel, is_invite, is_same_call, method_of, reliable_number};
 
+use mmtel_base::{NoMemory, Text, number_up_to};
 use mmtel_message::{Identifiers, Msg, Start, five_ref, is_request};
-use mmtel_scan::{NoMemory, Text, number_up_to};
 use std::alloc::Global;
 
 /// What the transactions read of a message.
@@ -111,14 +111,14 @@ fn head_by(alloc: Global, start: &Start, identifiers: &Identifiers<'_>) -> Resul
 ///
 /// Out of memory only.
 #[tactic(auto, unfolding(crate::specs::Heads::head_of))]
-pub fn status_and_tag(alloc: Global, m: &Msg) -> Result<(u16, Text), NoMemory>
-    ensures { IfOk result (λ said. said ≡ ((head_of m.now).status, (head_of m.now).to_tag)) }
+pub fn status_and_tag(alloc: Global, message: &Msg) -> Result<(u16, Text), NoMemory>
+    ensures { IfOk result (λ said. said ≡ ((head_of message.now).status, (head_of message.now).to_tag)) }
 {
-    match five_ref(&m.lines()) {
-        None => Ok((code_of(m.start()), Text::new())),
+    match five_ref(&message.lines()) {
+        None => Ok((code_of(message.start()), Text::new())),
         Some(five) => {
             let tag = or_empty(alloc, five.to().param(b"tag"))?;
-            Ok((code_of(m.start()), tag))
+            Ok((code_of(message.start()), tag))
         }
     }
 }
@@ -128,14 +128,14 @@ const GREATEST_NUMBER: u64 = 2_147_483_647;
 
 /// The number of a reliable provisional response, by its first RSeq line (RFC 3262 §7.1); None of any other message. It allocates nothing.
 #[tactic(auto, unfolding(crate::specs::Heads::reliable_number))]
-pub fn reliable_number(m: &Msg) -> Option<u32>
-    ensures { result ≡ reliable_number m.now }
+pub fn reliable_number(message: &Msg) -> Option<u32>
+    ensures { result ≡ reliable_number message.now }
 {
-    let code = code_of(m.start());
+    let code = code_of(message.start());
     if code < 101 || code >= 200 {
         return None;
     }
-    match m.first(b"RSeq") {
+    match message.first(b"RSeq") {
         None => None,
         Some(value) => match number_up_to(GREATEST_NUMBER, value) {
             None => None,
@@ -151,12 +151,12 @@ impl Head {
     ///
     /// Out of memory only.
     #[tactic(auto, using(crate::proofs::Identified::head_known, crate::proofs::Identified::head_unknown), unfolding(crate::specs::Heads::head_of))]
-    pub fn of(alloc: Global, m: &Msg) -> Result<Head, NoMemory>
-        ensures { IfOk result (λ head. head ≡ head_of m.now) }
+    pub fn of(alloc: Global, message: &Msg) -> Result<Head, NoMemory>
+        ensures { IfOk result (λ head. head ≡ head_of message.now) }
     {
-        match m.identifiers() {
-            None => head_without(alloc, m.start()),
-            Some(identifiers) => head_by(alloc, m.start(), &identifiers),
+        match message.identifiers() {
+            None => head_without(alloc, message.start()),
+            Some(identifiers) => head_by(alloc, message.start(), &identifiers),
         }
     }
 

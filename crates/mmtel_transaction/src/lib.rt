@@ -5,18 +5,18 @@
 
 mod entries;
 mod heads;
-pub mod laws;
-mod names;
-mod parts;
+mod match_keys;
+mod message_class;
 mod shelving;
 mod table;
 mod tables;
+pub mod theorems;
 mod tokens;
 mod transactions;
 mod words;
 
-pub use mmtel_scan::{List, NoMemory, Text};
-pub use names::told;
+pub use match_keys::hash_of;
+pub use mmtel_base::{List, NoMemory, Text};
 pub use tokens::Tokens;
 pub use transactions::Transactions;
 pub use words::{Due, DueWord, Emit, Emits, HearFault, Heard, RoomWord, TKey};

@@ -1,20 +1,22 @@
 //! The live transactions, and the look-ups in them.
 ghost use Rattle.std.specs.Prelude.{◌≡◌, [], ◌++◌, ◌∷◌, ◌^◌, ◌-◌, ◌*◌, ◌+◌, ◌≤◌, OnOk, OnErr, IfOk, IsTrue, false, map, option_map, Some};
 ghost use Rattle.std.specs.List.{find, list_any};
-ghost use Rattle.mmtel_transaction.specs.Changes.{acked_2xx, hit, with_answer};
+ghost use Rattle.mmtel_transaction.specs.Changes.{after_ack_2xx, change_of_key, with_reliable};
 ghost use Rattle.mmtel_transaction.specs.Heads.{is_ack, is_cancel};
-ghost use Rattle.mmtel_transaction.specs.Answers.{by_key, clients, gives_again, gives_same, is_client_named, is_client_of, is_full, is_invite_of, is_merged, is_other};
-ghost use Rattle.mmtel_transaction.specs.Answers.{is_server_named, is_server_of, key_of, next_due, part_ack, part_of, part_request, part_response, peer_of};
-ghost use Rattle.mmtel_transaction.specs.Answers.{says_due, servers, text_again, text_planned, then_gives, upcoming_of};
-ghost use Rattle.mmtel_transaction.specs.Table.{found_of, made, now_of, settle};
+ghost use Rattle.mmtel_transaction.specs.Results.{by_key, clients, is_client_of, is_client_with, is_full, is_invite_of, is_merged, is_merged_entry, last_sent, retransmission_for};
+ghost use Rattle.mmtel_transaction.specs.Results.{ack_class, class_of, is_server_of, is_server_with, key_of, next_due, peer_of, request_class, response_class};
+ghost use Rattle.mmtel_transaction.specs.Results.{bind_entry, due_result, retransmitted_text, servers, state_text, upcoming_of};
+ghost use Rattle.mmtel_transaction.specs.Table.{change_effect, due_entry_view, now_of, table_after_change};
 
-use crate::entries::{Change, Entry, ReliableAnswer, answer_due, armed_by, is_ending, resend_of};
+use crate::entries::{
+    Change, Entry, ReliableResponse, armed_by, is_ending, response_due, retransmission_of,
+};
 use crate::heads::Head;
-use crate::parts::Part;
-use crate::tables::{Found, Tables};
+use crate::message_class::MessageClass;
+use crate::tables::{DueEntry, Tables};
 use crate::words::{Due, TKey};
-use mmtel_scan::{NoMemory, Text};
-use mmtel_sip_rules::{is_given_again, is_refusal, is_success};
+use mmtel_base::{NoMemory, Text};
+use mmtel_sip_rules::{is_refusal, is_response_retransmitted, is_success};
 use mmtel_timers::Steps;
 use mmtel_types::Peer;
 use std::alloc::Global;
@@ -72,11 +74,11 @@ impl Entries {
     }
 
     /// Changes the transaction of a key, and removes it where the change ends it.
-    pub fn settle<L: Ledger>(&mut self, key: u64, change: Change, steps: &mut Steps<L>)
-        ensures { self.new ≡ settle key (made change) self.old }
+    pub fn change<L: Ledger>(&mut self, key: u64, change: Change, steps: &mut Steps<L>)
+        ensures { self.new ≡ table_after_change key (change_effect change) self.old }
     {
         match &mut self.kept {
-            Some(kept) => kept.settle(key, change, steps),
+            Some(kept) => kept.change(key, change, steps),
             None => {}
         }
     }
@@ -86,31 +88,31 @@ impl Entries {
     /// # Errors
     ///
     /// Out of memory only; the transactions are then as before.
-    pub fn add_answer<L: Ledger>(
+    pub fn add_reliable<L: Ledger>(
         &mut self,
         alloc: Global,
         key: u64,
-        answer: ReliableAnswer,
+        response: ReliableResponse,
         steps: &mut Steps<L>,
     ) -> Result<(), NoMemory>
-        ensures ok { OnOk result (self.new ≡ map (hit key (with_answer answer)) self.old) }
+        ensures ok { OnOk result (self.new ≡ map (change_of_key key (with_reliable response)) self.old) }
         ensures err { OnErr result (self.new ≡ self.old) }
     {
         match &mut self.kept {
-            Some(kept) => kept.add_answer(alloc, key, answer, steps),
+            Some(kept) => kept.add_reliable(alloc, key, response, steps),
             None => {
-                drop(answer);
+                drop(response);
                 Ok(())
             }
         }
     }
 
     /// Receives the ACK of a 2xx.
-    pub fn ack_2xx<L: Ledger>(&mut self, step: u64, m: &Head, steps: &mut Steps<L>)
-        ensures { self.new ≡ map (acked_2xx step m.now) self.old }
+    pub fn ack_2xx<L: Ledger>(&mut self, step: u64, head: &Head, steps: &mut Steps<L>)
+        ensures { self.new ≡ map (after_ack_2xx step head.now) self.old }
     {
         match &mut self.kept {
-            Some(kept) => kept.ack_2xx(step, m, steps),
+            Some(kept) => kept.ack_2xx(step, head, steps),
             None => {}
         }
     }
@@ -133,7 +135,7 @@ impl Entries {
         method: &[u8],
         steps: &mut Steps<L>,
     ) -> Option<&Entry>
-        ensures found { option_map now_of result ≡ find (is_server_named branch.now sent_by.now method.now) self.now }
+        ensures found { option_map now_of result ≡ find (is_server_with branch.now sent_by.now method.now) self.now }
         ensures cost { 2 ^ (steps.new - steps.old) ≤ 2 * servers self.now + 1 }
         ensures rise { steps.old ≤ steps.new }
     {
@@ -150,7 +152,7 @@ impl Entries {
         method: &[u8],
         steps: &mut Steps<L>,
     ) -> Option<&Entry>
-        ensures found { option_map now_of result ≡ find (is_client_named branch.now method.now) self.now }
+        ensures found { option_map now_of result ≡ find (is_client_with branch.now method.now) self.now }
         ensures cost { 2 ^ (steps.new - steps.old) ≤ 2 * clients self.now + 1 }
         ensures rise { steps.old ≤ steps.new }
     {
@@ -171,18 +173,18 @@ impl Entries {
     }
 
     /// Whether another server transaction has the From tag, Call-ID and CSeq of this one.
-    fn has_twin<L: Ledger>(&self, e: &Entry, steps: &mut Steps<L>) -> bool
-        ensures { result ≡ list_any (is_other e.now) self.now }
+    fn has_merged<L: Ledger>(&self, entry: &Entry, steps: &mut Steps<L>) -> bool
+        ensures { result ≡ list_any (is_merged_entry entry.now) self.now }
     {
         match &self.kept {
-            Some(kept) => kept.has_twin(e, steps),
+            Some(kept) => kept.has_merged(entry, steps),
             None => false,
         }
     }
 
     /// The first deadline that is due.
-    pub fn next_of<L: Ledger>(&self, now: u64, steps: &mut Steps<L>) -> Option<Found<'_>>
-        ensures next { option_map found_of result ≡ next_due now self.now }
+    pub fn next_of<L: Ledger>(&self, now: u64, steps: &mut Steps<L>) -> Option<DueEntry<'_>>
+        ensures next { option_map due_entry_view result ≡ next_due now self.now }
         ensures cost { steps.new ≤ steps.old + 1 }
         ensures rise { steps.old ≤ steps.new }
     {
@@ -194,43 +196,43 @@ impl Entries {
 }
 
 /// The text that is retransmitted.
-fn text_of(alloc: Global, e: &Entry) -> Result<Text, NoMemory>
-    ensures { IfOk result (λ t. t ≡ text_again e.now) }
+fn retransmitted_text(alloc: Global, entry: &Entry) -> Result<Text, NoMemory>
+    ensures { IfOk result (λ t. t ≡ retransmitted_text entry.now) }
 {
-    match answer_due(e) {
+    match response_due(entry) {
         Some(answer) => Text::of(alloc, answer.text.bytes()),
-        None => planned_text(alloc, e),
+        None => state_text(alloc, entry),
     }
 }
 
 /// The text that a transaction retransmits by its state.
-fn planned_text(alloc: Global, e: &Entry) -> Result<Text, NoMemory>
-    ensures { IfOk result (λ t. t ≡ text_planned e.now) }
+fn state_text(alloc: Global, entry: &Entry) -> Result<Text, NoMemory>
+    ensures { IfOk result (λ t. t ≡ state_text entry.now) }
 {
-    if e.is_server {
-        match &e.last {
+    if entry.is_server {
+        match &entry.last {
             None => Ok(Text::new()),
             Some(text) => Text::of(alloc, text.bytes()),
         }
     } else {
-        Text::of(alloc, e.request.bytes())
+        Text::of(alloc, entry.request.bytes())
     }
 }
 
 /// The result of a deadline that fires.
-pub fn say_due(alloc: Global, found: Found<'_>) -> Result<Due, NoMemory>
-    ensures { IfOk result (λ d. d ≡ says_due (Some (found_of found.entry))) }
+pub fn due_result(alloc: Global, found: DueEntry<'_>) -> Result<Due, NoMemory>
+    ensures { IfOk result (λ d. d ≡ due_result (Some (due_entry_view found.entry))) }
 {
-    let e = found.of;
-    if resend_of(e).is_some() {
-        Ok(Due::Again(e.peer, found.at, text_of(alloc, e)?))
-    } else if is_ending(e.plan) {
+    let e = found.transaction;
+    if retransmission_of(e).is_some() {
+        Ok(Due::Again(e.peer, found.at, retransmitted_text(alloc, e)?))
+    } else if is_ending(e.state) {
         Ok(Due::Over(TKey(e.key), found.at))
     } else {
         Ok(Due::Silent {
             key: TKey(e.key),
-            branch: Text::of(alloc, e.asked.branch.bytes())?,
-            method: Text::of(alloc, e.asked.method.bytes())?,
+            branch: Text::of(alloc, e.head.branch.bytes())?,
+            method: Text::of(alloc, e.head.method.bytes())?,
             at: found.at,
         })
     }
@@ -244,139 +246,147 @@ pub fn next_at<L: Ledger>(entries: &Entries, now: u64, steps: &mut Steps<L>) -> 
 {
     match entries.next_of(now, steps) {
         None => None,
-        Some(found) => Some((found.at, armed_by(found.of).0)),
+        Some(found) => Some((found.at, armed_by(found.transaction).0)),
     }
 }
 
 /// The server transaction of this method, and of the branch and sent-by of a request.
 fn find_server<'a, L: Ledger>(
     entries: &'a Entries,
-    m: &Head,
+    head: &Head,
     method: &[u8],
     steps: &mut Steps<L>,
 ) -> Option<&'a Entry>
-    ensures { option_map now_of result ≡ find (is_server_named m.now.branch m.now.sent_by method.now) entries.now }
+    ensures { option_map now_of result ≡ find (is_server_with head.now.branch head.now.sent_by method.now) entries.now }
 {
-    entries.find_server(m.branch.bytes(), m.sent_by.bytes(), method, steps)
+    entries.find_server(head.branch.bytes(), head.sent_by.bytes(), method, steps)
 }
 
 /// The client transaction of a response.
 fn find_client<'a, L: Ledger>(
     entries: &'a Entries,
-    m: &Head,
+    head: &Head,
     steps: &mut Steps<L>,
 ) -> Option<&'a Entry>
-    ensures { option_map now_of result ≡ find (is_client_of m.now) entries.now }
+    ensures { option_map now_of result ≡ find (is_client_of head.now) entries.now }
 {
-    entries.find_client(m.branch.bytes(), m.method.bytes(), steps)
+    entries.find_client(head.branch.bytes(), head.method.bytes(), steps)
 }
 
 /// The class of an ACK.
-fn take_ack<L: Ledger>(entries: &Entries, m: &Head, steps: &mut Steps<L>) -> Part
-    ensures { IsTrue (is_ack m.now) → result ≡ part_ack (find (is_server_of m.now) entries.now) }
+fn classify_ack<L: Ledger>(entries: &Entries, head: &Head, steps: &mut Steps<L>) -> MessageClass
+    ensures { IsTrue (is_ack head.now) → result ≡ ack_class (find (is_server_of head.now) entries.now) }
 {
-    match find_server(entries, m, b"INVITE", steps) {
-        None => Part::AckOf2xx,
+    match find_server(entries, head, b"INVITE", steps) {
+        None => MessageClass::AckOf2xx,
         Some(e) => if e.is_refused {
-            Part::Acked(e.key)
+            MessageClass::Acked(e.key)
         } else {
-            Part::AckOf2xx
+            MessageClass::AckOf2xx
         },
     }
 }
 
 /// The class of another request.
-fn take_request<L: Ledger>(entries: &Entries, m: &Head, steps: &mut Steps<L>) -> Part
-    ensures { is_ack m.now ≡ false → result ≡ part_request (is_full entries.now) (find (is_server_of m.now) entries.now) }
+fn classify_request<L: Ledger>(entries: &Entries, head: &Head, steps: &mut Steps<L>) -> MessageClass
+    ensures { is_ack head.now ≡ false → result ≡ request_class (is_full entries.now) (find (is_server_of head.now) entries.now) }
 {
-    match find_server(entries, m, m.method.bytes(), steps) {
+    match find_server(entries, head, head.method.bytes(), steps) {
         None => if entries.are_full() {
-            Part::Full
+            MessageClass::Full
         } else {
-            Part::Fresh
+            MessageClass::Fresh
         },
-        Some(e) => Part::Repeat(e.key),
+        Some(e) => MessageClass::Repeat(e.key),
     }
 }
 
 /// The class of a response.
-fn take_response<L: Ledger>(entries: &Entries, m: &Head, steps: &mut Steps<L>) -> Part
-    ensures { result ≡ part_response m.now (find (is_client_of m.now) entries.now) }
+fn classify_response<L: Ledger>(
+    entries: &Entries,
+    head: &Head,
+    steps: &mut Steps<L>,
+) -> MessageClass
+    ensures { result ≡ response_class head.now (find (is_client_of head.now) entries.now) }
 {
-    match find_client(entries, m, steps) {
-        None => Part::Stray,
+    match find_client(entries, head, steps) {
+        None => MessageClass::Stray,
         Some(e) => {
-            if e.asked.is_invite() && e.is_refused && is_refusal(m.status) {
-                Part::Same(e.key)
+            if e.head.is_invite() && e.is_refused && is_refusal(head.status) {
+                MessageClass::RepeatedFinal(e.key)
             } else {
-                Part::Answer(e.key)
+                MessageClass::Answer(e.key)
             }
         }
     }
 }
 
 /// The class of a message.
-pub fn take_part<L: Ledger>(entries: &Entries, m: &Head, steps: &mut Steps<L>) -> Part
-    ensures { result ≡ part_of m.now entries.now }
+pub fn classify<L: Ledger>(entries: &Entries, head: &Head, steps: &mut Steps<L>) -> MessageClass
+    ensures { result ≡ class_of head.now entries.now }
 {
-    if m.is_request {
-        if m.is_ack() {
-            take_ack(entries, m, steps)
+    if head.is_request {
+        if head.is_ack() {
+            classify_ack(entries, head, steps)
         } else {
-            take_request(entries, m, steps)
+            classify_request(entries, head, steps)
         }
     } else {
-        take_response(entries, m, steps)
+        classify_response(entries, head, steps)
     }
 }
 
 /// What a transaction sent last, and to whom.
-fn last_sent(alloc: Global, e: &Entry) -> Result<Option<(Peer, Text)>, NoMemory>
-    ensures { IfOk result (λ g. g ≡ gives_same e.now) }
+fn last_sent(alloc: Global, entry: &Entry) -> Result<Option<(Peer, Text)>, NoMemory>
+    ensures { IfOk result (λ g. g ≡ last_sent entry.now) }
 {
-    match &e.last {
+    match &entry.last {
         None => Ok(None),
         Some(text) => {
             let text = Text::of(alloc, text.bytes())?;
-            Ok(Some((e.peer, text)))
+            Ok(Some((entry.peer, text)))
         }
     }
 }
 
 /// What is retransmitted when the request of this transaction is received again.
-fn give_again(alloc: Global, e: &Entry, p: Peer) -> Result<Option<(Peer, Text)>, NoMemory>
-    ensures { IfOk result (λ g. g ≡ gives_again p e.now) }
+fn retransmission_for(
+    alloc: Global,
+    entry: &Entry,
+    peer: Peer,
+) -> Result<Option<(Peer, Text)>, NoMemory>
+    ensures { IfOk result (λ g. g ≡ retransmission_for peer entry.now) }
 {
-    let succeeded = e.asked.is_invite() && is_success(e.done);
-    if is_given_again(e.peer, p, e.is_acked, succeeded) {
-        last_sent(alloc, e)
+    let succeeded = entry.head.is_invite() && is_success(entry.final_status);
+    if is_response_retransmitted(entry.peer, peer, entry.is_acked, succeeded) {
+        last_sent(alloc, entry)
     } else {
         Ok(None)
     }
 }
 
 /// What is retransmitted when the request of the transaction of a key is received again.
-pub fn give_key(
+pub fn retransmission_of_key(
     alloc: Global,
     entries: &Entries,
     key: u64,
-    p: Peer,
+    peer: Peer,
 ) -> Result<Option<(Peer, Text)>, NoMemory>
-    ensures { IfOk result (λ g. g ≡ then_gives (gives_again p) (by_key key entries.now)) }
+    ensures { IfOk result (λ g. g ≡ bind_entry (retransmission_for peer) (by_key key entries.now)) }
 {
     match entries.find(key) {
         None => Ok(None),
-        Some(e) => give_again(alloc, e, p),
+        Some(e) => retransmission_for(alloc, e, peer),
     }
 }
 
 /// What is retransmitted when the final of the transaction of a key is received again.
-pub fn same_key(
+pub fn last_sent_of_key(
     alloc: Global,
     entries: &Entries,
     key: u64,
 ) -> Result<Option<(Peer, Text)>, NoMemory>
-    ensures { IfOk result (λ g. g ≡ then_gives gives_same (by_key key entries.now)) }
+    ensures { IfOk result (λ g. g ≡ bind_entry last_sent (by_key key entries.now)) }
 {
     match entries.find(key) {
         None => Ok(None),
@@ -385,25 +395,29 @@ pub fn same_key(
 }
 
 /// The key of the INVITE that a CANCEL cancels; it is looked up for a CANCEL alone.
-pub fn cancelled_key<L: Ledger>(entries: &Entries, m: &Head, steps: &mut Steps<L>) -> Option<TKey>
-    ensures { IsTrue (is_cancel m.now) → result ≡ option_map key_of (find (is_invite_of m.now) entries.now) }
+pub fn cancelled_key<L: Ledger>(
+    entries: &Entries,
+    head: &Head,
+    steps: &mut Steps<L>,
+) -> Option<TKey>
+    ensures { IsTrue (is_cancel head.now) → result ≡ option_map key_of (find (is_invite_of head.now) entries.now) }
 {
-    if !m.is_cancel() {
+    if !head.is_cancel() {
         return None;
     }
-    match find_server(entries, m, b"INVITE", steps) {
+    match find_server(entries, head, b"INVITE", steps) {
         None => None,
         Some(e) => Some(TKey(e.key)),
     }
 }
 
 /// Whether the request of the transaction of a key is merged with that of another live one (RFC 3261 §8.2.2.2).
-pub fn twin_of<L: Ledger>(entries: &Entries, key: u64, steps: &mut Steps<L>) -> bool
+pub fn is_merged<L: Ledger>(entries: &Entries, key: u64, steps: &mut Steps<L>) -> bool
     ensures { result ≡ is_merged key entries.now }
 {
     match entries.find(key) {
         None => false,
-        Some(e) => entries.has_twin(e, steps),
+        Some(e) => entries.has_merged(e, steps),
     }
 }
 

@@ -2,21 +2,21 @@
 ghost use Rattle.std.specs.Prelude.{◌≡◌, ◌-◌, ◌+◌, ◌*◌, ◌^◌, ◌≤◌, ◌<◌, true, false, List, [], ◌++◌, ◌∷◌};
 ghost use Rattle.std.specs.Prelude.{OnOk, OnErr, IfOk, IfErr, IfSome, IsTrue, length, remove, map, option_map, option_copied, position, Some, None};
 ghost use Rattle.std.specs.List.{find, list_any};
-ghost use Rattle.mmtel_timers.specs.Shelves.{Has, IsIndex, Rises, unboxed};
+ghost use Rattle.mmtel_timers.specs.Shelves.{Has, IsIndex, Rises, unboxed_items};
 ghost use Rattle.mmtel_transaction.specs.declared.entries.Entry.{Entry};
-ghost use Rattle.mmtel_transaction.specs.Changes.{acked_2xx, hit, with_answer};
-ghost use Rattle.mmtel_transaction.specs.Answers.{by_key, clients, is_client_named, is_full, is_of, is_other, is_server_named, next_due, servers};
-ghost use Rattle.mmtel_transaction.specs.Table.{found_of, made, now_of, settle};
-ghost use Rattle.mmtel_transaction.specs.Indexes.{ack_mark, call_name, due_first, IsPlaceOf, mark_name, name_cmp, TellsOfTwin, waiting, waits_cmp};
+ghost use Rattle.mmtel_transaction.specs.Changes.{after_ack_2xx, change_of_key, with_reliable};
+ghost use Rattle.mmtel_transaction.specs.Results.{by_key, clients, is_client_with, is_full, is_merged_entry, is_of, is_server_with, next_due, servers};
+ghost use Rattle.mmtel_transaction.specs.Table.{change_effect, due_entry_view, now_of, table_after_change};
+ghost use Rattle.mmtel_transaction.specs.Indexes.{ack_match, indexed_call, due_first, IsPlaceOf, searched_key, match_cmp, FindsMerged, indexed_deadline, deadline_cmp};
 
-use crate::entries::{Change, Entry, ReliableAnswer, ack_2xx_entry, add_answer, change_entry};
+use crate::entries::{Change, Entry, ReliableResponse, ack_2xx_entry, add_reliable, change_entry};
 use crate::heads::Head;
-use crate::names::{Name, NameMark, Waits, key_if, waits_of};
+use crate::match_keys::{DeadlineKey, MatchKey, MatchKeyRef, deadline_key_of, key_if};
 use crate::shelving::{
-    ack_name, call_mark, client_mark, key_at, put_name, put_waits, rearm, server_mark, take_name,
-    take_waits, twin_name,
+    ack_search_key, call_search_key, client_search_key, insert_deadline, insert_match, key_at,
+    merged_search_key, rearm, remove_deadline, remove_match, server_search_key,
 };
-use mmtel_scan::NoMemory;
+use mmtel_base::NoMemory;
 use mmtel_timers::{Shelf, Steps};
 use mmtel_types::limits::SERVER_TRANSACTIONS;
 use std::alloc::Global;
@@ -26,11 +26,11 @@ use std::sync::ledger::Ledger;
 
 /// A deadline that is due.
 #[derive(Clone, Copy)]
-pub struct Found<'a> {
+pub struct DueEntry<'a> {
     /// Its moment.
     pub at: u64,
     /// Its transaction.
-    pub of: &'a Entry,
+    pub transaction: &'a Entry,
 }
 
 /// The live transactions, the oldest first; in contracts their list.
@@ -38,26 +38,26 @@ pub struct Found<'a> {
 pub struct Tables {
     entries: VecDeque<Box<Entry>>,
     /// The branches of server transactions, with sent-by and method.
-    servers: Shelf<Name>,
+    servers: Shelf<MatchKey>,
     /// The branches of client transactions, with the method.
-    clients: Shelf<Name>,
+    clients: Shelf<MatchKey>,
     /// The Call-IDs of server transactions, with From tag and CSeq.
-    calls: Shelf<Name>,
+    calls: Shelf<MatchKey>,
     /// The deadline keys of the transactions; one that waits for no deadline comes last.
-    due: Shelf<Waits>,
+    due: Shelf<DeadlineKey>,
 }
 
 impl Model for Tables {
     ghost use Rattle.std.specs.Prelude.{List};
-    ghost use Rattle.mmtel_timers.specs.Shelves.{unboxed};
+    ghost use Rattle.mmtel_timers.specs.Shelves.{unboxed_items};
     ghost use Rattle.mmtel_transaction.specs.declared.entries.Entry.{Entry};
     ghost use Rattle.mmtel_transaction.specs.Indexes.{AreTables};
 
     ghost Value = { List Entry };
 
-    ghost view = { λ t. unboxed t.entries.items };
+    ghost view = { λ t. unboxed_items t.entries.items };
 
-    ghost invariant = { λ t. AreTables (unboxed t.entries.items) t.servers t.clients t.calls t.due };
+    ghost invariant = { λ t. AreTables (unboxed_items t.entries.items) t.servers t.clients t.calls t.due };
 }
 
 impl Tables {
@@ -94,7 +94,7 @@ impl Tables {
         method: &[u8],
         steps: &mut Steps<L>,
     ) -> Option<&Entry>
-        ensures found { option_map now_of result ≡ find (is_server_named branch.now sent_by.now method.now) self.now }
+        ensures found { option_map now_of result ≡ find (is_server_with branch.now sent_by.now method.now) self.now }
         ensures cost { 2 ^ (steps.new - steps.old) ≤ 2 * servers self.now + 1 }
         ensures rise { steps.old ≤ steps.new }
     {
@@ -111,7 +111,7 @@ impl Tables {
         method: &[u8],
         steps: &mut Steps<L>,
     ) -> Option<&Entry>
-        ensures found { option_map now_of result ≡ find (is_client_named branch.now method.now) self.now }
+        ensures found { option_map now_of result ≡ find (is_client_with branch.now method.now) self.now }
         ensures cost { 2 ^ (steps.new - steps.old) ≤ 2 * clients self.now + 1 }
         ensures rise { steps.old ≤ steps.new }
     {
@@ -129,11 +129,11 @@ impl Tables {
         method: &[u8],
         steps: &mut Steps<L>,
     ) -> Option<u64>
-        ensures found { result ≡ option_map (λ e. e.key) (find (is_server_named branch.now sent_by.now method.now) self.now) }
+        ensures found { result ≡ option_map (λ e. e.key) (find (is_server_with branch.now sent_by.now method.now) self.now) }
         ensures cost { 2 ^ (steps.new - steps.old) ≤ 2 * servers self.now + 1 }
         ensures rise { steps.old ≤ steps.new }
     {
-        let mark = NameMark::of(branch, sent_by, method, 0, 0);
+        let mark = MatchKeyRef::of(branch, sent_by, method, 0, 0);
         let sought = self.servers.seek(&mark, steps);
         key_if(sought.item, &mark)
     }
@@ -145,11 +145,11 @@ impl Tables {
         method: &[u8],
         steps: &mut Steps<L>,
     ) -> Option<u64>
-        ensures found { result ≡ option_map (λ e. e.key) (find (is_client_named branch.now method.now) self.now) }
+        ensures found { result ≡ option_map (λ e. e.key) (find (is_client_with branch.now method.now) self.now) }
         ensures cost { 2 ^ (steps.new - steps.old) ≤ 2 * clients self.now + 1 }
         ensures rise { steps.old ≤ steps.new }
     {
-        let mark = NameMark::of(branch, b"", method, 0, 0);
+        let mark = MatchKeyRef::of(branch, b"", method, 0, 0);
         let sought = self.clients.seek(&mark, steps);
         key_if(sought.item, &mark)
     }
@@ -162,24 +162,27 @@ impl Tables {
     }
 
     /// Whether another server transaction has the From tag, Call-ID and CSeq of this one.
-    pub fn has_twin<L: Ledger>(&self, e: &Entry, steps: &mut Steps<L>) -> bool
-        ensures { result ≡ list_any (is_other e.now) self.now }
+    pub fn has_merged<L: Ledger>(&self, entry: &Entry, steps: &mut Steps<L>) -> bool
+        ensures { result ≡ list_any (is_merged_entry entry.now) self.now }
     {
-        let mark = twin_name(e);
-        let from = self.calls.seek(&mark, steps).place;
-        has_other(&self.calls, from, &mark, e.key, steps)
+        let mark = merged_search_key(entry);
+        let from = self.calls.seek(&mark, steps).position;
+        has_other(&self.calls, from, &mark, entry.key, steps)
     }
 
     /// The first deadline that is due.
-    pub fn next_of<L: Ledger>(&self, now: u64, steps: &mut Steps<L>) -> Option<Found<'_>>
-        ensures next { option_map found_of result ≡ next_due now self.now }
+    pub fn next_of<L: Ledger>(&self, now: u64, steps: &mut Steps<L>) -> Option<DueEntry<'_>>
+        ensures next { option_map due_entry_view result ≡ next_due now self.now }
         ensures cost { steps.new ≡ steps.old + 1 }
     {
         match due_now(self.due.look(0, steps), now) {
             None => None,
             Some((at, key)) => match self.find(key) {
                 None => None,
-                Some(of) => Some(Found { at, of }),
+                Some(of) => Some(DueEntry {
+                    at,
+                    transaction: of,
+                }),
             },
         }
     }
@@ -230,19 +233,19 @@ impl Tables {
         ensures ok { OnOk result (self.new ≡ self.old ++ entry ∷ []) }
         ensures err { OnErr result (self.new ≡ self.old) }
     {
-        let waits = waits_of(&entry);
-        let name = Name::of_server(alloc, &entry)?;
-        let call = Name::of_call(alloc, &entry)?;
+        let waits = deadline_key_of(&entry);
+        let name = MatchKey::of_server(alloc, &entry)?;
+        let call = MatchKey::of_call(alloc, &entry)?;
         let entry = boxed(alloc, entry)?;
-        let due = put_waits(&mut self.due, waits, steps)?;
-        let server = match put_name(&mut self.servers, name, steps) {
+        let due = insert_deadline(&mut self.due, waits, steps)?;
+        let server = match insert_match(&mut self.servers, name, steps) {
             Ok(server) => server,
             Err(fault) => {
                 self.due.remove(due);
                 return Err(fault);
             }
         };
-        let called = match put_name(&mut self.calls, call, steps) {
+        let called = match insert_match(&mut self.calls, call, steps) {
             Ok(called) => called,
             Err(fault) => {
                 self.due.remove(due);
@@ -274,11 +277,11 @@ impl Tables {
         ensures ok { OnOk result (self.new ≡ self.old ++ entry ∷ []) }
         ensures err { OnErr result (self.new ≡ self.old) }
     {
-        let waits = waits_of(&entry);
-        let name = Name::of_client(alloc, &entry)?;
+        let waits = deadline_key_of(&entry);
+        let name = MatchKey::of_client(alloc, &entry)?;
         let entry = boxed(alloc, entry)?;
-        let due = put_waits(&mut self.due, waits, steps)?;
-        let client = match put_name(&mut self.clients, name, steps) {
+        let due = insert_deadline(&mut self.due, waits, steps)?;
+        let client = match insert_match(&mut self.clients, name, steps) {
             Ok(client) => client,
             Err(fault) => {
                 self.due.remove(due);
@@ -297,25 +300,25 @@ impl Tables {
     }
 
     /// Changes the transaction of a key, and removes it where the change ends it. It allocates nothing.
-    pub fn settle<L: Ledger>(&mut self, key: u64, change: Change, steps: &mut Steps<L>)
-        ensures { self.new ≡ settle key (made change) self.old }
+    pub fn change<L: Ledger>(&mut self, key: u64, change: Change, steps: &mut Steps<L>)
+        ensures { self.new ≡ table_after_change key (change_effect change) self.old }
     {
         if let Ok(place) = search(&self.entries, key) {
             let entry = &mut *self.entries[place];
-            let before = waits_of(entry);
+            let before = deadline_key_of(entry);
             change_entry(entry, change);
-            if !entry.is_over {
-                let after = waits_of(entry);
+            if !entry.is_terminated {
+                let after = deadline_key_of(entry);
                 rearm(&mut self.due, &before, after, steps);
             } else if entry.is_server {
-                take_waits(&mut self.due, &before, steps);
-                take_name(&mut self.servers, &server_mark(entry), steps);
-                take_name(&mut self.calls, &call_mark(entry), steps);
-                let_go(&mut self.entries, place);
+                remove_deadline(&mut self.due, &before, steps);
+                remove_match(&mut self.servers, &server_search_key(entry), steps);
+                remove_match(&mut self.calls, &call_search_key(entry), steps);
+                remove_entry(&mut self.entries, place);
             } else {
-                take_waits(&mut self.due, &before, steps);
-                take_name(&mut self.clients, &client_mark(entry), steps);
-                let_go(&mut self.entries, place);
+                remove_deadline(&mut self.due, &before, steps);
+                remove_match(&mut self.clients, &client_search_key(entry), steps);
+                remove_entry(&mut self.entries, place);
             }
         }
     }
@@ -325,26 +328,26 @@ impl Tables {
     /// # Errors
     ///
     /// Out of memory only; the transactions are then as before.
-    pub fn add_answer<L: Ledger>(
+    pub fn add_reliable<L: Ledger>(
         &mut self,
         alloc: Global,
         key: u64,
-        answer: ReliableAnswer,
+        response: ReliableResponse,
         steps: &mut Steps<L>,
     ) -> Result<(), NoMemory>
-        ensures ok { OnOk result (self.new ≡ map (hit key (with_answer answer)) self.old) }
+        ensures ok { OnOk result (self.new ≡ map (change_of_key key (with_reliable response)) self.old) }
         ensures err { OnErr result (self.new ≡ self.old) }
     {
         match search(&self.entries, key) {
             Err(_) => {
-                drop(answer);
+                drop(response);
                 Ok(())
             }
             Ok(place) => {
                 let entry = &mut *self.entries[place];
-                let before = waits_of(entry);
-                add_answer(alloc, entry, answer)?;
-                let after = waits_of(entry);
+                let before = deadline_key_of(entry);
+                add_reliable(alloc, entry, response)?;
+                let after = deadline_key_of(entry);
                 rearm(&mut self.due, &before, after, steps);
                 Ok(())
             }
@@ -352,17 +355,17 @@ impl Tables {
     }
 
     /// Receives the ACK of a 2xx. It allocates nothing.
-    pub fn ack_2xx<L: Ledger>(&mut self, step: u64, m: &Head, steps: &mut Steps<L>)
-        ensures { self.new ≡ map (acked_2xx step m.now) self.old }
+    pub fn ack_2xx<L: Ledger>(&mut self, step: u64, head: &Head, steps: &mut Steps<L>)
+        ensures { self.new ≡ map (after_ack_2xx step head.now) self.old }
     {
-        let from = self.calls.seek(&ack_name(m), steps).place;
+        let from = self.calls.seek(&ack_search_key(head), steps).position;
         ack_from(
             &mut self.entries,
             &mut self.due,
             &self.calls,
             from,
             step,
-            m,
+            head,
             steps,
         );
     }
@@ -370,9 +373,9 @@ impl Tables {
 
 /// The position of the transaction of a key, or the one that it would have.
 fn search(entries: &VecDeque<Box<Entry>>, key: u64) -> Result<usize, usize>
-    requires rises { Rises (λ e. e.key) (unboxed entries.now.items) }
-    ensures found { IfOk result (λ i. position (is_of key) (unboxed entries.now.items) ≡ Some i) }
-    ensures absent { IfErr result (λ i. position (is_of key) (unboxed entries.now.items) ≡ None) }
+    requires rises { Rises (λ e. e.key) (unboxed_items entries.now.items) }
+    ensures found { IfOk result (λ i. position (is_of key) (unboxed_items entries.now.items) ≡ Some i) }
+    ensures absent { IfErr result (λ i. position (is_of key) (unboxed_items entries.now.items) ≡ None) }
 {
     match search_from_end(entries, key) {
         Some(place) => Ok(place),
@@ -383,8 +386,8 @@ fn search(entries: &VecDeque<Box<Entry>>, key: u64) -> Result<usize, usize>
 /// The position of a transaction if none of those that were opened after it has ended: as far from the last one as its key is from the key of that one. So a recent transaction
 /// is found by one comparison.
 fn search_from_end(entries: &VecDeque<Box<Entry>>, key: u64) -> Option<usize>
-    requires rises { Rises (λ e. e.key) (unboxed entries.now.items) }
-    ensures { IfSome result (λ i. position (is_of key) (unboxed entries.now.items) ≡ Some i) }
+    requires rises { Rises (λ e. e.key) (unboxed_items entries.now.items) }
+    ensures { IfSome result (λ i. position (is_of key) (unboxed_items entries.now.items) ≡ Some i) }
 {
     let last = match entries.back() {
         None => return None,
@@ -408,7 +411,7 @@ fn search_from_end(entries: &VecDeque<Box<Entry>>, key: u64) -> Option<usize>
 }
 
 /// Removes the transaction at a position.
-fn let_go(entries: &mut VecDeque<Box<Entry>>, place: usize)
+fn remove_entry(entries: &mut VecDeque<Box<Entry>>, place: usize)
     requires { place < length entries.old.items }
     ensures { entries.new.items ≡ remove entries.old.items place }
 {
@@ -426,7 +429,7 @@ fn boxed(alloc: Global, entry: Entry) -> Result<Box<Entry>, NoMemory>
 }
 
 /// The moment and the key of the first deadline, if it is due.
-fn due_now(first: Option<&Waits>, now: u64) -> Option<(u64, u64)>
+fn due_now(first: Option<&DeadlineKey>, now: u64) -> Option<(u64, u64)>
     ensures { result ≡ due_first now (option_copied first.entry) }
 {
     match first {
@@ -443,13 +446,13 @@ fn due_now(first: Option<&Waits>, now: u64) -> Option<(u64, u64)>
 
 /// Whether, of the match keys from a position on that have the same parts as a given one, one belongs to another transaction than that of a key.
 fn has_other<L: Ledger>(
-    calls: &Shelf<Name>,
+    calls: &Shelf<MatchKey>,
     from: usize,
-    mark: &NameMark<'_>,
+    mark: &MatchKeyRef<'_>,
     key: u64,
     steps: &mut Steps<L>,
 ) -> bool
-    ensures { TellsOfTwin (mark_name mark.now) key calls.now from result }
+    ensures { FindsMerged (searched_key mark.now) key calls.now from result }
 {
     for place in from..calls.len() {
         match key_at(calls, place, mark, steps) {
@@ -467,22 +470,22 @@ fn has_other<L: Ledger>(
 /// The transaction of a key receives the ACK of a 2xx, if the ACK acknowledges the 2xx of that transaction.
 fn ack_key<L: Ledger>(
     entries: &mut VecDeque<Box<Entry>>,
-    due: &mut Shelf<Waits>,
+    due: &mut Shelf<DeadlineKey>,
     key: u64,
     step: u64,
-    m: &Head,
+    head: &Head,
     steps: &mut Steps<L>,
 )
-    requires rises { Rises (λ e. e.key) (unboxed entries.old.items) }
-    requires due { IsIndex waiting waits_cmp (unboxed entries.old.items) due.old }
-    ensures entries { unboxed entries.new.items ≡ map (hit key (acked_2xx step m.now)) (unboxed entries.old.items) }
-    ensures due { IsIndex waiting waits_cmp (unboxed entries.new.items) due.new }
+    requires rises { Rises (λ e. e.key) (unboxed_items entries.old.items) }
+    requires due { IsIndex indexed_deadline deadline_cmp (unboxed_items entries.old.items) due.old }
+    ensures entries { unboxed_items entries.new.items ≡ map (change_of_key key (after_ack_2xx step head.now)) (unboxed_items entries.old.items) }
+    ensures due { IsIndex indexed_deadline deadline_cmp (unboxed_items entries.new.items) due.new }
 {
     if let Ok(place) = search(entries, key) {
         let entry = &mut *entries[place];
-        let before = waits_of(entry);
-        ack_2xx_entry(entry, step, m);
-        let after = waits_of(entry);
+        let before = deadline_key_of(entry);
+        ack_2xx_entry(entry, step, head);
+        let after = deadline_key_of(entry);
         rearm(due, &before, after, steps);
     }
 }
@@ -490,25 +493,25 @@ fn ack_key<L: Ledger>(
 /// The INVITEs of the call and number of the ACK of a 2xx, whose match keys begin at a position, receive it.
 fn ack_from<L: Ledger>(
     entries: &mut VecDeque<Box<Entry>>,
-    due: &mut Shelf<Waits>,
-    calls: &Shelf<Name>,
+    due: &mut Shelf<DeadlineKey>,
+    calls: &Shelf<MatchKey>,
     from: usize,
     step: u64,
-    m: &Head,
+    head: &Head,
     steps: &mut Steps<L>,
 )
-    requires rises { Rises (λ e. e.key) (unboxed entries.old.items) }
-    requires due { IsIndex waiting waits_cmp (unboxed entries.old.items) due.old }
-    requires calls { IsIndex call_name name_cmp (unboxed entries.old.items) calls.now }
-    requires place { IsPlaceOf (ack_mark m.now) calls.now from }
-    ensures entries { unboxed entries.new.items ≡ map (acked_2xx step m.now) (unboxed entries.old.items) }
-    ensures due { IsIndex waiting waits_cmp (unboxed entries.new.items) due.new }
+    requires rises { Rises (λ e. e.key) (unboxed_items entries.old.items) }
+    requires due { IsIndex indexed_deadline deadline_cmp (unboxed_items entries.old.items) due.old }
+    requires calls { IsIndex indexed_call match_cmp (unboxed_items entries.old.items) calls.now }
+    requires place { IsPlaceOf (ack_match head.now) calls.now from }
+    ensures entries { unboxed_items entries.new.items ≡ map (after_ack_2xx step head.now) (unboxed_items entries.old.items) }
+    ensures due { IsIndex indexed_deadline deadline_cmp (unboxed_items entries.new.items) due.new }
 {
-    let mark = ack_name(m);
+    let mark = ack_search_key(head);
     for place in from..calls.len() {
         match key_at(calls, place, &mark, steps) {
             None => return,
-            Some(key) => ack_key(entries, due, key, step, m, steps),
+            Some(key) => ack_key(entries, due, key, step, head, steps),
         }
     }
 }

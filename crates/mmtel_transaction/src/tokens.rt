@@ -1,8 +1,8 @@
 //! Tokens: the values of the tags, branches and Call-IDs that the server makes.
 ghost use Rattle.std.specs.Prelude.{◌≡◌, OnOk, OnErr, IfOk};
-ghost use Rattle.mmtel_scan.specs.Numbers.{next_number, token_text};
+ghost use Rattle.mmtel_base.specs.Numbers.{next_number, token_text};
 
-use mmtel_scan::{NoMemory, Text, token_text};
+use mmtel_base::{NoMemory, Text, token_text};
 use std::alloc::Global;
 use std::marker::Model;
 
@@ -14,9 +14,9 @@ pub struct Tokens {
 }
 
 impl Model for Tokens {
-    ghost use Rattle.mmtel_transaction.specs.Tokens.{Drawn};
+    ghost use Rattle.mmtel_transaction.specs.Tokens.{TokensView};
 
-    ghost Value = { Drawn };
+    ghost Value = { TokensView };
 
     ghost view = { λ t. record { token = t.token; drawn = t.drawn } };
 }

@@ -3,23 +3,24 @@ ghost use Rattle.std.specs.Prelude.{◌≡◌, [], ◌∷◌, ◌+◌, ◌-◌, 
 ghost use Rattle.std.specs.List.{find};
 ghost use Rattle.mmtel_message.specs.Texts.{message_text};
 ghost use Rattle.mmtel_transaction.specs.Heads.{head_of};
-ghost use Rattle.mmtel_transaction.specs.Calls.{DidAck, DidAsk, DidBegin, DidReply, DidSettle, Done, live, opened};
-ghost use Rattle.mmtel_transaction.specs.Answers.{clients, fires, hear_says, hears, is_client_named, is_merged, is_server_named, key_of, next_due, part_of, peer_of};
-ghost use Rattle.mmtel_transaction.specs.Answers.{says_due, says_opened, servers, tkey, upcoming_of};
-ghost use Rattle.mmtel_transaction.specs.Stands.{Does, HasRoom, IsRefusal, MayOpen, Stands, Stays};
-ghost use Rattle.mmtel_transaction.specs.Changes.{answer_of, hit, with_answers};
+ghost use Rattle.mmtel_transaction.specs.Operations.{DidAck, DidAsk, DidBegin, DidReply, DidSettle, TransactionOp, live, openings};
+ghost use Rattle.mmtel_transaction.specs.Results.{after_firing, after_hear, class_of, clients, hear_result, is_client_with, is_merged, is_server_with, key_of, next_due, peer_of};
+ghost use Rattle.mmtel_transaction.specs.Results.{due_result, opening_result, servers, tkey, upcoming_of};
+ghost use Rattle.mmtel_transaction.specs.Represents.{Does, HasCapacity, IsRefusal, MayOpen, Represents, Stays};
+ghost use Rattle.mmtel_transaction.specs.Changes.{change_of_key, reliable_response_of, with_reliable_if};
 ghost use Rattle.mmtel_transaction.specs.Table.{HearsAs};
-ghost use Rattle.mmtel_transaction.specs.declared.parts.Part.TheVariants.{Acked, AckOf2xx, Answer, Fresh, Repeat, Same, Stray};
+ghost use Rattle.mmtel_transaction.specs.declared.message_class.MessageClass.TheVariants.{Acked, AckOf2xx, Answer, Fresh, Repeat, RepeatedFinal, Stray};
 
-use crate::entries::{Change, ReliableAnswer, asked_entry, heard_entry, reply_change};
+use crate::entries::{Change, ReliableResponse, new_client_entry, new_server_entry, reply_change};
 use crate::heads::{Head, reliable_number, status_and_tag};
-use crate::parts::Part;
+use crate::message_class::MessageClass;
 use crate::table::{
-    Entries, cancelled_key, give_key, next_at, peer_at, same_key, say_due, take_part, twin_of,
+    Entries, cancelled_key, classify, due_result, is_merged, last_sent_of_key, next_at, peer_at,
+    retransmission_of_key,
 };
 use crate::words::{Due, HearFault, Heard, TKey};
+use mmtel_base::{NoMemory, Text};
 use mmtel_message::Msg;
-use mmtel_scan::{NoMemory, Text};
 use mmtel_timers::Steps;
 use mmtel_types::{Moment, Peer};
 use std::alloc::Global;
@@ -32,32 +33,32 @@ pub struct Transactions {
     /// The step number of deadlines that are armed from now on.
     step: u64,
     /// How many requests and responses were sent.
-    offers: u128,
+    send_count: u128,
     /// How many transactions were opened, which is the number of the next one.
     next: u64,
     /// The live transactions, the oldest first.
     entries: Entries,
     /// The text of the message that was sent last, until it is handed out.
-    offered: Text,
+    outgoing: Text,
 }
 
 impl Transactions {
     /// No transactions. It allocates nothing.
     pub fn new() -> Transactions
-        ensures stands { Stands result [] }
+        ensures stands { Represents result [] }
     {
         Transactions {
             step: 0,
-            offers: 0,
+            send_count: 0,
             next: 0,
             entries: Entries::new(),
-            offered: Text::new(),
+            outgoing: Text::new(),
         }
     }
 
     /// Deadlines that are armed from now on have this step number, which is at least that of the `begin` before.
     pub fn begin(&mut self, step: u64)
-        ensures done { (h : List Done) → Stands self.old h → Stands self.new (DidBegin step ∷ h) }
+        ensures done { (h : List TransactionOp) → Represents self.old h → Represents self.new (DidBegin step ∷ h) }
     {
         self.step = step;
     }
@@ -65,11 +66,11 @@ impl Transactions {
     /// The text of the message that `ask`, `reply` or `ack` was given last, which is to be sent now; empty where it was handed out before. It allocates nothing.
     ///
     /// A message is printed once: the transaction keeps a copy of this text.
-    pub fn take_offered(&mut self) -> Text
-        ensures text { result ≡ self.old.offered }
-        ensures stands { (h : List Done) → Stands self.old h → Stands self.new h }
+    pub fn take_outgoing(&mut self) -> Text
+        ensures text { result ≡ self.old.outgoing }
+        ensures stands { (h : List TransactionOp) → Represents self.old h → Represents self.new h }
     {
-        mem::replace(&mut self.offered, Text::new())
+        mem::replace(&mut self.outgoing, Text::new())
     }
 
     /// Sends a request in a client transaction of its own, whose key is returned.
@@ -85,9 +86,9 @@ impl Transactions {
         now: Moment,
         steps: &mut Steps<L>,
     ) -> Result<TKey, NoMemory>
-        ensures done { IfOk result (λ key. MayOpen self.old self.new (λ h. DidAsk p m.now now ∷ h) (λ h. key ≡ tkey (length (opened h)))) }
-        ensures offered { OnOk result (self.new.offered ≡ message_text m.now) }
-        ensures err { OnErr result ((h : List Done) → Stands self.old h → Stands self.new h) }
+        ensures done { IfOk result (λ key. MayOpen self.old self.new (λ h. DidAsk p m.now now ∷ h) (λ h. key ≡ tkey (length (openings h)))) }
+        ensures offered { OnOk result (self.new.outgoing ≡ message_text m.now) }
+        ensures err { OnErr result ((h : List TransactionOp) → Represents self.old h → Represents self.new h) }
     {
         let asked = Head::of(alloc, m)?;
         let text = m.text(alloc)?;
@@ -95,52 +96,52 @@ impl Transactions {
         let key = self.next;
         self.entries.push(
             alloc,
-            asked_entry(self.step, self.offers, key, p, asked, kept, now.ms()),
+            new_client_entry(self.step, self.send_count, key, p, asked, kept, now.ms()),
             steps,
         )?;
-        self.offers = self.offers.saturating_add(1);
+        self.send_count = self.send_count.saturating_add(1);
         self.next = self.next.saturating_add(1);
-        self.offered = text;
+        self.outgoing = text;
         Ok(TKey(key))
     }
 
     /// The reliable response that a response is, which waits for its PRACK (RFC 3262 §3); None for any other response.
-    fn reliable_answer(
+    fn reliable_response(
         &self,
         alloc: Global,
-        m: &Msg,
+        message: &Msg,
         text: &Text,
         now: u64,
-    ) -> Result<Option<ReliableAnswer>, NoMemory>
-        ensures { IfOk result (λ answer. answer ≡ answer_of self.now.step self.now.offers m.now text.now now) }
+    ) -> Result<Option<ReliableResponse>, NoMemory>
+        ensures { IfOk result (λ answer. answer ≡ reliable_response_of self.now.step self.now.send_count message.now text.now now) }
     {
-        match reliable_number(m) {
+        match reliable_number(message) {
             None => Ok(None),
-            Some(own) => Ok(Some(ReliableAnswer {
-                own,
+            Some(own) => Ok(Some(ReliableResponse {
+                rseq: own,
                 text: text.copied(alloc)?,
                 start: now,
-                shots: 0,
+                retransmissions: 0,
                 step: self.step,
-                order: self.offers,
+                order: self.send_count,
             })),
         }
     }
 
     /// This reliable response, if any, is sent in the transaction of a key.
-    fn add_answer<L: Ledger>(
+    fn add_reliable<L: Ledger>(
         &mut self,
         alloc: Global,
         key: u64,
-        answer: Option<ReliableAnswer>,
+        response: Option<ReliableResponse>,
         steps: &mut Steps<L>,
     ) -> Result<(), NoMemory>
-        ensures ok { OnOk result (self.new ≡ record self.old { entries = map (hit key (with_answers answer)) self.old.entries }) }
+        ensures ok { OnOk result (self.new ≡ record self.old { entries = map (change_of_key key (with_reliable_if response)) self.old.entries }) }
         ensures err { OnErr result (self.new ≡ self.old) }
     {
-        match answer {
+        match response {
             None => Ok(()),
-            Some(answer) => self.entries.add_answer(alloc, key, answer, steps),
+            Some(response) => self.entries.add_reliable(alloc, key, response, steps),
         }
     }
 
@@ -158,19 +159,19 @@ impl Transactions {
         now: Moment,
         steps: &mut Steps<L>,
     ) -> Result<(), NoMemory>
-        ensures done { OnOk result ((h : List Done) → Stands self.old h → Stands self.new (DidReply key.0 m.now now ∷ h)) }
-        ensures offered { OnOk result (self.new.offered ≡ message_text m.now) }
-        ensures err { OnErr result ((h : List Done) → Stands self.old h → Stands self.new h) }
+        ensures done { OnOk result ((h : List TransactionOp) → Represents self.old h → Represents self.new (DidReply key.0 m.now now ∷ h)) }
+        ensures offered { OnOk result (self.new.outgoing ≡ message_text m.now) }
+        ensures err { OnErr result ((h : List TransactionOp) → Represents self.old h → Represents self.new h) }
     {
         let said = status_and_tag(alloc, m)?;
         let text = m.text(alloc)?;
         let kept = text.copied(alloc)?;
-        let answer = self.reliable_answer(alloc, m, &text, now.ms())?;
-        self.add_answer(alloc, key.0, answer, steps)?;
-        let change = reply_change(self.step, self.offers, said, kept, now.ms());
-        self.entries.settle(key.0, change, steps);
-        self.offers = self.offers.saturating_add(1);
-        self.offered = text;
+        let answer = self.reliable_response(alloc, m, &text, now.ms())?;
+        self.add_reliable(alloc, key.0, answer, steps)?;
+        let change = reply_change(self.step, self.send_count, said, kept, now.ms());
+        self.entries.change(key.0, change, steps);
+        self.send_count = self.send_count.saturating_add(1);
+        self.outgoing = text;
         Ok(())
     }
 
@@ -187,23 +188,23 @@ impl Transactions {
         m: &Msg,
         steps: &mut Steps<L>,
     ) -> Result<(), NoMemory>
-        ensures done { OnOk result ((h : List Done) → Stands self.old h → Stands self.new (DidAck key.0 m.now ∷ h)) }
-        ensures offered { OnOk result (self.new.offered ≡ message_text m.now) }
-        ensures err { OnErr result ((h : List Done) → Stands self.old h → Stands self.new h) }
+        ensures done { OnOk result ((h : List TransactionOp) → Represents self.old h → Represents self.new (DidAck key.0 m.now ∷ h)) }
+        ensures offered { OnOk result (self.new.outgoing ≡ message_text m.now) }
+        ensures err { OnErr result ((h : List TransactionOp) → Represents self.old h → Represents self.new h) }
     {
         let text = m.text(alloc)?;
         let kept = text.copied(alloc)?;
-        self.entries.settle(key.0, Change::Keep(kept), steps);
-        self.offered = text;
+        self.entries.change(key.0, Change::KeepAck(kept), steps);
+        self.outgoing = text;
         Ok(())
     }
 
     /// The reliable response of this number in the server transaction of a key, or with None each of them, is no longer retransmitted (RFC 3262 §3). Nothing changes where there
     /// is none. It allocates nothing.
     pub fn settle<L: Ledger>(&mut self, k: TKey, own: Option<u32>, steps: &mut Steps<L>)
-        ensures done { (h : List Done) → Stands self.old h → Stands self.new (DidSettle k.0 own ∷ h) }
+        ensures done { (h : List TransactionOp) → Represents self.old h → Represents self.new (DidSettle k.0 own ∷ h) }
     {
-        self.entries.settle(k.0, Change::Settle(own), steps);
+        self.entries.change(k.0, Change::Settle(own), steps);
     }
 
     /// Receives a message: returns which transaction it opens or belongs to, and what is retransmitted because of it.
@@ -219,11 +220,11 @@ impl Transactions {
         now: Moment,
         steps: &mut Steps<L>,
     ) -> Result<Heard, HearFault>
-        ensures done { IfOk result (λ said. MayOpen self.old self.new (λ h. hears h p m now) (λ h. Some said ≡ hear_says h p m)) }
-        ensures refused { IfErr result (λ fault. Stays self.old self.new (λ h. IsRefusal (part_of (head_of m) (live h)) m fault)) }
+        ensures done { IfOk result (λ said. MayOpen self.old self.new (λ h. after_hear h p m now) (λ h. Some said ≡ hear_result h p m)) }
+        ensures refused { IfErr result (λ fault. Stays self.old self.new (λ h. IsRefusal (class_of (head_of m) (live h)) m fault)) }
     {
         let head = Head::of(alloc, &m)?;
-        let taken = take_part(&self.entries, &head, steps);
+        let taken = classify(&self.entries, &head, steps);
         self.hear_as(alloc, p, m, head, now.ms(), taken, steps)
     }
 
@@ -238,15 +239,15 @@ impl Transactions {
         now: Moment,
         steps: &mut Steps<L>,
     ) -> Result<Due, NoMemory>
-        ensures done { IfOk result (λ said. Does self.old self.new (λ h. fires h (next_due now (live h))) (λ h. said ≡ says_due (next_due now (live h)))) }
-        ensures err { OnErr result ((h : List Done) → Stands self.old h → Stands self.new h) }
+        ensures done { IfOk result (λ said. Does self.old self.new (λ h. after_firing h (next_due now (live h))) (λ h. said ≡ due_result (next_due now (live h)))) }
+        ensures err { OnErr result ((h : List TransactionOp) → Represents self.old h → Represents self.new h) }
     {
         match self.entries.next_of(now.ms(), steps) {
             None => Ok(Due::Nothing),
             Some(found) => {
-                let said = say_due(alloc, found)?;
-                let key = found.of.key;
-                self.entries.settle(key, Change::Fire(self.step), steps);
+                let said = due_result(alloc, found)?;
+                let key = found.transaction.key;
+                self.entries.change(key, Change::Fire(self.step), steps);
                 Ok(said)
             }
         }
@@ -254,7 +255,7 @@ impl Transactions {
 
     /// The moment and the step of the deadline that `due` would take; None exactly where there is none. It examines one item at most.
     pub fn upcoming<L: Ledger>(&self, now: Moment, steps: &mut Steps<L>) -> Option<(u64, u64)>
-        ensures next { (h : List Done) → Stands self.now h → result ≡ upcoming_of (next_due now (live h)) }
+        ensures next { (h : List TransactionOp) → Represents self.now h → result ≡ upcoming_of (next_due now (live h)) }
         ensures cost { steps.new ≤ steps.old + 1 }
         ensures rise { steps.old ≤ steps.new }
     {
@@ -264,7 +265,7 @@ impl Transactions {
     /// The peer from which the request of a live server transaction came, or to which that of a live client transaction was sent; None exactly where the transaction of the key
     /// is not live. It is found by its number, without a step.
     pub fn peer<L: Ledger>(&self, key: TKey, steps: &mut Steps<L>) -> Option<Peer>
-        ensures live { (h : List Done) → Stands self.now h → result ≡ peer_of key.0 (live h) }
+        ensures live { (h : List TransactionOp) → Represents self.now h → result ≡ peer_of key.0 (live h) }
         ensures cost { steps.new ≡ steps.old }
     {
         peer_at(&self.entries, key.0)
@@ -272,9 +273,9 @@ impl Transactions {
 
     /// Whether another live server transaction has the From tag, Call-ID and CSeq of this one (RFC 3261 §8.2.2.2).
     pub fn merged<L: Ledger>(&self, key: TKey, steps: &mut Steps<L>) -> bool
-        ensures live { (h : List Done) → Stands self.now h → result ≡ is_merged key.0 (live h) }
+        ensures live { (h : List TransactionOp) → Represents self.now h → result ≡ is_merged key.0 (live h) }
     {
-        twin_of(&self.entries, key.0, steps)
+        is_merged(&self.entries, key.0, steps)
     }
 
     /// The live server transaction of this first Via branch, sent-by and method; None exactly where there is none.
@@ -287,8 +288,8 @@ impl Transactions {
         method: &[u8],
         steps: &mut Steps<L>,
     ) -> Option<TKey>
-        ensures found { (h : List Done) → Stands self.now h → result ≡ option_map key_of (find (is_server_named branch.now sent_by.now method.now) (live h)) }
-        ensures cost { (h : List Done) → Stands self.now h → 2 ^ (steps.new - steps.old) ≤ 2 * servers (live h) + 1 }
+        ensures found { (h : List TransactionOp) → Represents self.now h → result ≡ option_map key_of (find (is_server_with branch.now sent_by.now method.now) (live h)) }
+        ensures cost { (h : List TransactionOp) → Represents self.now h → 2 ^ (steps.new - steps.old) ≤ 2 * servers (live h) + 1 }
         ensures rise { steps.old ≤ steps.new }
     {
         match self.entries.find_server(branch, sent_by, method, steps) {
@@ -306,8 +307,8 @@ impl Transactions {
         method: &[u8],
         steps: &mut Steps<L>,
     ) -> Option<TKey>
-        ensures found { (h : List Done) → Stands self.now h → result ≡ option_map key_of (find (is_client_named branch.now method.now) (live h)) }
-        ensures cost { (h : List Done) → Stands self.now h → 2 ^ (steps.new - steps.old) ≤ 2 * clients (live h) + 1 }
+        ensures found { (h : List TransactionOp) → Represents self.now h → result ≡ option_map key_of (find (is_client_with branch.now method.now) (live h)) }
+        ensures cost { (h : List TransactionOp) → Represents self.now h → 2 ^ (steps.new - steps.old) ≤ 2 * clients (live h) + 1 }
         ensures rise { steps.old ≤ steps.new }
     {
         match self.entries.find_client(branch, method, steps) {
@@ -318,13 +319,13 @@ impl Transactions {
 }
 
 /// The result for a request that opens a server transaction.
-fn say_fresh(key: u64, invite: Option<TKey>, is_cancel: bool, m: Msg) -> Heard
-    ensures { result ≡ says_opened is_cancel key invite m }
+fn opening_result(key: u64, invite: Option<TKey>, is_cancel: bool, message: Msg) -> Heard
+    ensures { result ≡ opening_result is_cancel key invite message }
 {
     if is_cancel {
-        Heard::Cancel(TKey(key), invite, m)
+        Heard::Cancel(TKey(key), invite, message)
     } else {
-        Heard::Fresh(TKey(key), m)
+        Heard::Fresh(TKey(key), message)
     }
 }
 
@@ -334,90 +335,93 @@ impl Transactions {
     fn hear_fresh<L: Ledger>(
         &mut self,
         alloc: Global,
-        p: Peer,
-        m: Msg,
+        peer: Peer,
+        message: Msg,
         head: Head,
         now: u64,
         steps: &mut Steps<L>,
     ) -> Result<Heard, NoMemory>
-        ensures done { head ≡ head_of m → IfOk result (λ said. (h : List Done) → HasRoom h → HearsAs self.old self.new p m now Fresh said h) }
-        ensures err { OnErr result ((h : List Done) → Stands self.old h → Stands self.new h) }
+        ensures done { head ≡ head_of message → IfOk result (λ said. (h : List TransactionOp) → HasCapacity h → HearsAs self.old self.new peer message now Fresh said h) }
+        ensures err { OnErr result ((h : List TransactionOp) → Represents self.old h → Represents self.new h) }
     {
         let key = self.next;
         let invite = cancelled_key(&self.entries, &head, steps);
         let is_cancel = head.is_cancel();
-        self.entries
-            .push(alloc, heard_entry(self.step, key, p, head, now), steps)?;
+        self.entries.push(
+            alloc,
+            new_server_entry(self.step, key, peer, head, now),
+            steps,
+        )?;
         self.next = self.next.saturating_add(1);
-        Ok(say_fresh(key, invite, is_cancel, m))
+        Ok(opening_result(key, invite, is_cancel, message))
     }
 
     /// Receives a retransmitted request.
     fn hear_repeat(
         &self,
         alloc: Global,
-        p: Peer,
-        m: Msg,
+        peer: Peer,
+        message: Msg,
         now: u64,
         key: u64,
     ) -> Result<Heard, NoMemory>
-        ensures { IfOk result (λ said. (h : List Done) → HearsAs self.now self.now p m now (Repeat key) said h) }
+        ensures { IfOk result (λ said. (h : List TransactionOp) → HearsAs self.now self.now peer message now (Repeat key) said h) }
     {
-        let given = give_key(alloc, &self.entries, key, p)?;
+        let given = retransmission_of_key(alloc, &self.entries, key, peer)?;
         Ok(Heard::Repeat(given))
     }
 
     /// Receives a non-2xx final again.
-    fn hear_same(
+    fn hear_repeated_final(
         &self,
         alloc: Global,
-        p: Peer,
-        m: Msg,
+        peer: Peer,
+        message: Msg,
         now: u64,
         key: u64,
     ) -> Result<Heard, NoMemory>
-        ensures { IfOk result (λ said. (h : List Done) → HearsAs self.now self.now p m now (Same key) said h) }
+        ensures { IfOk result (λ said. (h : List TransactionOp) → HearsAs self.now self.now peer message now (RepeatedFinal key) said h) }
     {
-        let given = same_key(alloc, &self.entries, key)?;
+        let given = last_sent_of_key(alloc, &self.entries, key)?;
         Ok(Heard::Repeat(given))
     }
 
     /// Receives a response to a live client transaction.
     fn hear_answer<L: Ledger>(
         &mut self,
-        p: Peer,
-        m: Msg,
+        peer: Peer,
+        message: Msg,
         status: u16,
         now: u64,
         key: u64,
         steps: &mut Steps<L>,
     ) -> Heard
-        ensures { status ≡ (head_of m).status → (h : List Done) → HearsAs self.old self.new p m now (Answer key) result h }
+        ensures { status ≡ (head_of message).status → (h : List TransactionOp) → HearsAs self.old self.new peer message now (Answer key) result h }
     {
-        self.entries.settle(
+        self.entries.change(
             key,
-            Change::Answer {
+            Change::Response {
                 step: self.step,
                 status,
                 now,
             },
             steps,
         );
-        Heard::Answer(TKey(key), m)
+        Heard::Answer(TKey(key), message)
     }
 
     /// Receives the ACK of a non-2xx final.
     fn hear_acked<L: Ledger>(
         &mut self,
-        p: Peer,
-        m: Msg,
+        peer: Peer,
+        message: Msg,
         now: u64,
         key: u64,
         steps: &mut Steps<L>,
     ) -> Heard
-        ensures { (h : List Done) → HearsAs self.old self.new p m now (Acked key) result h }
+        ensures { (h : List TransactionOp) → HearsAs self.old self.new peer message now (Acked key) result h }
     {
-        self.entries.settle(
+        self.entries.change(
             key,
             Change::Ack {
                 step: self.step,
@@ -431,21 +435,21 @@ impl Transactions {
     /// Receives any other ACK.
     fn hear_ack<L: Ledger>(
         &mut self,
-        p: Peer,
-        m: Msg,
+        peer: Peer,
+        message: Msg,
         head: &Head,
         now: u64,
         steps: &mut Steps<L>,
     ) -> Heard
-        ensures { head.now ≡ head_of m → (h : List Done) → HearsAs self.old self.new p m now AckOf2xx result h }
+        ensures { head.now ≡ head_of message → (h : List TransactionOp) → HearsAs self.old self.new peer message now AckOf2xx result h }
     {
         self.entries.ack_2xx(self.step, head, steps);
-        Heard::AckOf2xx(m)
+        Heard::AckOf2xx(message)
     }
 
     /// Receives a response that matches no client transaction.
-    fn hear_stray(&self, p: Peer, m: Msg, now: u64) -> Heard
-        ensures { (h : List Done) → HearsAs self.now self.now p m now Stray result h }
+    fn hear_stray(&self, peer: Peer, message: Msg, now: u64) -> Heard
+        ensures { (h : List TransactionOp) → HearsAs self.now self.now peer message now Stray result h }
     {
         Heard::Stray
     }
@@ -454,25 +458,34 @@ impl Transactions {
     fn hear_as<L: Ledger>(
         &mut self,
         alloc: Global,
-        p: Peer,
-        m: Msg,
+        peer: Peer,
+        message: Msg,
         head: Head,
         now: u64,
-        taken: Part,
+        message_class: MessageClass,
         steps: &mut Steps<L>,
     ) -> Result<Heard, HearFault>
-        ensures done { head ≡ head_of m → IfOk result (λ said. (h : List Done) → HasRoom h → HearsAs self.old self.new p m now taken said h) }
-        ensures refused { IfErr result (λ fault. Stays self.old self.new (λ h. IsRefusal taken m fault)) }
+        ensures done { head ≡ head_of message → IfOk result (λ said. (h : List TransactionOp) → HasCapacity h → HearsAs self.old self.new peer message now message_class said h) }
+        ensures refused { IfErr result (λ fault. Stays self.old self.new (λ h. IsRefusal message_class message fault)) }
     {
-        match taken {
-            Part::Fresh => Ok(self.hear_fresh(alloc, p, m, head, now, steps)?),
-            Part::Full => Err(HearFault::Full(m)),
-            Part::Repeat(key) => Ok(self.hear_repeat(alloc, p, m, now, key)?),
-            Part::Same(key) => Ok(self.hear_same(alloc, p, m, now, key)?),
-            Part::Answer(key) => Ok(self.hear_answer(p, m, head.status, now, key, steps)),
-            Part::Acked(key) => Ok(self.hear_acked(p, m, now, key, steps)),
-            Part::AckOf2xx => Ok(self.hear_ack(p, m, &head, now, steps)),
-            Part::Stray => Ok(self.hear_stray(p, m, now)),
+        match message_class {
+            MessageClass::Fresh => Ok(self.hear_fresh(alloc, peer, message, head, now, steps)?),
+            MessageClass::Full => Err(HearFault::Full(message)),
+            MessageClass::Repeat(key) => Ok(self.hear_repeat(alloc, peer, message, now, key)?),
+            MessageClass::RepeatedFinal(key) => Ok(self.hear_repeated_final(
+                alloc, peer, message, now, key,
+            )?),
+            MessageClass::Answer(key) => Ok(self.hear_answer(
+                peer,
+                message,
+                head.status,
+                now,
+                key,
+                steps,
+            )),
+            MessageClass::Acked(key) => Ok(self.hear_acked(peer, message, now, key, steps)),
+            MessageClass::AckOf2xx => Ok(self.hear_ack(peer, message, &head, now, steps)),
+            MessageClass::Stray => Ok(self.hear_stray(peer, message, now)),
         }
     }
 }

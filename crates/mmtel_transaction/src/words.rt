@@ -2,8 +2,8 @@
 ghost use Rattle.std.specs.Prelude.{◌≡◌};
 ghost use Rattle.mmtel_transaction.specs.declared.words.HearFault.TheVariants as fault;
 
+use mmtel_base::{List, NoMemory, Text};
 use mmtel_message::Msg;
-use mmtel_scan::{List, NoMemory, Text};
 use mmtel_types::{CallNo, Peer, RoomNo};
 
 /// The number of a transaction: how many were opened before it, servers and clients together.

@@ -5,12 +5,12 @@ use Rattle.std.specs.Option.{option_map}
 use Rattle.std.specs.Str.{str_eq_ignore_ascii_case}
 use Rattle.std.proofs.lemmas.List.Elements.{filter-append}
 use Rattle.mmtel_lex.specs.Reading.{name_addr_of}
-use Rattle.mmtel_message.specs.Message.{Line, dropped, has_line, is_line, line_texts, named}
+use Rattle.mmtel_message.specs.Message.{Line, has_line, is_line, line_texts, lines_named, lines_without}
 use Rattle.mmtel_trust.specs.Kinds.{kind_of}
-use Rattle.mmtel_trust.specs.Mask.{Places, hide_if, is_kept, is_left, masked_line, masked_lines, masked_value, unless_gone, with_name, with_value}
+use Rattle.mmtel_trust.specs.PrivateFields.{PrivateFields, hide_if, keeps_lines, keeps_values, masked_line, masked_lines, masked_value, unless_removed, with_name, with_value}
 use Rattle.mmtel_trust.specs.declared.kinds.HeaderKind.{HeaderKind}
 use Rattle.mmtel_trust.specs.declared.kinds.HeaderKind.TheVariants.{From, To, Contact, Asserted, Served, Privacy, History, Options, Session, Passed, Personal, Trusted, Other}
-use Rattle.mmtel_trust.proofs.Kept.{kind_like, named-masked}
+use Rattle.mmtel_trust.proofs.IndexKeeping.{kind_like, named-masked}
 use Rattle.mmtel_trust.proofs.Masked.{hidden_params}
 
 -- ---- lines that are chosen by their names alone
@@ -21,11 +21,11 @@ chosen q same l None false e = refl
 chosen q same l (Some v) true e = rw (same l.0 v l.1, e) refl
 chosen q same l (Some v) false e = rw (same l.0 v l.1, e) refl
 
-chosen_if : (p : Places) (b : Bool) (l : Line) (xs : List Line) → cond b (masked_line p l) [] ++ masked_lines p xs ≡ masked_lines p (cond b (l ∷ xs) xs)
+chosen_if : (p : PrivateFields) (b : Bool) (l : Line) (xs : List Line) → cond b (masked_line p l) [] ++ masked_lines p xs ≡ masked_lines p (cond b (l ∷ xs) xs)
 chosen_if p true l xs = refl
 chosen_if p false l xs = refl
 
-pub by_name : (p : Places) (q : Line → Bool) → ((n v w : List ℕ) → q (n, v) ≡ q (n, w)) → (ls : List Line) → filter q (masked_lines p ls) ≡ masked_lines p (filter q ls)
+pub by_name : (p : PrivateFields) (q : Line → Bool) → ((n v w : List ℕ) → q (n, v) ≡ q (n, w)) → (ls : List Line) → filter q (masked_lines p ls) ≡ masked_lines p (filter q ls)
 unfolding masked_line
 by_name p q same [] = refl
 by_name p q same (l ∷ ls) =
@@ -34,10 +34,10 @@ by_name p q same (l ∷ ls) =
     ∙ (ap (λ (xs : List Line). cond (q l) (masked_line p l) [] ++ xs) (by_name p q same ls)
     ∙ chosen_if p (q l) l (filter q ls)))
 
-pub named_inside : (p : Places) (name : List ℕ) (ls : List Line) → named name (masked_lines p ls) ≡ masked_lines p (named name ls)
+pub named_inside : (p : PrivateFields) (name : List ℕ) (ls : List Line) → lines_named name (masked_lines p ls) ≡ masked_lines p (lines_named name ls)
 named_inside p name ls = by_name p (λ x. is_line name x) (λ n v w. refl) ls
 
-pub dropped_inside : (p : Places) (name : List ℕ) (ls : List Line) → dropped name (masked_lines p ls) ≡ masked_lines p (dropped name ls)
+pub dropped_inside : (p : PrivateFields) (name : List ℕ) (ls : List Line) → lines_without name (masked_lines p ls) ≡ masked_lines p (lines_without name ls)
 dropped_inside p name ls = by_name p (λ x. not (is_line name x)) (λ n v w. refl) ls
 
 -- ---- a line of the name is there
@@ -50,11 +50,11 @@ has_more : (name n : List ℕ) (o : Option (List ℕ)) (ls : List Line) → has_
 has_more name n None ls = refl
 has_more name n (Some v) ls = refl
 
-stays_if : (gone : Bool) (v name n : List ℕ) → not gone ≡ true → is_there name n (unless_gone gone v) ≡ str_eq_ignore_ascii_case n name
+stays_if : (gone : Bool) (v name n : List ℕ) → not gone ≡ true → is_there name n (unless_removed gone v) ≡ str_eq_ignore_ascii_case n name
 stays_if true v name n e = absurd cc
 stays_if false v name n e = refl
 
-stays_as : (p : Places) (k : HeaderKind) (v name n : List ℕ) → is_left p k ≡ true → is_there name n (masked_value p k v) ≡ str_eq_ignore_ascii_case n name
+stays_as : (p : PrivateFields) (k : HeaderKind) (v name n : List ℕ) → keeps_lines p k ≡ true → is_there name n (masked_value p k v) ≡ str_eq_ignore_ascii_case n name
 stays_as p From v name n e = refl
 stays_as p To v name n e = refl
 stays_as p Contact v name n e = refl
@@ -74,11 +74,11 @@ other_line : (name n : List ℕ) (o : Option (List ℕ)) → str_eq_ignore_ascii
 other_line name n None e = refl
 other_line name n (Some v) e = e
 
-there_if : (b : Bool) (p : Places) (name : List ℕ) (l : Line) → is_left p (kind_of name) ≡ true → is_line name l ≡ b → is_there name l.0 (masked_value p (kind_of l.0) l.1) ≡ is_line name l
-there_if true p name l k e = stays_as p (kind_of l.0) l.1 name l.0 (ap (is_left p) (kind_like l.0 name e) ∙ k)
+there_if : (b : Bool) (p : PrivateFields) (name : List ℕ) (l : Line) → keeps_lines p (kind_of name) ≡ true → is_line name l ≡ b → is_there name l.0 (masked_value p (kind_of l.0) l.1) ≡ is_line name l
+there_if true p name l k e = stays_as p (kind_of l.0) l.1 name l.0 (ap (keeps_lines p) (kind_like l.0 name e) ∙ k)
 there_if false p name l k e = other_line name l.0 (masked_value p (kind_of l.0) l.1) e ∙ sym e
 
-pub there-masked : (p : Places) (name : List ℕ) (ls : List Line) → is_left p (kind_of name) ≡ true → has_line name (masked_lines p ls) ≡ has_line name ls
+pub there-masked : (p : PrivateFields) (name : List ℕ) (ls : List Line) → keeps_lines p (kind_of name) ≡ true → has_line name (masked_lines p ls) ≡ has_line name ls
 unfolding masked_line
 there-masked p name [] k = refl
 there-masked p name (l ∷ ls) k =
@@ -92,28 +92,28 @@ none_left : (name n : List ℕ) (o : Option (List ℕ)) → str_eq_ignore_ascii_
 none_left name n None e = refl
 none_left name n (Some v) e = rw e refl
 
-changed_if : (b : Bool) (p : Places) (name : List ℕ) (f : List ℕ → List ℕ) (l : Line) (xs : List Line) → ((v : List ℕ) → masked_value p (kind_of name) v ≡ Some (f v)) → is_line name l ≡ b
+changed_if : (b : Bool) (p : PrivateFields) (name : List ℕ) (f : List ℕ → List ℕ) (l : Line) (xs : List Line) → ((v : List ℕ) → masked_value p (kind_of name) v ≡ Some (f v)) → is_line name l ≡ b
     → filter (λ x. is_line name x) (masked_line p l) ++ map (with_value f) xs ≡ map (with_value f) (cond b (l ∷ xs) xs)
 unfolding masked_line
 changed_if true p name f l xs k e = rw (kind_like l.0 name e, k l.1, e) refl
 changed_if false p name f l xs k e = rw (none_left name l.0 (masked_value p (kind_of l.0) l.1) e) refl
 
 -- they stay in number and order
-pub named-changed : (p : Places) (name : List ℕ) (f : List ℕ → List ℕ) → ((v : List ℕ) → masked_value p (kind_of name) v ≡ Some (f v)) → (ls : List Line) → named name (masked_lines p ls) ≡ map (with_value f) (named name ls)
+pub named-changed : (p : PrivateFields) (name : List ℕ) (f : List ℕ → List ℕ) → ((v : List ℕ) → masked_value p (kind_of name) v ≡ Some (f v)) → (ls : List Line) → lines_named name (masked_lines p ls) ≡ map (with_value f) (lines_named name ls)
 named-changed p name f k [] = refl
 named-changed p name f k (l ∷ ls) =
     filter-append (λ x. is_line name x) (masked_line p l) (masked_lines p ls)
     ∙ (ap (λ (xs : List Line). filter (λ x. is_line name x) (masked_line p l) ++ xs) (named-changed p name f k ls)
-    ∙ changed_if (is_line name l) p name f l (named name ls) k refl)
+    ∙ changed_if (is_line name l) p name f l (lines_named name ls) k refl)
 
 values_changed : (f : List ℕ → List ℕ) (ls : List Line) → map (λ l. l.1) (map (with_value f) ls) ≡ map f (map (λ l. l.1) ls)
 values_changed f [] = refl
 values_changed f (l ∷ ls) = ap (λ (vs : List (List ℕ)). f l.1 ∷ vs) (values_changed f ls)
 
-pub texts-changed : (p : Places) (name : List ℕ) (f : List ℕ → List ℕ) → ((v : List ℕ) → masked_value p (kind_of name) v ≡ Some (f v)) → (ls : List Line) → line_texts name (masked_lines p ls) ≡ map f (line_texts name ls)
-texts-changed p name f k ls = ap (λ (xs : List Line). map (λ l. l.1) xs) (named-changed p name f k ls) ∙ values_changed f (named name ls)
+pub texts-changed : (p : PrivateFields) (name : List ℕ) (f : List ℕ → List ℕ) → ((v : List ℕ) → masked_value p (kind_of name) v ≡ Some (f v)) → (ls : List Line) → line_texts name (masked_lines p ls) ≡ map f (line_texts name ls)
+texts-changed p name f k ls = ap (λ (xs : List Line). map (λ l. l.1) xs) (named-changed p name f k ls) ∙ values_changed f (lines_named name ls)
 
-pub texts-masked : (p : Places) (name : List ℕ) (ls : List Line) → is_kept p (kind_of name) ≡ true → line_texts name (masked_lines p ls) ≡ line_texts name ls
+pub texts-masked : (p : PrivateFields) (name : List ℕ) (ls : List Line) → keeps_values p (kind_of name) ≡ true → line_texts name (masked_lines p ls) ≡ line_texts name ls
 texts-masked p name ls k = ap (λ (xs : List Line). map (λ l. l.1) xs) (named-masked p name ls k)
 
 pub params_hidden : (b : Bool) (v : List ℕ) → option_map (λ n. n.params) (name_addr_of (hide_if b v)) ≡ option_map (λ n. n.params) (name_addr_of v)

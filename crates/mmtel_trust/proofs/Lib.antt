@@ -1,20 +1,20 @@
-pub mod AccountLaws
-pub mod PeerLaws
+pub mod AccountTheorems
+pub mod PeerTheorems
 pub mod Pairs
-pub mod WordLaws
+pub mod WordTheorems
 pub mod Absorbed
 pub mod ByName
-mod FoundLaws
-pub mod HashLaws
-pub mod HeardLaws
+mod FoundWordTheorems
+pub mod HashTheorems
+pub mod ParsedTheorems
 pub mod Indexing
-pub mod Kept
+pub mod IndexKeeping
 mod LineWalks
 pub mod Lookups
 pub mod Masked
-pub mod MaskLaws
-pub mod PrefixLaws
+pub mod MaskTheorems
+pub mod PrefixTheorems
 pub mod PrefixWalk
-mod SchemeLaws
-pub mod TableLaws
-mod Worked
+mod SchemeTheorems
+pub mod TableTheorems
+mod WorkedExamples

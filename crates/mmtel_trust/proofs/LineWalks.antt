@@ -3,12 +3,12 @@ use Rattle.std.proofs.Common.{◌≡◌, ℕ, ◌+◌, Bool, List, [], ◌∷◌
 use Rattle.std.proofs.lemmas.Bool.{cases_Bool}
 use Rattle.std.proofs.lemmas.List.Elements.{filter-append}
 use Rattle.std.specs.List.{flat_map}
-use Rattle.mmtel_message.proofs.WalkLaws.{grows}
+use Rattle.mmtel_message.proofs.WalkTheorems.{grows}
 use Rattle.mmtel_message.specs.Message.{Line, is_line, line_texts, values_named}
 use Rattle.mmtel_message.specs.Values.{values_in}
 use Rattle.mmtel_message.specs.declared.values.Mode.{Mode}
-use Rattle.mmtel_trust.specs.Passed.{is_shown, other_lines}
-use Rattle.mmtel_trust.specs.declared.showing.Facing.{Facing}
+use Rattle.mmtel_trust.specs.HeaderTable.{is_shown, other_lines}
+use Rattle.mmtel_trust.specs.declared.header_table.Facing.{Facing}
 
 pub others_grow : (f : Facing) (to_trusted : Bool) (ls : List Line) (i : ℕ) (x : Line) (before out new : List Line) → take (i + 1) ls ≡ take i ls ++ x ∷ [] → out ≡ before ++ other_lines f to_trusted (take i ls) → new ≡ out ++ other_lines f to_trusted (x ∷ []) → new ≡ before ++ other_lines f to_trusted (take (i + 1) ls)
 others_grow f to_trusted ls i x before out new last so_far made =

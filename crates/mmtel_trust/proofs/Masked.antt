@@ -6,22 +6,22 @@ use Rattle.std.specs.List.{flat_map}
 use Rattle.std.specs.Option.{option_map}
 use Rattle.mmtel_lex.specs.Grammar.{AreParams, IsNameAddr}
 use Rattle.mmtel_lex.specs.Reading.{name_addr_of}
-use Rattle.mmtel_scan.specs.Classes as Classes
-use Rattle.mmtel_scan.specs.Classes.{in_class, IsOneOrMore}
-use Rattle.mmtel_scan.specs.declared.classes.Class.TheVariants.{UriByte}
+use Rattle.mmtel_base.specs.Classes as Classes
+use Rattle.mmtel_base.specs.Classes.{in_class, IsOneOrMore}
+use Rattle.mmtel_base.specs.declared.classes.Class.TheVariants.{UriByte}
 use Rattle.mmtel_lex.specs.declared.values.Param.{Param}
 use Rattle.mmtel_lex.specs.declared.values.NameAddr.{NameAddr}
-use Rattle.mmtel_lex.proofs.NameAddrLaws.{name_addr_again, name_addr_takes}
+use Rattle.mmtel_lex.proofs.NameAddrTheorems.{name_addr_again, name_addr_takes}
 use Rattle.mmtel_message.specs.Message.{Line, Message}
 use Rattle.mmtel_message.specs.declared.messages.Start.{Start}
 use Rattle.mmtel_history.specs.HistoryInfo.{anonymous}
 use Rattle.mmtel_history.specs.MaskedValues.{is_marked_value}
-use Rattle.mmtel_history.proofs.MaskedValueLaws.{masked_value_once, masked_value_shown}
-use Rattle.mmtel_trust.specs.Digest.{served_in}
+use Rattle.mmtel_history.proofs.MaskedValueTheorems.{masked_value_once, masked_value_shown}
+use Rattle.mmtel_trust.specs.ParsedMessage.{served_in}
 use Rattle.mmtel_trust.specs.Kinds.{kind_of}
-use Rattle.mmtel_trust.specs.Passed.{is_shown, asserted_lines, passed}
-use Rattle.mmtel_trust.specs.Mask.{Entries, NoEntries, MarkedEntries, AllEntries, hidden, hidden_value, is_orig, served_value, Places, places_in, hide_if, serve_if, unless_gone, masked_entries, masked_value, with_name, masked_line, masked_lines, masked}
-use Rattle.mmtel_trust.specs.declared.showing.Facing.{Facing}
+use Rattle.mmtel_trust.specs.HeaderTable.{is_shown, asserted_lines, passed_lines}
+use Rattle.mmtel_trust.specs.PrivateFields.{Entries, NoEntries, MarkedEntries, AllEntries, hidden_name_addr, hidden_value, is_orig, served_value, PrivateFields, private_fields_in, hide_if, serve_if, unless_removed, masked_entries, masked_value, with_name, masked_line, masked_lines, masked_message}
+use Rattle.mmtel_trust.specs.declared.header_table.Facing.{Facing}
 use Rattle.mmtel_trust.specs.declared.kinds.HeaderKind.{HeaderKind}
 use Rattle.mmtel_trust.specs.declared.kinds.HeaderKind.TheVariants.{From, To, Contact, Asserted, Served, Privacy, History, Options, Session, Passed, Personal, Trusted, Other}
 use Rattle.mmtel_trust.proofs.Absorbed.{absorbed, filtered}
@@ -39,9 +39,9 @@ anonymous_in : IsOneOrMore UriByte anonymous
 unfolding Classes.in_class
 anonymous_in = record { filled = omega arith; each = refl }
 
-pub hidden_reads : (ps : List Param) → AreParams ps → name_addr_of (hidden ps) ≡ Some (with_params ps)
-unfolding hidden Classes.in_class
-hidden_reads ps are = name_addr_again (hidden ps) (with_params ps) (inl (record { gap = []; whole = refl; starts = refl; display_in = inl (record { each = refl; ends = tt }); gap_in = refl; uri_in = anonymous_in; params_in = are }))
+pub hidden_reads : (ps : List Param) → AreParams ps → name_addr_of (hidden_name_addr ps) ≡ Some (with_params ps)
+unfolding hidden_name_addr Classes.in_class
+hidden_reads ps are = name_addr_again (hidden_name_addr ps) (with_params ps) (inl (record { gap = []; whole = refl; starts = refl; display_in = inl (record { each = refl; ends = tt }); gap_in = refl; uri_in = anonymous_in; params_in = are }))
 
 read_params : (v : List ℕ) (n : NameAddr) → name_addr_of v ≡ Some n → AreParams n.params
 read_params v n e = params_of v n (name_addr_takes v n e)
@@ -126,14 +126,14 @@ abbrev pub then_by : (List ℕ → Option (List ℕ)) → Option (List ℕ) → 
 then_by f None = None
 then_by f (Some v) = f v
 
-abbrev pub again : Places → HeaderKind → Option (List ℕ) → Option (List ℕ)
+abbrev pub again : PrivateFields → HeaderKind → Option (List ℕ) → Option (List ℕ)
 again p k o = then_by (masked_value p k) o
 
-gone_once : (b : Bool) (v : List ℕ) → then_by (unless_gone b) (unless_gone b v) ≡ unless_gone b v
+gone_once : (b : Bool) (v : List ℕ) → then_by (unless_removed b) (unless_removed b v) ≡ unless_removed b v
 gone_once true v = refl
 gone_once false v = refl
 
-kind_once : (p : Places) (k : HeaderKind) (v : List ℕ) → again p k (masked_value p k v) ≡ masked_value p k v
+kind_once : (p : PrivateFields) (k : HeaderKind) (v : List ℕ) → again p k (masked_value p k v) ≡ masked_value p k v
 kind_once p From v = ap (λ w. Some w) (hide_once p.from v)
 kind_once p To v = ap (λ w. Some w) (hide_once p.to v)
 kind_once p Contact v = ap (λ w. Some w) (hide_once p.contact v)
@@ -148,28 +148,28 @@ kind_once p Personal v = gone_once p.personal v
 kind_once p Trusted v = refl
 kind_once p Other v = refl
 
-name_once : (p : Places) (n : List ℕ) (o : Option (List ℕ)) → flat_map (masked_line p) (with_name n o) ≡ with_name n (again p (kind_of n) o)
+name_once : (p : PrivateFields) (n : List ℕ) (o : Option (List ℕ)) → flat_map (masked_line p) (with_name n o) ≡ with_name n (again p (kind_of n) o)
 unfolding masked_line
 name_once p n None = refl
 name_once p n (Some v) = append-nil _
 
-line_once : (p : Places) (l : Line) → flat_map (masked_line p) (masked_line p l) ≡ masked_line p l
+line_once : (p : PrivateFields) (l : Line) → flat_map (masked_line p) (masked_line p l) ≡ masked_line p l
 unfolding masked_line
 line_once p l = name_once p l.0 (masked_value p (kind_of l.0) l.1) ∙ ap (with_name l.0) (kind_once p (kind_of l.0) l.1)
 
-pub lines_again : (p : Places) (ls : List Line) → masked_lines p (masked_lines p ls) ≡ masked_lines p ls
+pub lines_again : (p : PrivateFields) (ls : List Line) → masked_lines p (masked_lines p ls) ≡ masked_lines p ls
 lines_again p ls = absorbed (masked_line p) (masked_line p) (line_once p) ls
 
-pub masked_again : (p : Places) (m : Message Start) → masked p (masked p m) ≡ masked p m
-masked_again p m = ap (λ ls. record m { lines = ls }) (lines_again (places_in m.start p) m.lines)
+pub masked_again : (p : PrivateFields) (m : Message Start) → masked_message p (masked_message p m) ≡ masked_message p m
+masked_again p m = ap (λ ls. record m { lines = ls }) (lines_again (private_fields_in m.start p) m.lines)
 
 -- ---- what is shown
 
-gone_shown : (f : Facing) (b : Bool) (l : Line) → is_shown f false l ≡ false → filter (is_shown f false) (with_name l.0 (unless_gone b l.1)) ≡ filter (is_shown f false) (l ∷ [])
+gone_shown : (f : Facing) (b : Bool) (l : Line) → is_shown f false l ≡ false → filter (is_shown f false) (with_name l.0 (unless_removed b l.1)) ≡ filter (is_shown f false) (l ∷ [])
 gone_shown f true l e = rw e refl
 gone_shown f false l e = refl
 
-shown_as : (p : Places) (f : Facing) → f.restricted ≡ true → (k : HeaderKind) (l : Line) → kind_of l.0 ≡ k → filter (is_shown f false) (with_name l.0 (masked_value p k l.1)) ≡ filter (is_shown f false) (l ∷ [])
+shown_as : (p : PrivateFields) (f : Facing) → f.restricted ≡ true → (k : HeaderKind) (l : Line) → kind_of l.0 ≡ k → filter (is_shown f false) (with_name l.0 (masked_value p k l.1)) ≡ filter (is_shown f false) (l ∷ [])
 unfolding is_shown
 shown_as p f r From l e = rw e refl
 shown_as p f r To l e = rw e refl
@@ -185,7 +185,7 @@ shown_as p f r Personal l e = gone_shown f p.personal l (rw (e, r) refl)
 shown_as p f r Trusted l e = refl
 shown_as p f r Other l e = refl
 
-shown_line : (p : Places) (f : Facing) → f.restricted ≡ true → (l : Line) → filter (is_shown f false) (masked_line p l) ≡ filter (is_shown f false) (l ∷ [])
+shown_line : (p : PrivateFields) (f : Facing) → f.restricted ≡ true → (l : Line) → filter (is_shown f false) (masked_line p l) ≡ filter (is_shown f false) (l ∷ [])
 unfolding masked_line
 shown_line p f r l = shown_as p f r (kind_of l.0) l refl
 
@@ -197,9 +197,9 @@ none_if false b r x e = refl
 none_asserted : (f : Facing) (ls : List Line) → f.restricted ≡ true → asserted_lines f false ls ≡ []
 none_asserted f ls r = none_if f.from_trusted f.present f.restricted _ r
 
-pub passed-masked : (p : Places) (f : Facing) (history ls : List Line) → f.restricted ≡ true → passed f false history (masked_lines p ls) ≡ passed f false history ls
+pub passed-masked : (p : PrivateFields) (f : Facing) (history ls : List Line) → f.restricted ≡ true → passed_lines f false history (masked_lines p ls) ≡ passed_lines f false history ls
 passed-masked p f history ls r = rw (none_asserted f (masked_lines p ls) r, none_asserted f ls r, filtered (masked_line p) (is_shown f false) (shown_line p f r) ls) refl
 
 -- lines that are equal without private places, whatever these are
-pub passed_alike : (p q : Places) (f : Facing) (history ls ms : List Line) → f.restricted ≡ true → masked_lines p ls ≡ masked_lines q ms → passed f false history ls ≡ passed f false history ms
-passed_alike p q f history ls ms r e = sym (passed-masked p f history ls r) ∙ (ap (λ (xs : List Line). passed f false history xs) e ∙ passed-masked q f history ms r)
+pub passed_equal : (p q : PrivateFields) (f : Facing) (history ls ms : List Line) → f.restricted ≡ true → masked_lines p ls ≡ masked_lines q ms → passed_lines f false history ls ≡ passed_lines f false history ms
+passed_equal p q f history ls ms r e = sym (passed-masked p f history ls r) ∙ (ap (λ (xs : List Line). passed_lines f false history xs) e ∙ passed-masked q f history ms r)

@@ -9,7 +9,7 @@ use Rattle.std.specs.BTreeSet.{BTreeSet, IsKeyRangeOf, Updates}
 use Rattle.std.proofs.lemmas.Bool.{cases_Bool}
 use Rattle.std.proofs.lemmas.Bool.Decides.{nat_tests}
 use Rattle.std.proofs.lemmas.Map.Keys.{le_from_not_gt}
-use Rattle.mmtel_trust.specs.Places.{IsMore, IsNext, may_stand, pair_cmp}
+use Rattle.mmtel_trust.specs.HashIndex.{HasAlso, IsNext, may_be_at, pair_cmp}
 
 -- ---- numbers and pairs
 
@@ -59,7 +59,7 @@ never false f = refl
 pub of_hash : (s : BTreeSet (ℕ × ℕ)) (k : ℕ × ℕ) (t : List (ℕ × ℕ)) (h from : ℕ) → Range s (k ∷ t) h from → k.0 ≡ h → IsNext s.keys h from (Some k.1)
 of_hash s k t h from range same = (
   within h from k same range.1.0.0,
-  λ q a b. never (may_stand s.keys h q) (λ there.
+  λ q a b. never (may_be_at s.keys h q) (λ there.
       let last : k.1 ≤ q = upto h q k same (range.2 (h, q) (from_on h from q a, tt) there) in
       absurd (omega (arith, last, b))),
 )
@@ -69,7 +69,7 @@ pub of_another : (s : BTreeSet (ℕ × ℕ)) (k : ℕ × ℕ) (t : List (ℕ × 
 of_another s k t h from range other q a =
     let first : h ≤ k.0 = le_from_not_gt h k.0 (not_before (nat_cmp h k.0) (nat_cmp from k.1) range.1.0.0) in
     let past : h < k.0 = omega (arith, first, other) in
-    never (may_stand s.keys h q) (λ there.
+    never (may_be_at s.keys h q) (λ there.
     let last : is_gt (pair_cmp k (h, q)) ≡ false = range.2 (h, q) (from_on h from q a, tt) there in
     let less : k.0 ≤ h = le_from_not_gt k.0 h (not_before (nat_cmp k.0 h) (nat_cmp k.1 q) last) in
     absurd (omega (arith, less, past)))
@@ -84,5 +84,5 @@ also : (b x : Bool) → x ≡ true → cond b true x ≡ true
 also true x e = refl
 also false x e = e
 
-pub put : (s n : BTreeSet (ℕ × ℕ)) (h place : ℕ) → Updates pair_cmp s n (h, place) true → IsMore h place s.keys n.keys
-put s n h place u = record { there = u.1; others = λ a q e. u.0 (a, q) ∙ also (is_at (pair_cmp (h, place)) (a, q)) (may_stand s.keys a q) e }
+pub put : (s n : BTreeSet (ℕ × ℕ)) (h place : ℕ) → Updates pair_cmp s n (h, place) true → HasAlso h place s.keys n.keys
+put s n h place u = record { there = u.1; others = λ a q e. u.0 (a, q) ∙ also (is_at (pair_cmp (h, place)) (a, q)) (may_be_at s.keys a q) e }

@@ -1,7 +1,7 @@
 -- The identities that a message asserts of its sender, where it comes from a trusted peer (RFC 3325 §9.1: one sip URI and one tel URI at most).
 use Rattle.std.specs.Prelude.{ℕ, Bool, true, false, Option, Some, None, List, codes, if◌then◌else◌, Result, Ok, Err, find}
 use Rattle.std.specs.List.{filter_map}
-use Rattle.mmtel_scan.specs.Chain.{◌>>=◌}
+use Rattle.mmtel_base.specs.Chain.{◌>>=◌}
 use Rattle.mmtel_lex.specs.Reading.{name_addr_of, uri_of, Refusal}
 use Rattle.mmtel_lex.specs.declared.values.Uri.{Uri}
 use Rattle.mmtel_lex.specs.declared.values.Uri.TheVariants.{Sip, Tel}

@@ -9,6 +9,6 @@ Refuses Taken fault = fault ≡ Some Taken
 Refuses NoPeer fault = fault ≡ Some NoPeer
 Refuses NoMemory fault = fault ≡ None
 
-abbrev pub Meets : {A : Type 0} → Result A TableFault → Option TableFault → Type 0
-Meets (Ok done) fault = fault ≡ None
-Meets (Err e) fault = Refuses e fault
+abbrev pub IsTableResult : {A : Type 0} → Result A TableFault → Option TableFault → Type 0
+IsTableResult (Ok done) fault = fault ≡ None
+IsTableResult (Err e) fault = Refuses e fault

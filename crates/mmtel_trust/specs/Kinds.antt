@@ -27,13 +27,13 @@ further_names = codes "Content-Type" ∷ codes "MIME-Version" ∷ codes "Priorit
     ∷ codes "Unsupported" ∷ []
 
 -- a row of the table: a kind, and its names
-pub record Row : Type 0 where
+pub record HeaderGroup : Type 0 where
   pub kind : HeaderKind
   pub names : List (List ℕ)
 
 -- the table: kinds with a single name
-abbrev pub single_rows : List Row
-single_rows =
+abbrev pub single_headers : List HeaderGroup
+single_headers =
     record { kind = From; names = codes "From" ∷ [] } ∷
     record { kind = To; names = codes "To" ∷ [] } ∷
     record { kind = Contact; names = codes "Contact" ∷ [] } ∷
@@ -43,8 +43,8 @@ single_rows =
     record { kind = History; names = codes "History-Info" ∷ [] } ∷ []
 
 -- the table: kinds with several names
-abbrev pub group_rows : List Row
-group_rows =
+abbrev pub header_groups : List HeaderGroup
+header_groups =
     record { kind = Options; names = codes "Supported" ∷ codes "Require" ∷ [] } ∷
     record { kind = Session; names = session_names } ∷
     record { kind = Personal; names = personal_names } ∷
@@ -58,17 +58,17 @@ is_among [] n = false
 is_among (name ∷ names) n = str_eq_ignore_ascii_case n name || is_among names n
 
 -- the kind of the first row with the name; Other where none has it
-abbrev pub kind_in : List Row → List ℕ → HeaderKind
+abbrev pub kind_in : List HeaderGroup → List ℕ → HeaderKind
 kind_in [] n = Other
 kind_in (row ∷ more) n = if is_among row.names n then row.kind else kind_in more n
 
 unfoldable pub kind_of : List ℕ → HeaderKind
-kind_of n = kind_in (single_rows ++ group_rows) n
+kind_of n = kind_in (single_headers ++ header_groups) n
 
 -- the names of the lines that the server writes itself (RFC 3261 §20)
-abbrev pub own_names : List (List ℕ)
-own_names = codes "Via" ∷ codes "Route" ∷ codes "Record-Route" ∷ codes "Max-Forwards" ∷ codes "From" ∷ codes "To" ∷ codes "Call-ID" ∷ codes "CSeq" ∷ codes "Contact"
+abbrev pub own_field_names : List (List ℕ)
+own_field_names = codes "Via" ∷ codes "Route" ∷ codes "Record-Route" ∷ codes "Max-Forwards" ∷ codes "From" ∷ codes "To" ∷ codes "Call-ID" ∷ codes "CSeq" ∷ codes "Contact"
     ∷ codes "Content-Length" ∷ []
 
-abbrev pub is_own : List ℕ → Bool
-is_own n = is_among own_names n
+abbrev pub is_own_field : List ℕ → Bool
+is_own_field n = is_among own_field_names n

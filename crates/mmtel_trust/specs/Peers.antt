@@ -8,17 +8,17 @@ use Rattle.std.specs.List.{list_all, list_any}
 use Rattle.std.specs.Str.{str_eq_ignore_ascii_case}
 use Rattle.mmtel_identity.specs.TrustDomain.{is_in_trust_domain}
 use Rattle.mmtel_types.specs.declared.numbers.Peer.{Peer}
-use Rattle.mmtel_scan.specs.Classes.{in_class}
-use Rattle.mmtel_scan.specs.declared.classes.Class.TheVariants.{Digit}
-use Rattle.mmtel_lex.specs.Identity.{reduced}
+use Rattle.mmtel_base.specs.Classes.{in_class}
+use Rattle.mmtel_base.specs.declared.classes.Class.TheVariants.{Digit}
+use Rattle.mmtel_lex.specs.Identity.{without_separators}
 use Rattle.mmtel_lex.specs.declared.values.Uri.{Uri}
 use Rattle.mmtel_lex.specs.declared.values.Uri.TheVariants.{Sip, Tel}
 use Rattle.mmtel_types.specs.Addrs.{is_same_addr}
 use Rattle.mmtel_trust.specs.declared.faults.TableFault.{TableFault}
 use Rattle.mmtel_trust.specs.declared.faults.TableFault.TheVariants.{Taken, NoPeer}
 use Rattle.mmtel_types.specs.declared.addrs.Addr.{Addr}
-use Rattle.mmtel_trust.specs.declared.parties.KnownPeer.{KnownPeer}
-use Rattle.mmtel_trust.specs.declared.parties.Route.{Route}
+use Rattle.mmtel_trust.specs.declared.known_peers.KnownPeer.{KnownPeer}
+use Rattle.mmtel_trust.specs.declared.known_peers.Route.{Route}
 
 -- the peers and the routes, each in the order in which they were added
 pub record Peers : Type 0 where
@@ -90,8 +90,8 @@ is_prefix [] = false
 is_prefix (b ∷ s) = b == 43 && (not (length s == 0) && list_all (in_class Digit) s)
 
 -- the name of the route is a prefix with which the number begins
-abbrev pub leads : List ℕ → Route → Bool
-leads number r = is_prefix r.name && begins_with number r.name
+abbrev pub matches_number : List ℕ → Route → Bool
+matches_number number r = is_prefix r.name && begins_with number r.name
 
 abbrev pub longer : Route → Option Route → Option Route
 longer r None = Some r
@@ -105,7 +105,7 @@ longest (r ∷ rs) = longer r (longest rs)
 -- the route that names the host, or the longest prefix of the number
 abbrev pub own_route : Uri → List Route → Option Route
 own_route (Sip user host port params headers) rs = named_route host rs
-own_route (Tel number params) rs = longest (filter (leads (reduced number)) rs)
+own_route (Tel number params) rs = longest (filter (matches_number (without_separators number)) rs)
 
 -- the first, or else the second
 abbrev pub or_route : Option Route → Option Route → Option Route
@@ -127,10 +127,10 @@ abbrev pub route_fault : List ℕ → Peer → Peers → Option TableFault
 route_fault name p t = if has_name name t.routes then Some Taken else if has_number p t.known then None else Some NoPeer
 
 -- each route names a peer that is in the table
-abbrev pub lead_on : Peers → Bool
-lead_on t = list_all (λ r. has_number r.peer t.known) t.routes
+abbrev pub routes_have_peers : Peers → Bool
+routes_have_peers t = list_all (λ r. has_number r.peer t.known) t.routes
 
 -- invariant of each table
 pub record IsSound (t : Peers) : Type 0 where
   pub apart : are_apart t.known ≡ true
-  pub on : lead_on t ≡ true
+  pub routed : routes_have_peers t ≡ true

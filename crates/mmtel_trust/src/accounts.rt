@@ -3,13 +3,13 @@ ghost use Rattle.std.specs.Prelude.{◌≡◌, List, [], Some, OnOk, OnErr, IfSo
 ghost use Rattle.std.specs.Option.{option_copied};
 ghost use Rattle.mmtel_lex.specs.declared.values.Uri.{Uri};
 ghost use Rattle.mmtel_trust.specs.Accounts.{has_account, has_identity, is_of, account_of, with_identity, identity_fault};
-ghost use Rattle.mmtel_trust.specs.Faults.{Meets};
+ghost use Rattle.mmtel_trust.specs.Faults.{IsTableResult};
 ghost use Rattle.mmtel_trust.specs.Hashes.{uri_hash as hash_of};
 ghost use Rattle.mmtel_trust.specs.Indexes.{is_of_account};
 
 use crate::faults::TableFault;
+use crate::hash_index::{HashIndex, LookupKey, first_item, has_item};
 use crate::hashes::uri_hash;
-use crate::places::{Key, Places, first, is_there};
 use mmtel_lex::{List, Uri, same_identity};
 use mmtel_types::Account;
 use std::alloc::Global;
@@ -28,8 +28,8 @@ pub struct AccountIdentity {
 #[derive(Drop)]
 pub struct Accounts {
     identities: List<AccountIdentity>,
-    by_uri: Places,
-    by_account: Places,
+    by_uri: HashIndex,
+    by_account: HashIndex,
 }
 
 impl Model for Accounts {
@@ -44,7 +44,7 @@ impl Model for Accounts {
     ghost invariant = { λ accounts. AreIndexed accounts.identities accounts.by_uri accounts.by_account };
 }
 
-impl Key<AccountIdentity> for Uri {
+impl LookupKey<AccountIdentity> for Uri {
     ghost is_key_of = { is_of };
 
     ghost hash = { hash_of };
@@ -58,7 +58,7 @@ impl Key<AccountIdentity> for Uri {
     }
 }
 
-impl Key<AccountIdentity> for Account {
+impl LookupKey<AccountIdentity> for Account {
     ghost is_key_of = { is_of_account };
 
     ghost hash = { λ a. a.0 };
@@ -79,22 +79,22 @@ impl Accounts {
     {
         Accounts {
             identities: List::new(),
-            by_uri: Places::new(),
-            by_account: Places::new(),
+            by_uri: HashIndex::new(),
+            by_account: HashIndex::new(),
         }
     }
 
     /// The first identity in the table that is equal to the URI.
-    fn named(&self, u: &Uri) -> Option<&AccountIdentity>
-        ensures { option_copied result ≡ find (is_of u.now) self.now }
+    fn named(&self, uri: &Uri) -> Option<&AccountIdentity>
+        ensures { option_copied result ≡ find (is_of uri.now) self.now }
     {
-        first(&self.by_uri, self.identities.items(), u)
+        first_item(&self.by_uri, self.identities.items(), uri)
     }
 
-    fn has_identity(&self, u: &Uri) -> bool
-        ensures { result ≡ has_identity u.now self.now }
+    fn has_identity(&self, uri: &Uri) -> bool
+        ensures { result ≡ has_identity uri.now self.now }
     {
-        is_there(&self.by_uri, self.identities.items(), u)
+        has_item(&self.by_uri, self.identities.items(), uri)
     }
 
     /// Adds an identity of an account.
@@ -102,23 +102,28 @@ impl Accounts {
     /// # Errors
     ///
     /// `Taken` where an identity equal to it is in the table; otherwise out of memory only. The table is then as before.
-    pub fn add(&mut self, alloc: Global, a: Account, u: Uri) -> Result<(), TableFault>
-        ensures ok { OnOk result (self.new ≡ with_identity a u self.old) }
+    pub fn add(&mut self, alloc: Global, account: Account, uri: Uri) -> Result<(), TableFault>
+        ensures ok { OnOk result (self.new ≡ with_identity account uri self.old) }
         ensures err { OnErr result (self.new ≡ self.old) }
-        ensures cause { Meets result (identity_fault u self.old) }
+        ensures cause { IsTableResult result (identity_fault uri self.old) }
         // From now on the identity names the account.
-        ensures found { OnOk result (account_of self.new u ≡ Some a) }
+        ensures found { OnOk result (account_of self.new uri ≡ Some account) }
         // An identity that named an account still names it.
         ensures first { OnOk result ((v : Uri) → IfSome (account_of self.old v) (λ b. account_of self.new v ≡ Some b)) }
     {
-        if self.has_identity(&u) {
+        if self.has_identity(&uri) {
             return Err(TableFault::Taken);
         }
         let place = self.identities.items().len();
-        self.by_uri.add(alloc, uri_hash(&u), place)?;
-        self.by_account.add(alloc, u64::from(a.0), place)?;
-        self.identities
-            .push(alloc, AccountIdentity { account: a, uri: u })?;
+        self.by_uri.add(alloc, uri_hash(&uri), place)?;
+        self.by_account.add(alloc, u64::from(account.0), place)?;
+        self.identities.push(
+            alloc,
+            AccountIdentity {
+                account: account,
+                uri: uri,
+            },
+        )?;
         Ok(())
     }
 
@@ -130,19 +135,19 @@ impl Accounts {
     }
 
     /// The account of an identity: the account added first that has an identity equal to it. None where there is none.
-    pub fn find(&self, u: &Uri) -> Option<Account>
-        ensures exact { result ≡ account_of self.now u.now }
+    pub fn find(&self, uri: &Uri) -> Option<Account>
+        ensures exact { result ≡ account_of self.now uri.now }
     {
-        match self.named(u) {
+        match self.named(uri) {
             Some(identity) => Some(identity.account),
             None => None,
         }
     }
 
     /// Whether the account is in the table: it has an identity.
-    pub fn has_account(&self, a: Account) -> bool
-        ensures exact { result ≡ has_account a self.now }
+    pub fn has_account(&self, account: Account) -> bool
+        ensures exact { result ≡ has_account account self.now }
     {
-        is_there(&self.by_account, self.identities.items(), &a)
+        has_item(&self.by_account, self.identities.items(), &account)
     }
 }

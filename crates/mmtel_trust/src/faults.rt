@@ -2,7 +2,7 @@
 ghost use Rattle.std.specs.Prelude.{◌≡◌};
 ghost use Rattle.mmtel_trust.specs.declared.faults.TableFault.TheVariants as fault;
 
-use mmtel_scan::NoMemory;
+use mmtel_base::NoMemory;
 
 /// Why a table of peers or of accounts refused an entry. The table is then as before.
 #[derive(Clone, Copy, Debug, PartialEq, Eq)]

@@ -1,14 +1,14 @@
 //! The identities that a message asserts of its sender (RFC 3325).
 ghost use Rattle.std.specs.Prelude.{◌≡◌, IfOk};
 ghost use Rattle.mmtel_lex.specs.Reading.{uri_of};
-ghost use Rattle.mmtel_lex.specs.UriRefs.{uri_seen};
+ghost use Rattle.mmtel_lex.specs.UriRefs.{uri_view};
 ghost use Rattle.mmtel_message.specs.Values.{values_of};
 ghost use Rattle.mmtel_trust.specs.Asserted.{is_of_scheme, first_uri, asserted, asserted_values, or_no_uri, uri_in};
 ghost use Rattle.mmtel_trust.specs.Schemes.{of_scheme};
 
+use mmtel_base::{Class, trim};
 use mmtel_lex::{NoMemory, Uri, UriRef, name_addr_ref, uri_ref};
 use mmtel_message::{Mode, Msg, next_part};
-use mmtel_scan::{Class, trim};
 use std::alloc::Global;
 
 /// The schemes of identities.
@@ -30,7 +30,7 @@ pub struct Identities {
 }
 
 fn is_of_scheme(scheme: Scheme, uri: &UriRef<'_>) -> bool
-    ensures { result ≡ is_of_scheme scheme (uri_seen uri.now) }
+    ensures { result ≡ is_of_scheme scheme (uri_view uri.now) }
 {
     match uri {
         UriRef::Sip { .. } => match scheme {
@@ -86,10 +86,10 @@ fn first_of_line(alloc: Global, scheme: Scheme, values: &[u8]) -> Result<Option<
 }
 
 /// The first URI of the scheme among the asserted identities.
-fn first_uri(alloc: Global, scheme: Scheme, m: &Msg) -> Result<Option<Uri>, NoMemory>
-    ensures { IfOk result (λ u. u ≡ first_uri scheme (asserted_values m.now.lines)) }
+fn first_uri(alloc: Global, scheme: Scheme, message: &Msg) -> Result<Option<Uri>, NoMemory>
+    ensures { IfOk result (λ u. u ≡ first_uri scheme (asserted_values message.now.lines)) }
 {
-    for values in m.values_in(b"P-Asserted-Identity") {
+    for values in message.values_in(b"P-Asserted-Identity") {
         match first_of_line(alloc, scheme, values)? {
             Some(uri) => return Ok(Some(uri)),
             None => {}
@@ -104,8 +104,8 @@ fn first_uri(alloc: Global, scheme: Scheme, m: &Msg) -> Result<Option<Uri>, NoMe
 /// # Errors
 ///
 /// Out of memory only.
-pub fn asserted(alloc: Global, m: &Msg, trusted: bool) -> Result<Identities, NoMemory>
-    ensures exact { IfOk result (λ i. i ≡ asserted trusted m.now.lines) }
+pub fn asserted(alloc: Global, message: &Msg, trusted: bool) -> Result<Identities, NoMemory>
+    ensures exact { IfOk result (λ i. i ≡ asserted trusted message.now.lines) }
 {
     if !trusted {
         return Ok(Identities {
@@ -113,8 +113,8 @@ pub fn asserted(alloc: Global, m: &Msg, trusted: bool) -> Result<Identities, NoM
             tel: None,
         });
     }
-    let sip = first_uri(alloc, Scheme::Sip, m)?;
-    match first_uri(alloc, Scheme::Tel, m) {
+    let sip = first_uri(alloc, Scheme::Sip, message)?;
+    match first_uri(alloc, Scheme::Tel, message) {
         Err(error) => {
             drop(sip);
             Err(error)

@@ -1,8 +1,8 @@
 //! The header table: names of header fields, by what is done with these fields where a message is relayed.
 ghost use Rattle.std.specs.Prelude.{◌≡◌};
-ghost use Rattle.mmtel_trust.specs.Kinds.{group_rows, kind_in, personal_names, session_names, trusted_names, content_names, further_names, is_among, kind_of};
+ghost use Rattle.mmtel_trust.specs.Kinds.{header_groups, kind_in, personal_names, session_names, trusted_names, content_names, further_names, is_among, kind_of};
 
-use crate::texts::is;
+use crate::texts::equals_ignoring_case;
 
 /// What is done with a header field where its message is relayed.
 #[derive(Clone, Copy, Debug, PartialEq, Eq)]
@@ -38,60 +38,60 @@ pub enum HeaderKind {
 fn is_personal(name: &[u8]) -> bool
     ensures { result ≡ is_among personal_names name.now }
 {
-    is(name, b"Subject")
-        || is(name, b"Call-Info")
-        || is(name, b"Organization")
-        || is(name, b"User-Agent")
-        || is(name, b"Server")
-        || is(name, b"Reply-To")
-        || is(name, b"In-Reply-To")
+    equals_ignoring_case(name, b"Subject")
+        || equals_ignoring_case(name, b"Call-Info")
+        || equals_ignoring_case(name, b"Organization")
+        || equals_ignoring_case(name, b"User-Agent")
+        || equals_ignoring_case(name, b"Server")
+        || equals_ignoring_case(name, b"Reply-To")
+        || equals_ignoring_case(name, b"In-Reply-To")
 }
 
 fn is_session(name: &[u8]) -> bool
     ensures { result ≡ is_among session_names name.now }
 {
-    is(name, b"Session-Expires") || is(name, b"Min-SE")
+    equals_ignoring_case(name, b"Session-Expires") || equals_ignoring_case(name, b"Min-SE")
 }
 
 fn is_trusted(name: &[u8]) -> bool
     ensures { result ≡ is_among trusted_names name.now }
 {
-    is(name, b"P-Access-Network-Info")
-        || is(name, b"P-Asserted-Service")
-        || is(name, b"P-Early-Media")
+    equals_ignoring_case(name, b"P-Access-Network-Info")
+        || equals_ignoring_case(name, b"P-Asserted-Service")
+        || equals_ignoring_case(name, b"P-Early-Media")
 }
 
 fn is_content(name: &[u8]) -> bool
     ensures { result ≡ is_among content_names name.now }
 {
-    is(name, b"Accept")
-        || is(name, b"Accept-Contact")
-        || is(name, b"Accept-Encoding")
-        || is(name, b"Accept-Language")
-        || is(name, b"Alert-Info")
-        || is(name, b"Content-Disposition")
-        || is(name, b"Content-Encoding")
-        || is(name, b"Content-Language")
+    equals_ignoring_case(name, b"Accept")
+        || equals_ignoring_case(name, b"Accept-Contact")
+        || equals_ignoring_case(name, b"Accept-Encoding")
+        || equals_ignoring_case(name, b"Accept-Language")
+        || equals_ignoring_case(name, b"Alert-Info")
+        || equals_ignoring_case(name, b"Content-Disposition")
+        || equals_ignoring_case(name, b"Content-Encoding")
+        || equals_ignoring_case(name, b"Content-Language")
 }
 
 fn is_further(name: &[u8]) -> bool
     ensures { result ≡ is_among further_names name.now }
 {
-    is(name, b"Content-Type")
-        || is(name, b"MIME-Version")
-        || is(name, b"Priority")
-        || is(name, b"Reason")
-        || is(name, b"Reject-Contact")
-        || is(name, b"Request-Disposition")
-        || is(name, b"Retry-After")
-        || is(name, b"Unsupported")
+    equals_ignoring_case(name, b"Content-Type")
+        || equals_ignoring_case(name, b"MIME-Version")
+        || equals_ignoring_case(name, b"Priority")
+        || equals_ignoring_case(name, b"Reason")
+        || equals_ignoring_case(name, b"Reject-Contact")
+        || equals_ignoring_case(name, b"Request-Disposition")
+        || equals_ignoring_case(name, b"Retry-After")
+        || equals_ignoring_case(name, b"Unsupported")
 }
 
 /// The kind of a name, for the kinds that several names have.
-fn grouped(name: &[u8]) -> HeaderKind
-    ensures { result ≡ kind_in group_rows name.now }
+fn group_kind(name: &[u8]) -> HeaderKind
+    ensures { result ≡ kind_in header_groups name.now }
 {
-    if is(name, b"Supported") || is(name, b"Require") {
+    if equals_ignoring_case(name, b"Supported") || equals_ignoring_case(name, b"Require") {
         return HeaderKind::Options;
     }
     if is_session(name) {
@@ -117,26 +117,26 @@ fn grouped(name: &[u8]) -> HeaderKind
 pub fn kind_of(name: &[u8]) -> HeaderKind
     ensures table { result ≡ kind_of name.now }
 {
-    if is(name, b"From") {
+    if equals_ignoring_case(name, b"From") {
         return HeaderKind::From;
     }
-    if is(name, b"To") {
+    if equals_ignoring_case(name, b"To") {
         return HeaderKind::To;
     }
-    if is(name, b"Contact") {
+    if equals_ignoring_case(name, b"Contact") {
         return HeaderKind::Contact;
     }
-    if is(name, b"P-Asserted-Identity") {
+    if equals_ignoring_case(name, b"P-Asserted-Identity") {
         return HeaderKind::Asserted;
     }
-    if is(name, b"P-Served-User") {
+    if equals_ignoring_case(name, b"P-Served-User") {
         return HeaderKind::Served;
     }
-    if is(name, b"Privacy") {
+    if equals_ignoring_case(name, b"Privacy") {
         return HeaderKind::Privacy;
     }
-    if is(name, b"History-Info") {
+    if equals_ignoring_case(name, b"History-Info") {
         return HeaderKind::History;
     }
-    grouped(name)
+    group_kind(name)
 }

@@ -3,7 +3,7 @@ ghost use Rattle.std.specs.Prelude.{◌≡◌, IfOk};
 ghost use Rattle.std.specs.Option.{option_copied};
 ghost use Rattle.mmtel_lex.specs.Reading.{uri_of};
 ghost use Rattle.mmtel_trust.specs.Asserted.{or_no_uri, uri_in};
-ghost use Rattle.mmtel_trust.specs.Passed.{display_and_uri, read_by};
+ghost use Rattle.mmtel_trust.specs.HeaderTable.{display_and_uri, name_addr_in};
 
 use mmtel_lex::{
     LexFault, List, NameAddr, NoMemory, Text, Uri, UriFault, name_addr_ref, print_name_addr,
@@ -47,7 +47,7 @@ pub fn uri_in(alloc: Global, value: &[u8]) -> Result<Option<Uri>, NoMemory>
 ///
 /// Out of memory only.
 pub fn name_addr_in(alloc: Global, value: Option<&[u8]>) -> Result<Option<NameAddr>, NoMemory>
-    ensures exact { IfOk result (λ n. n ≡ read_by (option_copied value.entry)) }
+    ensures exact { IfOk result (λ n. n ≡ name_addr_in (option_copied value.entry)) }
 {
     match value {
         None => Ok(None),

@@ -1,1 +1,1 @@
-mod CauseLaws
+mod CauseTheorems

@@ -3,6 +3,6 @@ use Rattle.mmtel_types.specs.declared.sides.Side.{Side}
 use Rattle.mmtel_types.specs.declared.sides.Side.TheVariants.{Caller, Callee}
 
 -- the other side
-abbrev pub other_of : Side → Side
-other_of Caller = Callee
-other_of Callee = Caller
+abbrev pub other_side : Side → Side
+other_side Caller = Callee
+other_side Callee = Caller

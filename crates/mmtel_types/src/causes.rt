@@ -1,6 +1,6 @@
 //! Why a call or a request was refused or ended.
 ghost use Rattle.std.specs.Prelude.{◌≡◌};
-ghost use Rattle.mmtel_types.specs.Causes.{AreToldApart, status_of, word_of};
+ghost use Rattle.mmtel_types.specs.Causes.{AreDistinguished, status_of, word_of};
 
 /// Why a call or a request was refused or ended.
 ///
@@ -112,6 +112,6 @@ impl Cause {
 }
 
 /// A theorem, without code: no two causes have both the same word and the same status, so a CDR that has both determines the cause.
-pub fn causes_are_told_apart()
-    ensures told_apart { AreToldApart }
+pub fn causes_are_distinguished()
+    ensures told_apart { AreDistinguished }
 {}

@@ -11,7 +11,7 @@ mod privacy;
 mod sides;
 
 pub use addrs::Addr;
-pub use causes::{Cause, causes_are_told_apart};
+pub use causes::{Cause, causes_are_distinguished};
 pub use moments::Moment;
 pub use numbers::{Account, CallNo, Failed, Peer, RoomNo, SubNo};
 pub use privacy::PrivacySet;

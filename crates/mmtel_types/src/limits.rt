@@ -19,10 +19,10 @@ pub const SERVER_TRANSACTIONS: usize = 16_384;
 pub const CALLS: usize = 4_096;
 
 /// The conferences that are live at once, at most.
-pub const ROOMS: usize = 1_024;
+pub const CONFERENCES: usize = 1_024;
 
 /// The participants of a conference, at most.
-pub const SEATS: usize = 32;
+pub const PARTICIPANTS: usize = 32;
 
 /// The rules of one service in a service record, at most.
 pub const RULES: usize = 64;
@@ -46,16 +46,16 @@ pub const WEB_BODY_BYTES: usize = 65_536;
 pub const DIVERSIONS_DEFAULT: u16 = 5;
 
 /// The bound on the diversions of a call, at most.
-pub const DIVERSIONS_MOST: u16 = 16;
+pub const MAX_DIVERSIONS: u16 = 16;
 
 /// The seconds of ringing after which a call counts as not answered, where the service record sets none.
 pub const NO_REPLY_SECONDS_DEFAULT: u16 = 20;
 
 /// The seconds of ringing after which a call counts as not answered, at least.
-pub const NO_REPLY_SECONDS_LEAST: u16 = 5;
+pub const MIN_NO_REPLY_SECONDS: u16 = 5;
 
 /// The seconds of ringing after which a call counts as not answered, at most.
-pub const NO_REPLY_SECONDS_MOST: u16 = 180;
+pub const MAX_NO_REPLY_SECONDS: u16 = 180;
 
 /// The peers of a configuration, at most.
 pub const PEERS: usize = 1_024;

@@ -1,6 +1,6 @@
 //! The two sides of a call.
 ghost use Rattle.std.specs.Prelude.{◌≡◌};
-ghost use Rattle.mmtel_types.specs.Sides.{other_of};
+ghost use Rattle.mmtel_types.specs.Sides.{other_side};
 
 /// A side of a call that goes through the server: the caller's or the callee's.
 #[derive(Clone, Copy, Debug, PartialEq, Eq)]
@@ -14,8 +14,8 @@ pub enum Side {
 impl Side {
     /// The other side.
     pub fn other(self) -> Side
-        ensures across { result ≡ other_of self }
-        ensures back { other_of result ≡ self }
+        ensures across { result ≡ other_side self }
+        ensures back { other_side result ≡ self }
     {
         match self {
             Side::Caller => Side::Callee,

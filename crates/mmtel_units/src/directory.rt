@@ -2,7 +2,7 @@
 //! server's outputs.
 
 mod configurations;
-mod giving;
+mod delivery;
 mod limits;
 mod listings;
 mod script_links;

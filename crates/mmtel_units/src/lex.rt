@@ -1,46 +1,46 @@
 //! Parameters, URIs, their spans and escaped bytes, name-addrs and identities.
 
 use crate::asserting::assert_right;
-use mmtel_lex::params::{params_front, text, token};
+use mmtel_base::token_text;
+use mmtel_lex::params::{params_prefix, text, token};
 use mmtel_lex::uris::{host, port};
 use mmtel_lex::{
-    LexFault, NameAddr, NoMemory, Params, Text, Uri, UriFault, add_params, cut, domain, find_named,
-    first_part, is_named, percent_decoded, print_name_addr, print_uri, read_name_addr, read_params,
-    read_uri, same_identity, split_user, uri_header, uri_param,
+    LexFault, NameAddr, NoMemory, Params, Text, Uri, UriFault, add_params, domain, find_named,
+    first_part, is_named, percent_decoded_text, print_name_addr, print_uri, read_name_addr,
+    read_params, read_uri, same_identity, split_around, split_user, uri_header, uri_param,
 };
-use mmtel_scan::token_text;
-use mmtel_told::{Rows, Told, wrong_line};
+use mmtel_test_tables::{RowRunner, Transcript, wrong_line};
 
-fn add_param_parts(told: &mut Told, params: &Params) {
+fn add_param_parts(transcript: &mut Transcript, params: &Params) {
     for param in params.items() {
-        told.add_part(b"param", param.name.bytes());
+        transcript.add_part(b"param", param.name.bytes());
         if let Some(value) = &param.value {
-            told.add_part(b"value", value.bytes());
+            transcript.add_part(b"value", value.bytes());
         }
     }
 }
 
-fn add_user(told: &mut Told, user: &Option<Text>) {
+fn add_user(transcript: &mut Transcript, user: &Option<Text>) {
     if let Some(user) = user {
-        told.add_part(b"user", user.bytes());
+        transcript.add_part(b"user", user.bytes());
     }
 }
 
-fn add_port(told: &mut Told, port: Option<u16>) {
+fn add_port(transcript: &mut Transcript, port: Option<u16>) {
     if let Some(port) = port {
-        told.add(b" port");
-        told.add_spaced_number(u64::from(port));
+        transcript.add(b" port");
+        transcript.add_spaced_number(u64::from(port));
     }
 }
 
-fn add_headers(told: &mut Told, headers: &[u8]) {
+fn add_headers(transcript: &mut Transcript, headers: &[u8]) {
     if !headers.is_empty() {
-        told.add_part(b"headers", headers);
+        transcript.add_part(b"headers", headers);
     }
 }
 
 /// Adds the parts of a URI, without those that are absent.
-fn add_uri(told: &mut Told, uri: &Uri) {
+fn add_uri(transcript: &mut Transcript, uri: &Uri) {
     match uri {
         Uri::Sip {
             user,
@@ -49,17 +49,17 @@ fn add_uri(told: &mut Told, uri: &Uri) {
             params,
             headers,
         } => {
-            told.add(b"sip");
-            add_user(told, user);
-            told.add_part(b"host", host.bytes());
-            add_port(told, *port);
-            add_param_parts(told, params);
-            add_headers(told, headers.bytes());
+            transcript.add(b"sip");
+            add_user(transcript, user);
+            transcript.add_part(b"host", host.bytes());
+            add_port(transcript, *port);
+            add_param_parts(transcript, params);
+            add_headers(transcript, headers.bytes());
         }
         Uri::Tel { number, params } => {
-            told.add(b"tel");
-            told.add_part(b"number", number.bytes());
-            add_param_parts(told, params);
+            transcript.add(b"tel");
+            transcript.add_part(b"number", number.bytes());
+            add_param_parts(transcript, params);
         }
     }
 }
@@ -68,19 +68,19 @@ fn add_uri(told: &mut Told, uri: &Uri) {
 #[derive(Drop)]
 struct Uris;
 
-impl Rows for Uris {
-    fn tell(&mut self, told: &mut Told, asked: &[u8]) {
-        let mut text = Told::new(told.alloc);
+impl RowRunner for Uris {
+    fn run_row(&mut self, transcript: &mut Transcript, asked: &[u8]) {
+        let mut text = Transcript::new(transcript.alloc);
         text.add_ended(b'|', asked, b"\n");
-        match read_uri(told.alloc, text.bytes()) {
+        match read_uri(transcript.alloc, text.bytes()) {
             Ok(uri) => {
-                add_uri(told, &uri);
-                told.add(b"\n");
-                told.add_made(print_uri(told.alloc, &uri));
+                add_uri(transcript, &uri);
+                transcript.add(b"\n");
+                transcript.add_text_or_fail(print_uri(transcript.alloc, &uri));
             }
-            Err(UriFault::Malformed) => told.add_line(b"malformed"),
-            Err(UriFault::Scheme) => told.add_line(b"another scheme"),
-            Err(UriFault::NoMemory) => told.fail(),
+            Err(UriFault::Malformed) => transcript.add_line(b"malformed"),
+            Err(UriFault::Scheme) => transcript.add_line(b"another scheme"),
+            Err(UriFault::NoMemory) => transcript.fail(),
         }
     }
 }
@@ -265,30 +265,30 @@ fn reads_and_prints_uris(rt: HostRuntime) {
 }
 
 /// Adds the parts of a name-addr, without those that are absent.
-fn add_name_addr(told: &mut Told, name_addr: &NameAddr) {
-    told.add(b"name-addr");
+fn add_name_addr(transcript: &mut Transcript, name_addr: &NameAddr) {
+    transcript.add(b"name-addr");
     let display = name_addr.display.bytes();
     if !display.is_empty() {
-        told.add_part(b"display", display);
+        transcript.add_part(b"display", display);
     }
-    told.add_part(b"uri", name_addr.uri.bytes());
-    add_param_parts(told, &name_addr.params);
-    told.add(b"\n");
+    transcript.add_part(b"uri", name_addr.uri.bytes());
+    add_param_parts(transcript, &name_addr.params);
+    transcript.add(b"\n");
 }
 
 /// The parts of a name-addr, and the text that is printed of it; else its fault.
 #[derive(Drop)]
 struct NameAddrs;
 
-impl Rows for NameAddrs {
-    fn tell(&mut self, told: &mut Told, asked: &[u8]) {
-        match read_name_addr(told.alloc, asked) {
+impl RowRunner for NameAddrs {
+    fn run_row(&mut self, transcript: &mut Transcript, asked: &[u8]) {
+        match read_name_addr(transcript.alloc, asked) {
             Ok(name_addr) => {
-                add_name_addr(told, &name_addr);
-                told.add_made(print_name_addr(told.alloc, &name_addr));
+                add_name_addr(transcript, &name_addr);
+                transcript.add_text_or_fail(print_name_addr(transcript.alloc, &name_addr));
             }
-            Err(LexFault::Malformed) => told.add_line(b"malformed"),
-            Err(LexFault::NoMemory) => told.fail(),
+            Err(LexFault::Malformed) => transcript.add_line(b"malformed"),
+            Err(LexFault::NoMemory) => transcript.fail(),
         }
     }
 }
@@ -364,11 +364,11 @@ fn reads_and_prints_name_addrs(rt: HostRuntime) {
 }
 
 /// Adds the text that is written of parameters.
-fn add_written(told: &mut Told, params: &Params) {
+fn add_written(transcript: &mut Transcript, params: &Params) {
     let mut out = Text::new();
-    match add_params(told.alloc, &mut out, params.items()) {
-        Ok(()) => told.add_line(out.bytes()),
-        Err(NoMemory) => told.fail(),
+    match add_params(transcript.alloc, &mut out, params.items()) {
+        Ok(()) => transcript.add_line(out.bytes()),
+        Err(NoMemory) => transcript.fail(),
     }
 }
 
@@ -376,17 +376,17 @@ fn add_written(told: &mut Told, params: &Params) {
 #[derive(Drop)]
 struct ParamsRows;
 
-impl Rows for ParamsRows {
-    fn tell(&mut self, told: &mut Told, asked: &[u8]) {
-        match read_params(told.alloc, asked) {
+impl RowRunner for ParamsRows {
+    fn run_row(&mut self, transcript: &mut Transcript, asked: &[u8]) {
+        match read_params(transcript.alloc, asked) {
             Ok(params) => {
-                told.add(b"params");
-                add_param_parts(told, &params);
-                told.add(b"\n");
-                add_written(told, &params);
+                transcript.add(b"params");
+                add_param_parts(transcript, &params);
+                transcript.add(b"\n");
+                add_written(transcript, &params);
             }
-            Err(LexFault::Malformed) => told.add_line(b"malformed"),
-            Err(LexFault::NoMemory) => told.fail(),
+            Err(LexFault::Malformed) => transcript.add_line(b"malformed"),
+            Err(LexFault::NoMemory) => transcript.fail(),
         }
     }
 }
@@ -427,29 +427,29 @@ fn letter(is_so: bool) -> u8 {
     if is_so { b'y' } else { b'n' }
 }
 
-fn add_identity(told: &mut Told, a: &Uri, b: &Uri) {
-    told.add(&[
+fn add_identity(transcript: &mut Transcript, a: &Uri, b: &Uri) {
+    transcript.add(&[
         letter(same_identity(a, b)),
         letter(same_identity(b, a)),
         b' ',
     ]);
-    told.add_line(domain(a).unwrap_or(b"-"));
+    transcript.add_line(domain(a).unwrap_or(b"-"));
 }
 
 /// Adds the result for a URI and for one that is still to be read.
-fn add_pair(told: &mut Told, a: &Uri, second: &[u8]) {
-    match read_uri(told.alloc, second) {
-        Ok(b) => add_identity(told, a, &b),
-        Err(_) => told.fail(),
+fn add_pair(transcript: &mut Transcript, a: &Uri, second: &[u8]) {
+    match read_uri(transcript.alloc, second) {
+        Ok(b) => add_identity(transcript, a, &b),
+        Err(_) => transcript.fail(),
     }
 }
 
-impl Rows for Pairs {
-    fn tell(&mut self, told: &mut Told, asked: &[u8]) {
-        let (first, second) = cut(b' ', asked);
-        match read_uri(told.alloc, first) {
-            Ok(a) => add_pair(told, &a, second),
-            Err(_) => told.fail(),
+impl RowRunner for Pairs {
+    fn run_row(&mut self, transcript: &mut Transcript, asked: &[u8]) {
+        let (first, second) = split_around(b' ', asked);
+        match read_uri(transcript.alloc, first) {
+            Ok(a) => add_pair(transcript, &a, second),
+            Err(_) => transcript.fail(),
         }
     }
 }
@@ -509,45 +509,45 @@ fn compares_identities(rt: HostRuntime) {
 struct Fronts;
 
 /// Adds what was read as a prefix, and the rest, or `-`.
-fn add_front(told: &mut Told, front: Result<(Text, &[u8]), LexFault>) {
+fn add_front(transcript: &mut Transcript, front: Result<(Text, &[u8]), LexFault>) {
     match front {
         Ok((front, rest)) => {
-            told.add_part(b"front", front.bytes());
-            told.add_line(rest);
+            transcript.add_part(b"front", front.bytes());
+            transcript.add_line(rest);
         }
-        Err(_) => told.add_line(b"-"),
+        Err(_) => transcript.add_line(b"-"),
     }
 }
 
-fn add_port_front(told: &mut Told, front: Result<(Option<u16>, &[u8]), LexFault>) {
+fn add_port_front(transcript: &mut Transcript, front: Result<(Option<u16>, &[u8]), LexFault>) {
     match front {
         Ok((number, rest)) => {
-            add_port(told, number);
-            told.add_line(rest);
+            add_port(transcript, number);
+            transcript.add_line(rest);
         }
-        Err(_) => told.add_line(b"-"),
+        Err(_) => transcript.add_line(b"-"),
     }
 }
 
-fn add_params_front(told: &mut Told, front: Result<(Params, &[u8]), LexFault>) {
+fn add_params_front(transcript: &mut Transcript, front: Result<(Params, &[u8]), LexFault>) {
     match front {
         Ok((params, rest)) => {
-            add_param_parts(told, &params);
-            told.add_line(rest);
+            add_param_parts(transcript, &params);
+            transcript.add_line(rest);
         }
-        Err(_) => told.add_line(b"-"),
+        Err(_) => transcript.add_line(b"-"),
     }
 }
 
-impl Rows for Fronts {
-    fn tell(&mut self, told: &mut Told, asked: &[u8]) {
-        add_front(told, token(told.alloc, asked));
-        add_front(told, text(told.alloc, asked));
-        add_front(told, host(told.alloc, asked));
-        add_port_front(told, port(asked));
-        add_params_front(told, params_front(told.alloc, asked));
-        told.add_made(Text::of(told.alloc, asked));
-        told.add_made(token_text(told.alloc, asked, u64::MAX));
+impl RowRunner for Fronts {
+    fn run_row(&mut self, transcript: &mut Transcript, asked: &[u8]) {
+        add_front(transcript, token(transcript.alloc, asked));
+        add_front(transcript, text(transcript.alloc, asked));
+        add_front(transcript, host(transcript.alloc, asked));
+        add_port_front(transcript, port(asked));
+        add_params_front(transcript, params_prefix(transcript.alloc, asked));
+        transcript.add_text_or_fail(Text::of(transcript.alloc, asked));
+        transcript.add_text_or_fail(token_text(transcript.alloc, asked, u64::MAX));
     }
 }
 
@@ -608,35 +608,35 @@ fn reads_fronts(rt: HostRuntime) {
 }
 
 /// Adds a part that was found, or `-`.
-fn add_found(told: &mut Told, name: &[u8], found: Option<&[u8]>) {
-    told.add_part(name, found.unwrap_or(b"-"));
+fn add_found(transcript: &mut Transcript, name: &[u8], found: Option<&[u8]>) {
+    transcript.add_part(name, found.unwrap_or(b"-"));
 }
 
 /// Adds the values in a text of a URI, or `broken`, and ends the line.
-fn add_decoded(told: &mut Told, text: &[u8]) {
-    match percent_decoded(told.alloc, text) {
-        Ok(Some(decoded)) => told.add_part(b"decoded", decoded.bytes()),
-        Ok(None) => told.add(b" broken"),
-        Err(NoMemory) => told.fail(),
+fn add_decoded(transcript: &mut Transcript, text: &[u8]) {
+    match percent_decoded_text(transcript.alloc, text) {
+        Ok(Some(decoded)) => transcript.add_part(b"decoded", decoded.bytes()),
+        Ok(None) => transcript.add(b" broken"),
+        Err(NoMemory) => transcript.fail(),
     }
-    told.add(b"\n");
+    transcript.add(b"\n");
 }
 
 /// A name and a URI, which a space separates: the URI split after its `@`; its parameter and its header of the name; and what follows the `=` of the header, decoded.
 #[derive(Drop)]
 struct Places;
 
-impl Rows for Places {
-    fn tell(&mut self, told: &mut Told, asked: &[u8]) {
-        let (name, uri) = cut(b' ', asked);
+impl RowRunner for Places {
+    fn run_row(&mut self, transcript: &mut Transcript, asked: &[u8]) {
+        let (name, uri) = split_around(b' ', asked);
         let (user, host) = split_user(uri);
         let header = uri_header(uri, name);
-        let (_, value) = cut(b'=', header.unwrap_or(b""));
-        told.add_part(b"user", user);
-        told.add_part(b"host", host);
-        add_found(told, b"param", uri_param(uri, name));
-        add_found(told, b"header", header);
-        add_decoded(told, value);
+        let (_, value) = split_around(b'=', header.unwrap_or(b""));
+        transcript.add_part(b"user", user);
+        transcript.add_part(b"host", host);
+        add_found(transcript, b"param", uri_param(uri, name));
+        add_found(transcript, b"header", header);
+        add_decoded(transcript, value);
     }
 }
 
@@ -668,9 +668,9 @@ fn finds_places(rt: HostRuntime) {
 #[derive(Drop)]
 struct Escapes;
 
-impl Rows for Escapes {
-    fn tell(&mut self, told: &mut Told, asked: &[u8]) {
-        add_decoded(told, asked);
+impl RowRunner for Escapes {
+    fn run_row(&mut self, transcript: &mut Transcript, asked: &[u8]) {
+        add_decoded(transcript, asked);
     }
 }
 
@@ -710,13 +710,13 @@ fn decodes_escapes(rt: HostRuntime) {
 #[derive(Drop)]
 struct Parts;
 
-impl Rows for Parts {
-    fn tell(&mut self, told: &mut Told, asked: &[u8]) {
+impl RowRunner for Parts {
+    fn run_row(&mut self, transcript: &mut Transcript, asked: &[u8]) {
         let (front, rest) = first_part(b';', asked).unwrap_or((asked, b"none"));
-        told.add_part(b"first", front);
-        told.add_part(b"rest", rest);
-        add_found(told, b"named", find_named(b';', b"x", asked));
-        told.add(if is_named(b"x", front) {
+        transcript.add_part(b"first", front);
+        transcript.add_part(b"rest", rest);
+        add_found(transcript, b"named", find_named(b';', b"x", asked));
+        transcript.add(if is_named(b"x", front) {
             b" x\n"
         } else {
             b" -\n"

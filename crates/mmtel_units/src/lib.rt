@@ -7,9 +7,11 @@
 #![tactic(auto)]
 
 #[cfg(test)]
-mod answers;
-#[cfg(test)]
 mod asserting;
+#[cfg(test)]
+mod base;
+#[cfg(test)]
+mod composing;
 #[cfg(test)]
 mod directory;
 #[cfg(test)]
@@ -18,8 +20,6 @@ mod lex;
 mod messages;
 #[cfg(test)]
 mod reliable;
-#[cfg(test)]
-mod scan;
 #[cfg(test)]
 mod sdp;
 #[cfg(test)]

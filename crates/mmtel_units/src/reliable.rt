@@ -1,31 +1,31 @@
 //! What a PRACK acknowledges, and the reliable responses of a call.
 
 use crate::asserting::assert_right;
+use mmtel_base::number_up_to;
 use mmtel_lex::LexFault;
 use mmtel_reliable::{Acks, Rack, read_rack};
-use mmtel_scan::number_up_to;
-use mmtel_told::{Rows, Told, wrong_line};
+use mmtel_test_tables::{RowRunner, Transcript, wrong_line};
 use std::alloc::Global;
 
 /// Writes a value that was read, or `malformed`.
-fn tell_rack(told: &mut Told, rack: Result<Rack, LexFault>) {
+fn write_rack(transcript: &mut Transcript, rack: Result<Rack, LexFault>) {
     match rack {
         Ok(rack) => {
-            told.add_number(u64::from(rack.answer));
-            told.add_spaced_number(u64::from(rack.cseq));
-            told.add_if(rack.invite, b" INVITE\n", b" -\n");
+            transcript.add_number(u64::from(rack.answer));
+            transcript.add_spaced_number(u64::from(rack.cseq));
+            transcript.add_if(rack.invite, b" INVITE\n", b" -\n");
         }
-        Err(_) => told.add_line(b"malformed"),
+        Err(_) => transcript.add_line(b"malformed"),
     }
 }
 
 /// Writes a number, or `-`.
-fn tell_number(told: &mut Told, number: Option<u32>) {
+fn write_number(transcript: &mut Transcript, number: Option<u32>) {
     match number {
-        Some(number) => told.add_number(u64::from(number)),
-        None => told.add(b"-"),
+        Some(number) => transcript.add_number(u64::from(number)),
+        None => transcript.add(b"-"),
     }
-    told.add(b"\n");
+    transcript.add(b"\n");
 }
 
 fn number(digits: &[u8]) -> u32 {
@@ -40,33 +40,33 @@ struct Answers {
 
 impl Answers {
     /// Relays so many responses, from the callee's number on, and writes the last own number.
-    fn relay_all(&mut self, told: &mut Told, first: u32) {
+    fn relay_all(&mut self, transcript: &mut Transcript, first: u32) {
         let mut last = None;
         for k in 0..17 {
             last = self.acks.relay(first.saturating_add(k)).or(last);
         }
-        tell_number(told, last);
+        write_number(transcript, last);
     }
 
-    fn acked(&mut self, told: &mut Told, rack: &[u8]) {
-        if let Some(rack) = told.noted(read_rack(rack)) {
-            tell_number(told, self.acks.acked(&rack));
+    fn acked(&mut self, transcript: &mut Transcript, rack: &[u8]) {
+        if let Some(rack) = transcript.value_or_fail(read_rack(rack)) {
+            write_number(transcript, self.acks.acked(&rack));
         }
     }
 }
 
 /// `=` reads a RAck value. `+` with the callee's number relays a response, `*` 17 of them from that number on, `!` with a RAck value receives a PRACK, `?` with an own number
 /// writes whether its response waits, and anything else leaves the attempt.
-impl Rows for Answers {
-    fn tell(&mut self, told: &mut Told, asked: &[u8]) {
+impl RowRunner for Answers {
+    fn run_row(&mut self, transcript: &mut Transcript, asked: &[u8]) {
         match asked {
-            [b'=', rack @ ..] => tell_rack(told, read_rack(rack)),
-            [b'+', rseq @ ..] => tell_number(told, self.acks.relay(number(rseq))),
-            [b'*', first @ ..] => self.relay_all(told, number(first)),
-            [b'!', rack @ ..] => self.acked(told, rack),
+            [b'=', rack @ ..] => write_rack(transcript, read_rack(rack)),
+            [b'+', rseq @ ..] => write_number(transcript, self.acks.relay(number(rseq))),
+            [b'*', first @ ..] => self.relay_all(transcript, number(first)),
+            [b'!', rack @ ..] => self.acked(transcript, rack),
             [b'?', own @ ..] => {
                 let waits = self.acks.is_waiting(u64::from(number(own)));
-                told.add_if(waits, b"waits\n", b"-\n");
+                transcript.add_if(waits, b"waits\n", b"-\n");
             }
             _ => self.acks.next_attempt(),
         }

@@ -3,12 +3,12 @@
 //! A `|` in a row ends a line of a description.
 
 use crate::asserting::assert_right;
-use mmtel_scan::{List, NoMemory, Text, part};
+use mmtel_base::{List, NoMemory, Text, split_once_at};
 use mmtel_sdp::{
-    AnswerFault, Direction, Medium, Mixer, SdpFault, SdpView, direction_told, kinds_of, look,
+    AnswerFault, Direction, Medium, Mixer, SdpFault, SdpView, direction_in_body, kinds_of, look,
     mixer_answer, mixer_offer, offers_audio, view_of,
 };
-use mmtel_told::{Rows, Told, wrong_line};
+use mmtel_test_tables::{RowRunner, Transcript, wrong_line};
 
 fn direction_name(direction: Direction) -> &'static [u8] {
     match direction {
@@ -20,24 +20,24 @@ fn direction_name(direction: Direction) -> &'static [u8] {
 }
 
 /// Adds a medium as `;kind,protocol,format,map`.
-fn add_medium(told: &mut Told, medium: &Medium) {
-    told.add(b";");
-    told.add(medium.kind.bytes());
-    told.add(b",");
-    told.add(medium.proto.bytes());
-    told.add(b",");
-    told.add(medium.format.bytes());
-    told.add(b",");
-    told.add(medium.map.bytes());
+fn add_medium(transcript: &mut Transcript, medium: &Medium) {
+    transcript.add(b";");
+    transcript.add(medium.kind.bytes());
+    transcript.add(b",");
+    transcript.add(medium.proto.bytes());
+    transcript.add(b",");
+    transcript.add(medium.format.bytes());
+    transcript.add(b",");
+    transcript.add(medium.map.bytes());
 }
 
 /// Adds the direction and the media.
-fn add_view(told: &mut Told, view: &SdpView) {
-    told.add(direction_name(view.direction));
+fn add_view(transcript: &mut Transcript, view: &SdpView) {
+    transcript.add(direction_name(view.direction));
     for medium in view.media.items() {
-        add_medium(told, medium);
+        add_medium(transcript, medium);
     }
-    told.add(b"\n");
+    transcript.add(b"\n");
 }
 
 /// The media and direction of a description whose lines end like this, or that it is none.
@@ -46,14 +46,14 @@ struct Views {
     end: &'static [u8],
 }
 
-impl Rows for Views {
-    fn tell(&mut self, told: &mut Told, asked: &[u8]) {
-        let mut body = Told::new(told.alloc);
+impl RowRunner for Views {
+    fn run_row(&mut self, transcript: &mut Transcript, asked: &[u8]) {
+        let mut body = Transcript::new(transcript.alloc);
         body.add_ended(b'|', asked, self.end);
-        match look(told.alloc, body.bytes()) {
-            Ok(view) => add_view(told, &view),
-            Err(SdpFault::NotSdp) => told.add_line(b"no session description"),
-            Err(SdpFault::NoMemory) => told.fail(),
+        match look(transcript.alloc, body.bytes()) {
+            Ok(view) => add_view(transcript, &view),
+            Err(SdpFault::NotSdp) => transcript.add_line(b"no session description"),
+            Err(SdpFault::NoMemory) => transcript.fail(),
         }
     }
 }
@@ -142,36 +142,36 @@ const MIXER: Mixer = Mixer {
 };
 
 /// Adds a text of the mixer, with `|` for each CRLF, and `?|` for an LF alone.
-fn add_lines(told: &mut Told, text: &[u8]) {
+fn add_lines(transcript: &mut Transcript, text: &[u8]) {
     let mut rest = text;
     for _ in 0..100 {
-        match part(b'\n', rest) {
+        match split_once_at(b'\n', rest) {
             None => {
-                told.add_line(rest);
+                transcript.add_line(rest);
                 return;
             }
             Some((line, later)) => {
-                told.add(line.strip_suffix(b"\r").unwrap_or(b"?"));
-                told.add(b"|");
+                transcript.add(line.strip_suffix(b"\r").unwrap_or(b"?"));
+                transcript.add(b"|");
                 rest = later;
             }
         }
     }
 }
 
-fn add_answer(told: &mut Told, view: &SdpView) {
-    match mixer_answer(told.alloc, view, MIXER) {
-        Ok(answer) => add_lines(told, answer.bytes()),
-        Err(AnswerFault::NoAudio) => told.add_line(b"no audio"),
-        Err(AnswerFault::NoMemory) => told.fail(),
+fn add_sdp_answer(transcript: &mut Transcript, view: &SdpView) {
+    match mixer_answer(transcript.alloc, view, MIXER) {
+        Ok(answer) => add_lines(transcript, answer.bytes()),
+        Err(AnswerFault::NoAudio) => transcript.add_line(b"no audio"),
+        Err(AnswerFault::NoMemory) => transcript.fail(),
     }
 }
 
 /// Adds the mixer's own offer.
-fn add_offer(told: &mut Told) {
-    match mixer_offer(told.alloc, MIXER) {
-        Ok(offer) => add_lines(told, offer.bytes()),
-        Err(NoMemory) => told.fail(),
+fn add_offer(transcript: &mut Transcript) {
+    match mixer_offer(transcript.alloc, MIXER) {
+        Ok(offer) => add_lines(transcript, offer.bytes()),
+        Err(NoMemory) => transcript.fail(),
     }
 }
 
@@ -179,14 +179,14 @@ fn add_offer(told: &mut Told) {
 #[derive(Drop)]
 struct Answers;
 
-impl Rows for Answers {
-    fn tell(&mut self, told: &mut Told, asked: &[u8]) {
-        let mut offer = Told::new(told.alloc);
+impl RowRunner for Answers {
+    fn run_row(&mut self, transcript: &mut Transcript, asked: &[u8]) {
+        let mut offer = Transcript::new(transcript.alloc);
         offer.add_ended(b'|', asked, b"\n");
-        match look(told.alloc, offer.bytes()) {
-            Ok(view) => add_answer(told, &view),
-            Err(SdpFault::NotSdp) => add_offer(told),
-            Err(SdpFault::NoMemory) => told.fail(),
+        match look(transcript.alloc, offer.bytes()) {
+            Ok(view) => add_sdp_answer(transcript, &view),
+            Err(SdpFault::NotSdp) => add_offer(transcript),
+            Err(SdpFault::NoMemory) => transcript.fail(),
         }
     }
 }
@@ -228,33 +228,33 @@ fn audio_name(offers: bool) -> &'static [u8] {
 }
 
 /// Adds the content of audio.
-fn add_audio(told: &mut Told, said: Result<bool, NoMemory>) {
+fn add_audio(transcript: &mut Transcript, said: Result<bool, NoMemory>) {
     match said {
-        Ok(offers) => told.add(audio_name(offers)),
-        Err(NoMemory) => told.fail(),
+        Ok(offers) => transcript.add(audio_name(offers)),
+        Err(NoMemory) => transcript.fail(),
     }
 }
 
 /// Adds the direction, or that there is none.
-fn add_direction(told: &mut Told, said: Result<Option<Direction>, NoMemory>) {
+fn add_direction(transcript: &mut Transcript, said: Result<Option<Direction>, NoMemory>) {
     match said {
-        Ok(Some(direction)) => told.add(direction_name(direction)),
-        Ok(None) => told.add(b"no direction"),
-        Err(NoMemory) => told.fail(),
+        Ok(Some(direction)) => transcript.add(direction_name(direction)),
+        Ok(None) => transcript.add(b"no direction"),
+        Err(NoMemory) => transcript.fail(),
     }
 }
 
 /// Adds the kinds, with `,` before each, and ends the line.
-fn add_kinds(told: &mut Told, said: Result<List<Text>, NoMemory>) {
+fn add_kinds(transcript: &mut Transcript, said: Result<List<Text>, NoMemory>) {
     match said {
         Ok(kinds) => {
             for kind in kinds.items() {
-                told.add(b",");
-                told.add(kind.bytes());
+                transcript.add(b",");
+                transcript.add(kind.bytes());
             }
-            told.add(b"\n");
+            transcript.add(b"\n");
         }
-        Err(NoMemory) => told.fail(),
+        Err(NoMemory) => transcript.fail(),
     }
 }
 
@@ -262,14 +262,14 @@ fn add_kinds(told: &mut Told, said: Result<List<Text>, NoMemory>) {
 #[derive(Drop)]
 struct Offers;
 
-impl Rows for Offers {
-    fn tell(&mut self, told: &mut Told, asked: &[u8]) {
-        let alloc = told.alloc;
-        let mut body = Told::new(alloc);
+impl RowRunner for Offers {
+    fn run_row(&mut self, transcript: &mut Transcript, asked: &[u8]) {
+        let alloc = transcript.alloc;
+        let mut body = Transcript::new(alloc);
         body.add_ended(b'|', asked, b"\r\n");
-        add_audio(told, offers_audio(alloc, body.bytes()));
-        add_direction(told, direction_told(alloc, body.bytes()));
-        add_kinds(told, kinds_of(alloc, body.bytes()));
+        add_audio(transcript, offers_audio(alloc, body.bytes()));
+        add_direction(transcript, direction_in_body(alloc, body.bytes()));
+        add_kinds(transcript, kinds_of(alloc, body.bytes()));
     }
 }
 
@@ -277,19 +277,19 @@ impl Rows for Offers {
 #[derive(Drop)]
 struct OffersSeen;
 
-impl Rows for OffersSeen {
-    fn tell(&mut self, told: &mut Told, asked: &[u8]) {
-        let alloc = told.alloc;
-        let mut body = Told::new(alloc);
+impl RowRunner for OffersSeen {
+    fn run_row(&mut self, transcript: &mut Transcript, asked: &[u8]) {
+        let alloc = transcript.alloc;
+        let mut body = Transcript::new(alloc);
         body.add_ended(b'|', asked, b"\r\n");
         match view_of(alloc, body.bytes()) {
             Ok(Some(view)) => {
-                add_audio(told, Ok(view.has_audio()));
-                add_direction(told, Ok(Some(view.direction)));
-                add_kinds(told, view.kinds(alloc));
+                add_audio(transcript, Ok(view.has_audio()));
+                add_direction(transcript, Ok(Some(view.direction)));
+                add_kinds(transcript, view.kinds(alloc));
             }
-            Ok(None) => told.add_line(b"no audio; no direction"),
-            Err(NoMemory) => told.fail(),
+            Ok(None) => transcript.add_line(b"no audio; no direction"),
+            Err(NoMemory) => transcript.fail(),
         }
     }
 }

@@ -2,42 +2,42 @@
 
 use crate::asserting::assert_right;
 use mmtel_lex::{Uri, UriFault, print_uri, read_uri};
-use mmtel_targets::{Target, diverted_target, first_target, is_at_home, is_global_number};
-use mmtel_told::{Rows, Told, wrong_line};
+use mmtel_served_user::{Target, diverted_target, first_target, is_at_home, is_global_number};
+use mmtel_test_tables::{RowRunner, Transcript, wrong_line};
 use mmtel_types::Account;
 
 const HOME: &[u8] = b"home.example";
 
 /// Adds the word where the condition is true.
-fn add_if(told: &mut Told, is: bool, word: &[u8]) {
+fn add_if(transcript: &mut Transcript, is: bool, word: &[u8]) {
     if is {
-        told.add(word);
+        transcript.add(word);
     }
 }
 
 /// A target; whether it is a global number, was made of one, is of the home domain; whether it is refused as of no account where it has none, and where it has one.
-fn add_target(told: &mut Told, word: &[u8], target: &Target) {
-    told.add(word);
-    match print_uri(told.alloc, &target.uri) {
-        Ok(text) => told.add(text.bytes()),
-        Err(_) => told.fail(),
+fn add_target(transcript: &mut Transcript, word: &[u8], target: &Target) {
+    transcript.add(word);
+    match print_uri(transcript.alloc, &target.uri) {
+        Ok(text) => transcript.add(text.bytes()),
+        Err(_) => transcript.fail(),
     }
-    add_if(told, is_global_number(&target.uri), b" global");
-    add_if(told, target.of_number, b" made");
-    add_if(told, is_at_home(HOME, &target.uri), b" home");
-    add_if(told, target.is_unknown(HOME, None), b" nobody");
+    add_if(transcript, is_global_number(&target.uri), b" global");
+    add_if(transcript, target.of_number, b" made");
+    add_if(transcript, is_at_home(HOME, &target.uri), b" home");
+    add_if(transcript, target.is_unknown(HOME, None), b" nobody");
     add_if(
-        told,
+        transcript,
         target.is_unknown(HOME, Some(Account(1))),
         b" nobody's account",
     );
-    told.add_line(b"");
+    transcript.add_line(b"");
 }
 
-fn add_diverted(told: &mut Told, uri: Uri) {
-    match diverted_target(told.alloc, HOME, uri) {
-        Ok(target) => add_target(told, b"diverted ", &target),
-        Err(_) => told.fail(),
+fn add_diverted(transcript: &mut Transcript, uri: Uri) {
+    match diverted_target(transcript.alloc, HOME, uri) {
+        Ok(target) => add_target(transcript, b"diverted ", &target),
+        Err(_) => transcript.fail(),
     }
 }
 
@@ -45,16 +45,16 @@ fn add_diverted(told: &mut Told, uri: Uri) {
 #[derive(Drop)]
 struct Targets;
 
-impl Rows for Targets {
-    fn tell(&mut self, told: &mut Told, asked: &[u8]) {
-        match first_target(told.alloc, asked) {
-            Ok(Some(target)) => add_target(told, b"first ", &target),
-            Ok(None) => told.add_line(b"none"),
-            Err(_) => told.fail(),
+impl RowRunner for Targets {
+    fn run_row(&mut self, transcript: &mut Transcript, asked: &[u8]) {
+        match first_target(transcript.alloc, asked) {
+            Ok(Some(target)) => add_target(transcript, b"first ", &target),
+            Ok(None) => transcript.add_line(b"none"),
+            Err(_) => transcript.fail(),
         }
-        match read_uri(told.alloc, asked) {
-            Ok(uri) => add_diverted(told, uri),
-            Err(UriFault::NoMemory) => told.fail(),
+        match read_uri(transcript.alloc, asked) {
+            Ok(uri) => add_diverted(transcript, uri),
+            Err(UriFault::NoMemory) => transcript.fail(),
             Err(_) => {}
         }
     }

@@ -4,24 +4,24 @@ ghost use Rattle.std.specs.Prelude.{◌≡◌, ◌<◌, ◌/◌, nat_lt};
 ghost use Rattle.std.specs.List.Sorted.{IsNonDecreasingBy};
 
 use crate::asserting::assert_right;
-use mmtel_scan::number_up_to;
-use mmtel_timers::{Deadlines, Key, Mark, Ranked, Schedule, Shelf, Steps};
-use mmtel_told::{Rows, Told, cut, wrong_line};
+use mmtel_base::number_up_to;
+use mmtel_test_tables::{RowRunner, Transcript, split_or_all, wrong_line};
+use mmtel_timers::{Deadlines, Key, Ranked, Schedule, SearchKey, Shelf, Steps};
 use mmtel_types::Moment;
 use std::alloc::Global;
 use std::marker::Brand;
 use std::sync::ledger::{Blank, Ledger};
 
 /// Writes the moment and the key of a deadline, or `-`.
-fn tell_deadline(told: &mut Told, deadline: Option<(u64, Key)>) {
+fn write_deadline(transcript: &mut Transcript, deadline: Option<(u64, Key)>) {
     match deadline {
-        None => told.add(b"-"),
+        None => transcript.add(b"-"),
         Some((at, key)) => {
-            told.add_spaced_number(at);
-            told.add_spaced_number(key.0);
+            transcript.add_spaced_number(at);
+            transcript.add_spaced_number(key.0);
         }
     }
-    told.add(b"\n");
+    transcript.add(b"\n");
 }
 
 /// The deadlines after the rows so far, and the counter of comparisons next to them.
@@ -36,12 +36,15 @@ fn number(digits: &[u8]) -> u64 {
 }
 
 impl<L: Ledger> Armed<L> {
-    fn arm(&mut self, told: &mut Told, deadline: &[u8]) {
-        let (at, key) = cut(b' ', deadline);
-        let armed = self
-            .deadlines
-            .arm(told.alloc, number(at), Key(number(key)), &mut self.steps);
-        told.keep(armed.is_ok());
+    fn arm(&mut self, transcript: &mut Transcript, deadline: &[u8]) {
+        let (at, key) = split_or_all(b' ', deadline);
+        let armed = self.deadlines.arm(
+            transcript.alloc,
+            number(at),
+            Key(number(key)),
+            &mut self.steps,
+        );
+        transcript.fail_unless(armed.is_ok());
     }
 
     fn disarm(&mut self, key: &[u8]) {
@@ -54,26 +57,26 @@ impl<L: Ledger> Armed<L> {
 }
 
 /// Adds the moments of a schedule, also after its end.
-fn add_moments(told: &mut Told, schedule: Schedule) {
+fn add_moments(transcript: &mut Transcript, schedule: Schedule) {
     for k in [0, 1, 2, 3, 4, 5, 6, 7, 8, 9, 10, u32::MAX] {
         if let Some(moment) = schedule.at(k) {
-            told.add_spaced_number(moment);
+            transcript.add_spaced_number(moment);
         }
     }
-    told.add(b"\n");
+    transcript.add(b"\n");
 }
 
 /// `+` with a moment and a key arms the key, `-` with a key disarms it. `?` with a moment writes the moment and the key that are due then, or `-`; `^` writes the first of all. `I`
 /// and `O` write the schedules of an INVITE and of other messages.
-impl<L: Ledger> Rows for Armed<L> {
-    fn tell(&mut self, told: &mut Told, asked: &[u8]) {
+impl<L: Ledger> RowRunner for Armed<L> {
+    fn run_row(&mut self, transcript: &mut Transcript, asked: &[u8]) {
         match asked {
-            [b'+', deadline @ ..] => self.arm(told, deadline),
+            [b'+', deadline @ ..] => self.arm(transcript, deadline),
             [b'-', key @ ..] => self.disarm(key),
-            [b'?', now @ ..] => tell_deadline(told, self.due_at(number(now))),
-            [b'^'] => tell_deadline(told, self.deadlines.first()),
-            [b'I'] => add_moments(told, Schedule::Invite),
-            _ => add_moments(told, Schedule::Other),
+            [b'?', now @ ..] => write_deadline(transcript, self.due_at(number(now))),
+            [b'^'] => write_deadline(transcript, self.deadlines.first()),
+            [b'I'] => add_moments(transcript, Schedule::Invite),
+            _ => add_moments(transcript, Schedule::Other),
         }
     }
 }
@@ -228,10 +231,10 @@ impl Ranked for Item {
     }
 }
 
-impl Mark<Item> for Item {
+impl SearchKey<Item> for Item {
     ghost before = { λ mark item. nat_lt item.0 mark.0 };
 
-    fn rank_sought(&self) -> u64 {
+    fn key_rank(&self) -> u64 {
         self.rank()
     }
 
@@ -241,32 +244,32 @@ impl Mark<Item> for Item {
 }
 
 /// Puts an item before the one at an index, or at the end.
-fn put(told: &mut Told, shelf: &mut Shelf<Item>, place: usize, item: u64) {
+fn put(transcript: &mut Transcript, shelf: &mut Shelf<Item>, place: usize, item: u64) {
     if place > shelf.len() || shelf.insert(place, Item(item)).is_err() {
-        told.fail();
+        transcript.fail();
     }
 }
 
 /// Removes every item from the front and writes it.
-fn take_all(told: &mut Told, shelf: &mut Shelf<Item>) {
+fn take_all(transcript: &mut Transcript, shelf: &mut Shelf<Item>) {
     for _ in 0..shelf.len() {
         if let Some(item) = shelf.remove(0) {
-            told.add_spaced_number(item.0);
+            transcript.add_spaced_number(item.0);
         }
     }
-    told.add(b"\n");
+    transcript.add(b"\n");
 }
 
 /// Items are put at the front, at the end and between two; 0 where they are in order then.
 fn wrong_shelf(alloc: Global) -> usize {
-    let mut told = Told::new(alloc);
+    let mut transcript = Transcript::new(alloc);
     let mut shelf = Shelf::new(alloc);
-    put(&mut told, &mut shelf, 0, 20);
-    put(&mut told, &mut shelf, 1, 40);
-    put(&mut told, &mut shelf, 0, 10);
-    put(&mut told, &mut shelf, 2, 30);
-    take_all(&mut told, &mut shelf);
-    told.wrong_line(b" 10 20 30 40\n")
+    put(&mut transcript, &mut shelf, 0, 20);
+    put(&mut transcript, &mut shelf, 1, 40);
+    put(&mut transcript, &mut shelf, 0, 10);
+    put(&mut transcript, &mut shelf, 2, 30);
+    take_all(&mut transcript, &mut shelf);
+    transcript.wrong_line(b" 10 20 30 40\n")
 }
 
 #[test]
@@ -284,30 +287,30 @@ struct Sorted<L: Ledger> {
 
 impl<L: Ledger> Sorted<L> {
     /// Puts a number before the first that is not below it.
-    fn put(&mut self, told: &mut Told, item: Item) {
-        let place = self.shelf.seek(&item, &mut self.steps).place;
-        told.keep(self.shelf.insert(place, item).is_ok());
+    fn put(&mut self, transcript: &mut Transcript, item: Item) {
+        let place = self.shelf.seek(&item, &mut self.steps).position;
+        transcript.fail_unless(self.shelf.insert(place, item).is_ok());
     }
 
     /// Writes the index of the first number that is not below this one, and that number.
-    fn tell_place(&mut self, told: &mut Told, item: Item) {
+    fn write_span(&mut self, transcript: &mut Transcript, item: Item) {
         let sought = self.shelf.seek(&item, &mut self.steps);
-        told.add_spaced_number(sought.place as u64);
+        transcript.add_spaced_number(sought.position as u64);
         match sought.item {
-            None => told.add(b" -"),
-            Some(found) => told.add_spaced_number(found.0),
+            None => transcript.add(b" -"),
+            Some(found) => transcript.add_spaced_number(found.0),
         }
-        told.add(b"\n");
+        transcript.add(b"\n");
     }
 }
 
 /// `+` puts a number in; `?` writes the index of the first that is not below one, and that number, or `-`.
-impl<L: Ledger> Rows for Sorted<L> {
-    fn tell(&mut self, told: &mut Told, asked: &[u8]) {
+impl<L: Ledger> RowRunner for Sorted<L> {
+    fn run_row(&mut self, transcript: &mut Transcript, asked: &[u8]) {
         match asked {
-            [b'+', digits @ ..] => self.put(told, Item(number(digits))),
-            [_, digits @ ..] => self.tell_place(told, Item(number(digits))),
-            [] => told.fail(),
+            [b'+', digits @ ..] => self.put(transcript, Item(number(digits))),
+            [_, digits @ ..] => self.write_span(transcript, Item(number(digits))),
+            [] => transcript.fail(),
         }
     }
 }

@@ -1,7 +1,7 @@
 //! Addresses, causes, privacy words and limits.
 
 use crate::asserting::assert_right;
-use mmtel_told::Told;
+use mmtel_test_tables::Transcript;
 use mmtel_types::{Addr, Cause, PrivacySet, limits};
 use std::alloc::Global;
 
@@ -61,14 +61,14 @@ unacknowledged 500
 ";
 
 fn wrong_cause(alloc: Global) -> usize {
-    let mut told = Told::new(alloc);
+    let mut transcript = Transcript::new(alloc);
     for number in 0..23 {
         let cause = cause(number);
-        told.add(cause.word().as_bytes());
-        told.add_spaced_number(u64::from(cause.status()));
-        told.add(b"\n");
+        transcript.add(cause.word().as_bytes());
+        transcript.add_spaced_number(u64::from(cause.status()));
+        transcript.add(b"\n");
     }
-    told.wrong_line(CAUSES)
+    transcript.wrong_line(CAUSES)
 }
 
 /// The privacy without any Privacy header field: nothing.
@@ -91,22 +91,22 @@ fn addr(last: u8, port: u16) -> Addr {
 }
 
 /// Writes whether two addresses are the same.
-fn tell_same(told: &mut Told, one: Addr, other: Addr) {
-    told.add_if(one.is_same(other), b"same\n", b"another\n");
+fn write_same(transcript: &mut Transcript, one: Addr, other: Addr) {
+    transcript.add_if(one.is_same(other), b"same\n", b"another\n");
 }
 
 /// The privacy without any Privacy header field; and addresses: the same has the same four numbers and the same port.
 fn wrong_value(alloc: Global) -> usize {
-    let mut told = Told::new(alloc);
-    told.add_if(
+    let mut transcript = Transcript::new(alloc);
+    transcript.add_if(
         PrivacySet::default() == NOTHING,
         b"nothing\n",
         b"something\n",
     );
-    tell_same(&mut told, addr(1, 5060), addr(1, 5060));
-    tell_same(&mut told, addr(1, 5060), addr(2, 5060));
-    tell_same(&mut told, addr(1, 5060), addr(1, 5061));
-    told.wrong_line(b"nothing\nsame\nanother\nanother\n")
+    write_same(&mut transcript, addr(1, 5060), addr(1, 5060));
+    write_same(&mut transcript, addr(1, 5060), addr(2, 5060));
+    write_same(&mut transcript, addr(1, 5060), addr(1, 5061));
+    transcript.wrong_line(b"nothing\nsame\nanother\nanother\n")
 }
 
 #[test]
@@ -126,9 +126,9 @@ const _: () = prove!(limits::SERVER_TRANSACTIONS == 16_384);
 
 const _: () = prove!(limits::CALLS == 4_096);
 
-const _: () = prove!(limits::ROOMS == 1_024);
+const _: () = prove!(limits::CONFERENCES == 1_024);
 
-const _: () = prove!(limits::SEATS == 32);
+const _: () = prove!(limits::PARTICIPANTS == 32);
 
 const _: () = prove!(limits::RULES == 64);
 
@@ -144,13 +144,13 @@ const _: () = prove!(limits::WEB_BODY_BYTES == 65_536);
 
 const _: () = prove!(limits::DIVERSIONS_DEFAULT == 5);
 
-const _: () = prove!(limits::DIVERSIONS_MOST == 16);
+const _: () = prove!(limits::MAX_DIVERSIONS == 16);
 
 const _: () = prove!(limits::NO_REPLY_SECONDS_DEFAULT == 20);
 
-const _: () = prove!(limits::NO_REPLY_SECONDS_LEAST == 5);
+const _: () = prove!(limits::MIN_NO_REPLY_SECONDS == 5);
 
-const _: () = prove!(limits::NO_REPLY_SECONDS_MOST == 180);
+const _: () = prove!(limits::MAX_NO_REPLY_SECONDS == 180);
 
 const _: () = prove!(limits::PEERS == 1_024);
 

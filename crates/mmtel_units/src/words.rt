@@ -1,56 +1,56 @@
 //! The words of the command line.
 
 use crate::asserting::assert_right;
-use mmtel_scan::{List, Text, part};
-use mmtel_told::{Rows, Told, wrong_line};
-use mmtel_words::{Wanted, command};
+use mmtel_base::{List, Text, split_once_at};
+use mmtel_test_tables::{RowRunner, Transcript, wrong_line};
+use mmtel_words::{WantedCommand, command};
 
 /// The words, which `|` separates.
-fn words_of(told: &mut Told, asked: &[u8]) -> List<Text> {
+fn words_of(transcript: &mut Transcript, asked: &[u8]) -> List<Text> {
     let mut words = List::new();
     let mut rest = Some(asked);
     for _ in 0..16 {
         let Some(text) = rest else {
             return words;
         };
-        let (word, later) = match part(b'|', text) {
+        let (word, later) = match split_once_at(b'|', text) {
             Some((word, later)) => (word, Some(later)),
             None => (text, None),
         };
         rest = later;
-        let word = told.copy(word);
-        let pushed = words.push(told.alloc, word);
-        told.keep(pushed.is_ok());
+        let word = transcript.copy(word);
+        let pushed = words.push(transcript.alloc, word);
+        transcript.fail_unless(pushed.is_ok());
     }
     words
 }
 
-fn add_wanted(told: &mut Told, wanted: &Wanted) {
+fn add_wanted(transcript: &mut Transcript, wanted: &WantedCommand) {
     match wanted {
-        Wanted::Serve(serve) => {
-            told.add(b"serve");
-            told.add_part(b"config", serve.config.bytes());
-            told.add_part(b"token", serve.token.bytes());
-            told.add_spaced_number(serve.turns);
+        WantedCommand::Serve(serve) => {
+            transcript.add(b"serve");
+            transcript.add_part(b"config", serve.config.bytes());
+            transcript.add_part(b"token", serve.token.bytes());
+            transcript.add_spaced_number(serve.turns);
         }
-        Wanted::Replay(replay) => {
-            told.add(b"replay");
-            told.add_part(b"config", replay.config.bytes());
-            told.add_part(b"script", replay.script.bytes());
-            told.add_part(b"token", replay.token.bytes());
+        WantedCommand::Replay(replay) => {
+            transcript.add(b"replay");
+            transcript.add_part(b"config", replay.config.bytes());
+            transcript.add_part(b"script", replay.script.bytes());
+            transcript.add_part(b"token", replay.token.bytes());
         }
-        Wanted::Check(records) => {
-            told.add(b"check");
-            told.add_part(b"records", records.bytes());
+        WantedCommand::Check(records) => {
+            transcript.add(b"check");
+            transcript.add_part(b"records", records.bytes());
         }
-        Wanted::Charges(config) => {
-            told.add(b"charges");
-            told.add_part(b"config", config.bytes());
+        WantedCommand::Charges(config) => {
+            transcript.add(b"charges");
+            transcript.add_part(b"config", config.bytes());
         }
-        Wanted::Workload { calls, salt } => {
-            told.add(b"workload");
-            told.add_spaced_number(u64::from(*calls));
-            told.add_spaced_number(u64::from(*salt));
+        WantedCommand::Workload { calls, salt } => {
+            transcript.add(b"workload");
+            transcript.add_spaced_number(u64::from(*calls));
+            transcript.add_spaced_number(u64::from(*salt));
         }
     }
 }
@@ -59,20 +59,20 @@ fn add_wanted(told: &mut Told, wanted: &Wanted) {
 #[derive(Drop)]
 struct Lines;
 
-impl Rows for Lines {
-    fn tell(&mut self, told: &mut Told, asked: &[u8]) {
-        let words = words_of(told, asked);
-        let wanted = command(told.alloc, words.items());
+impl RowRunner for Lines {
+    fn run_row(&mut self, transcript: &mut Transcript, asked: &[u8]) {
+        let words = words_of(transcript, asked);
+        let wanted = command(transcript.alloc, words.items());
         drop(words);
         match wanted {
             Ok(Some(wanted)) => {
-                add_wanted(told, &wanted);
+                add_wanted(transcript, &wanted);
                 drop(wanted);
             }
-            Ok(None) => told.add(b"none"),
-            Err(_) => told.fail(),
+            Ok(None) => transcript.add(b"none"),
+            Err(_) => transcript.fail(),
         }
-        told.add(b"\n");
+        transcript.add(b"\n");
     }
 }
 

@@ -1,7 +1,7 @@
 //! A leg is taken out of a call into a conference.
 
 use crate::asserting::assert_right;
-use crate::seating::wrong_seat;
+use crate::conference_tables::wrong_participant;
 
 /// NOTIFY is sent only to a participant that is there. Legs of a callee and of a caller are invited by re-INVITE, and have their participant, dialog and CDR from then on (RFC
 /// 4579 §5.6): a re-INVITE of their own crosses, no ringing limit ends them, and after a 2xx with another tag than the dialog's a further one with that tag gets the ACK again. A
@@ -144,5 +144,5 @@ seats 0 0 0
 
 #[test]
 fn adopting(rt: HostRuntime) {
-    assert_right(&rt, "ADOPTING", wrong_seat(rt.alloc(), ADOPTING));
+    assert_right(&rt, "ADOPTING", wrong_participant(rt.alloc(), ADOPTING));
 }

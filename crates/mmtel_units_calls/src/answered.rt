@@ -5,7 +5,7 @@
 //! A side of a stable call leaves, or sends another request (RFC 3261 §11.2, §12.2.2, §15.1).
 
 use crate::asserting::assert_right;
-use crate::stepping::wrong_step;
+use crate::call_tables::wrong_step;
 
 const ANSWERED: &[u8] = br#"# what comes before the ACK, and an ACK of another number or side
 > 0 invite 1 alice@home.example sip:bob@home.example

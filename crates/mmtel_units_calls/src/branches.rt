@@ -1,11 +1,11 @@
 //! Of the requests with a response pending, the one to which a response belongs, or which timed out.
 
 use crate::asserting::assert_right;
+use crate::environments::word;
 use crate::messages::success;
-use crate::worlds::word;
-use mmtel_desk::{invite_answered, invite_silent};
-use mmtel_scan::part;
-use mmtel_told::{Told, cut};
+use mmtel_base::split_once_at;
+use mmtel_output::{awaited_request_branch, timed_out_branch};
+use mmtel_test_tables::{Transcript, split_or_all};
 use std::alloc::Global;
 
 /// A method and a branch; the branch without its cookie of the request to which a response with them belongs, and of the request where it timed out, where its response is pending:
@@ -26,38 +26,38 @@ CANCEL z9hG4bKx-1: none none
 invite z9hG4bKx-1: none none
 ";
 
-fn tell_answered(told: &mut Told, method: &[u8], branch: &[u8]) {
-    let response = success(told, method, branch);
-    let answered = invite_answered(told.alloc, &response);
+fn write_answered(transcript: &mut Transcript, method: &[u8], branch: &[u8]) {
+    let response = success(transcript, method, branch);
+    let answered = awaited_request_branch(transcript.alloc, &response);
     drop(response);
-    match told.noted(answered) {
+    match transcript.value_or_fail(answered) {
         Some(Some(branch)) => {
-            told.add(branch.bytes());
+            transcript.add(branch.bytes());
             drop(branch);
         }
-        Some(None) => told.add(b"none"),
-        None => told.add(b"failed"),
+        Some(None) => transcript.add(b"none"),
+        None => transcript.add(b"failed"),
     }
 }
 
 /// Writes a row with its result.
-fn tell_row(told: &mut Told, row: &[u8]) {
-    let (asked, _) = cut(b':', row);
+fn write_row(transcript: &mut Transcript, row: &[u8]) {
+    let (asked, _) = split_or_all(b':', row);
     let (method, branch) = word(asked);
-    told.add(asked);
-    told.add(b": ");
-    tell_answered(told, method, branch);
-    told.add(b" ");
-    told.add_line(invite_silent(branch, method).unwrap_or(b"none"));
+    transcript.add(asked);
+    transcript.add(b": ");
+    write_answered(transcript, method, branch);
+    transcript.add(b" ");
+    transcript.add_line(timed_out_branch(branch, method).unwrap_or(b"none"));
 }
 
-fn tell_rows(told: &mut Told, table: &[u8]) {
+fn write_rows(transcript: &mut Transcript, table: &[u8]) {
     let mut rest = table;
     for _ in 0..100 {
-        match part(b'\n', rest) {
+        match split_once_at(b'\n', rest) {
             None => break,
             Some((row, later)) => {
-                tell_row(told, row);
+                write_row(transcript, row);
                 rest = later;
             }
         }
@@ -65,10 +65,10 @@ fn tell_rows(told: &mut Told, table: &[u8]) {
 }
 
 fn wrong_branch(alloc: Global, table: &[u8]) -> usize {
-    let mut told = Told::new(alloc);
-    tell_rows(&mut told, table);
-    let wrong = told.wrong_line(table);
-    drop(told);
+    let mut transcript = Transcript::new(alloc);
+    write_rows(&mut transcript, table);
+    let wrong = transcript.wrong_line(table);
+    drop(transcript);
     wrong
 }
 

@@ -5,7 +5,7 @@
 //! What History-Info reveals to whom (RFC 7044 §10.1): marks for the caller are in a 181 alone, and those for targets in all that is passed on.
 
 use crate::asserting::assert_right;
-use crate::stepping::wrong_step;
+use crate::call_tables::wrong_step;
 
 const DIVERTING: &[u8] = b"# to a busy target, and on from there
 > record 2 divert always sip:carol@home.example

@@ -3,7 +3,7 @@
 //! The expiry of the last 2xx counts; it ends a stable call, and one in which an INVITE has no final response.
 
 use crate::asserting::assert_right;
-use crate::stepping::wrong_step;
+use crate::call_tables::wrong_step;
 
 const EXPIRING: &[u8] = br#"# it ends a call that talks, and nothing else does
 > timer

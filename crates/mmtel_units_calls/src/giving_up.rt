@@ -1,7 +1,7 @@
 //! Calls that are abandoned by the server.
 
 use crate::asserting::assert_right;
-use crate::calling::wrong_call;
+use crate::tables_of_calls::wrong_call;
 
 /// A call of each kind: offered, ringing, answered, left by its target before the ACK, stable, with a request pending, without a leg that is not put back, and ended with an INVITE
 /// to which a response may still be received.

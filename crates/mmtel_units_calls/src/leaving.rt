@@ -7,7 +7,7 @@
 //! A further dialog of an INVITE that was answered has ACK and BYE at once (RFC 3261 §13.2.2.4).
 
 use crate::asserting::assert_right;
-use crate::stepping::wrong_step;
+use crate::call_tables::wrong_step;
 
 const LEAVING: &[u8] =
     br#"# 2xx first, of two dialogs, each heard twice, and a provisional response then

@@ -1,7 +1,7 @@
 //! Legs that are detached from calls.
 
 use crate::asserting::assert_right;
-use crate::calling::wrong_call;
+use crate::tables_of_calls::wrong_call;
 
 /// A leg is taken out of a stable call alone; while it is out, neither its dialog is found nor its side, and both accounts are in the call still. Once it is put back, the call
 /// continues; else it ends by BYE to the leg that remains (RFC 4579 §5.6). Rows are handed over from the front.

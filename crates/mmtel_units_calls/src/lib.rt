@@ -7,31 +7,35 @@ mod adopting;
 #[cfg(test)]
 mod answered;
 #[cfg(test)]
-mod asking;
-#[cfg(test)]
 mod asserting;
 #[cfg(test)]
 mod branches;
 #[cfg(test)]
-mod calling;
+mod call_tables;
 #[cfg(test)]
-mod closing;
+mod closed_conferences;
 #[cfg(test)]
-mod deeds;
+mod conference_limits;
+#[cfg(test)]
+mod conference_messages;
+#[cfg(test)]
+mod conference_operations;
+#[cfg(test)]
+mod conference_tables;
 #[cfg(test)]
 mod diverting;
+#[cfg(test)]
+mod environments;
 #[cfg(test)]
 mod expiring;
 #[cfg(test)]
 mod giving_up;
 #[cfg(test)]
-mod inviting;
-#[cfg(test)]
 mod leaving;
 #[cfg(test)]
-mod legs;
+mod leg_operations;
 #[cfg(test)]
-mod lending;
+mod legs;
 #[cfg(test)]
 mod limits;
 #[cfg(test)]
@@ -41,24 +45,20 @@ mod offered;
 #[cfg(test)]
 mod opening;
 #[cfg(test)]
+mod participants;
+#[cfg(test)]
 mod records;
+#[cfg(test)]
+mod referrals;
+#[cfg(test)]
+mod reinvites;
 #[cfg(test)]
 mod reliable;
 #[cfg(test)]
-mod room_limits;
+mod several_calls;
 #[cfg(test)]
-mod room_messages;
+mod step_reports;
 #[cfg(test)]
-mod seating;
+mod tables_of_calls;
 #[cfg(test)]
-mod seats;
-#[cfg(test)]
-mod stepping;
-#[cfg(test)]
-mod telling;
-#[cfg(test)]
-mod together;
-#[cfg(test)]
-mod whole;
-#[cfg(test)]
-mod worlds;
+mod whole_messages;

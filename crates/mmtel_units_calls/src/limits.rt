@@ -1,7 +1,7 @@
 //! The maximum number of live calls.
 
 use crate::asserting::assert_right;
-use crate::calling::wrong_call;
+use crate::tables_of_calls::wrong_call;
 
 /// Once 4,096 calls live, the next INVITE opens none, and is handed back: no number is used and no token drawn. A call that ended makes space, though a message for it may still be
 /// received.

@@ -1,10 +1,10 @@
 //! Received messages, of short words.
 
-use crate::worlds::{is, source, word};
-use mmtel_answers::Hearing;
+use crate::environments::{is, source, word};
+use mmtel_base::{Text, skip_text};
+use mmtel_compose::ReceivedMessage;
 use mmtel_message::{Msg, Start, read};
-use mmtel_scan::{Text, skip_text};
-use mmtel_told::{Told, cut};
+use mmtel_test_tables::{Transcript, split_or_all};
 use mmtel_types::Peer;
 
 /// A message without header fields.
@@ -24,20 +24,20 @@ pub fn value<'a>(message: &'a Msg, name: &[u8]) -> &'a [u8] {
 }
 
 /// The message of this text, from a peer; the first is trusted.
-fn hearing(told: &mut Told, text: &Told, peer: u16) -> Hearing {
-    let message = read(told.alloc, text.bytes());
-    Hearing {
+fn received_message(transcript: &mut Transcript, text: &Transcript, peer: u16) -> ReceivedMessage {
+    let message = read(transcript.alloc, text.bytes());
+    ReceivedMessage {
         peer: Peer(peer),
         source: source(peer),
         trusted: peer == 1,
-        message: match told.noted(message) {
+        message: match transcript.value_or_fail(message) {
             Some(message) => message,
             None => nothing(),
         },
     }
 }
 
-fn add_line(text: &mut Told, name: &[u8], value: &[u8]) {
+fn add_line(text: &mut Transcript, name: &[u8], value: &[u8]) {
     text.add(name);
     text.add(b": ");
     text.add(value);
@@ -45,14 +45,14 @@ fn add_line(text: &mut Told, name: &[u8], value: &[u8]) {
 }
 
 /// Adds the further lines, which follow a `|` each: header fields, and after `=` lines of the body.
-fn add_further(text: &mut Told, further: &[u8]) {
+fn add_further(text: &mut Transcript, further: &[u8]) {
     let mut rest = further;
     let mut in_body = false;
     for _ in 0..40 {
         if rest.is_empty() {
             break;
         }
-        let (line, later) = cut(b'|', rest);
+        let (line, later) = split_or_all(b'|', rest);
         match skip_text(b"=", line) {
             None => text.add(line),
             Some(line) => {
@@ -72,21 +72,21 @@ fn add_further(text: &mut Told, further: &[u8]) {
 }
 
 /// The Contact of a user of a peer.
-pub fn add_place(text: &mut Told, user: &[u8], peer: u16) {
+pub fn add_place(text: &mut Transcript, user: &[u8], peer: u16) {
     text.add(b"sip:");
     text.add(user);
     text.add(b"@127.0.0.1:507");
     text.add_number(u64::from(peer));
 }
 
-fn add_contact(text: &mut Told, user: &[u8], peer: u16) {
+fn add_contact(text: &mut Transcript, user: &[u8], peer: u16) {
     text.add(b"Contact: <");
     add_place(text, user, peer);
     text.add(b">\r\n");
 }
 
 /// The beginning of a request, up to Max-Forwards.
-fn add_start(text: &mut Told, peer: u16, key: u64, method: &[u8], target: &[u8]) {
+fn add_start(text: &mut Transcript, peer: u16, key: u64, method: &[u8], target: &[u8]) {
     text.add(method);
     text.add(b" ");
     text.add(target);
@@ -97,7 +97,7 @@ fn add_start(text: &mut Told, peer: u16, key: u64, method: &[u8], target: &[u8])
     text.add(b"\r\nMax-Forwards: 68\r\n");
 }
 
-fn add_number(text: &mut Told, number: &[u8], method: &[u8]) {
+fn add_number(text: &mut Transcript, number: &[u8], method: &[u8]) {
     text.add(b"CSeq: ");
     text.add(number);
     text.add(b" ");
@@ -132,8 +132,8 @@ pub struct Coming<'a> {
 }
 
 /// The INVITE of a user who comes.
-pub fn invite(told: &mut Told, coming: Coming<'_>, further: &[u8]) -> Hearing {
-    let mut text = Told::new(told.alloc);
+pub fn invite(transcript: &mut Transcript, coming: Coming<'_>, further: &[u8]) -> ReceivedMessage {
+    let mut text = Transcript::new(transcript.alloc);
     add_start(&mut text, coming.peer, coming.key, b"INVITE", coming.whom);
     text.add(b"From: ");
     text.add(coming.name);
@@ -153,19 +153,19 @@ pub fn invite(told: &mut Told, coming: Coming<'_>, further: &[u8]) -> Hearing {
         text.add(b">\r\n");
     }
     add_further(&mut text, further);
-    let heard = hearing(told, &text, coming.peer);
+    let heard = received_message(transcript, &text, coming.peer);
     drop(text);
     heard
 }
 
 /// To of a response: that of the request with this tag in place of its own, or as it is for `-`.
-fn add_to(text: &mut Told, asked: &Msg, tag: &[u8]) {
+fn add_to(text: &mut Transcript, asked: &Msg, tag: &[u8]) {
     let to = value(asked, b"To");
     text.add(b"To: ");
     if is(tag, b"-") {
         text.add(to);
     } else {
-        let (front, _) = cut(b'>', to);
+        let (front, _) = split_or_all(b'>', to);
         text.add(front);
         text.add(b">;tag=");
         text.add(tag);
@@ -175,13 +175,19 @@ fn add_to(text: &mut Told, asked: &Msg, tag: &[u8]) {
 
 /// A response to a request of the server, of a tag and a status: the tag is in its To, or `-` for that of the request; a Contact is present with a tag, but not in finals from 300,
 /// nor where `=` precedes the tag.
-pub fn response(told: &mut Told, asked: &Msg, peer: u16, words: &[u8], further: &[u8]) -> Hearing {
+pub fn response(
+    transcript: &mut Transcript,
+    asked: &Msg,
+    peer: u16,
+    words: &[u8],
+    further: &[u8],
+) -> ReceivedMessage {
     let (tag, status) = word(words);
     let (tag, is_told) = match skip_text(b"=", tag) {
         Some(tag) => (tag, false),
         None => (tag, !is(tag, b"-")),
     };
-    let mut text = Told::new(told.alloc);
+    let mut text = Transcript::new(transcript.alloc);
     text.add(b"SIP/2.0 ");
     text.add(status);
     text.add(b"\r\n");
@@ -194,27 +200,27 @@ pub fn response(told: &mut Told, asked: &Msg, peer: u16, words: &[u8], further: 
         add_contact(&mut text, tag, peer);
     }
     add_further(&mut text, further);
-    let heard = hearing(told, &text, peer);
+    let heard = received_message(transcript, &text, peer);
     drop(text);
     heard
 }
 
 /// A 2xx to a request of this method and branch.
-pub fn success(told: &mut Told, method: &[u8], branch: &[u8]) -> Hearing {
-    let mut text = Told::new(told.alloc);
+pub fn success(transcript: &mut Transcript, method: &[u8], branch: &[u8]) -> ReceivedMessage {
+    let mut text = Transcript::new(transcript.alloc);
     text.add(b"SIP/2.0 200 OK\r\nVia: SIP/2.0/UDP h;branch=");
     text.add(branch);
     text.add(b"\r\nFrom: <sip:a@h>;tag=a\r\nTo: <sip:b@h>;tag=b\r\nCall-ID: c\r\n");
     add_number(&mut text, b"1", method);
     text.add(b"\r\n");
-    let heard = hearing(told, &text, 1);
+    let heard = received_message(transcript, &text, 1);
     drop(text);
     heard
 }
 
 /// The side that sends a request in a dialog, or CANCEL, and the dialog.
 #[derive(Clone, Copy)]
-pub struct Saying<'a> {
+pub struct RequestFields<'a> {
     pub peer: u16,
     pub key: u64,
     pub from: &'a [u8],
@@ -226,13 +232,13 @@ pub struct Saying<'a> {
 
 /// A request in a dialog, of this method and number, or its CANCEL.
 pub fn request(
-    told: &mut Told,
-    saying: Saying<'_>,
+    transcript: &mut Transcript,
+    saying: RequestFields<'_>,
     method: &[u8],
     cseq: &[u8],
     further: &[u8],
-) -> Hearing {
-    let mut text = Told::new(told.alloc);
+) -> ReceivedMessage {
+    let mut text = Transcript::new(transcript.alloc);
     add_start(
         &mut text,
         saying.peer,
@@ -248,7 +254,7 @@ pub fn request(
         add_contact(&mut text, saying.user, saying.peer);
     }
     add_further(&mut text, further);
-    let heard = hearing(told, &text, saying.peer);
+    let heard = received_message(transcript, &text, saying.peer);
     drop(text);
     heard
 }
@@ -279,7 +285,7 @@ pub fn named(words: &[u8]) -> (Name<'_>, &[u8]) {
 }
 
 /// A side of a dialog, with its tag where it has one.
-fn add_side(text: &mut Told, uri: &[u8], tag: &[u8]) {
+fn add_side(text: &mut Transcript, uri: &[u8], tag: &[u8]) {
     text.add(uri);
     if !tag.is_empty() {
         text.add(b";tag=");
@@ -289,19 +295,19 @@ fn add_side(text: &mut Told, uri: &[u8], tag: &[u8]) {
 
 /// A request in the dialog with these identifiers, of this method and number, or its CANCEL, where the server has no tag.
 pub fn request_in(
-    told: &mut Told,
+    transcript: &mut Transcript,
     peer: u16,
     key: u64,
     name: Name<'_>,
     method: &[u8],
     cseq: &[u8],
     further: &[u8],
-) -> Hearing {
-    let mut from = Told::new(told.alloc);
+) -> ReceivedMessage {
+    let mut from = Transcript::new(transcript.alloc);
     add_side(&mut from, b"<sip:this@home.example>", name.remote);
-    let mut to = Told::new(told.alloc);
+    let mut to = Transcript::new(transcript.alloc);
     add_side(&mut to, b"<sip:that@home.example>", name.local);
-    let saying = Saying {
+    let saying = RequestFields {
         peer,
         key,
         from: from.bytes(),
@@ -309,7 +315,7 @@ pub fn request_in(
         call_id: name.call_id,
         user: b"again",
     };
-    let heard = request(told, saying, method, cseq, further);
+    let heard = request(transcript, saying, method, cseq, further);
     drop(from);
     drop(to);
     heard

@@ -7,7 +7,7 @@
 //! Requests in dialogs that are not confirmed (RFC 3261 §12.2.2, §14.2).
 
 use crate::asserting::assert_right;
-use crate::stepping::wrong_step;
+use crate::call_tables::wrong_step;
 
 const OFFERED: &[u8] = br#"# the target tries, rings and answers
 > 0 invite 1 alice@home.example sip:bob@home.example

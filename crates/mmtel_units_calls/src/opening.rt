@@ -5,7 +5,7 @@
 //! Waiting calls (TS 24.615 §4.5.5), the session cases (RFC 5502 §6), and routes (RFC 3261 §16.12).
 
 use crate::asserting::assert_right;
-use crate::stepping::wrong_step;
+use crate::call_tables::wrong_step;
 
 const OPENING: &[u8] = br#"# a caller who hides nothing
 > 0 invite 1 erin@other.example sip:bob@far.example

@@ -1,13 +1,13 @@
 //! Records in short words: `divert EVENT TARGET [FLAG]`, `deflect`, `bar`, `allow URI`, `no-anonymous`, `bar-out URI`, `oir permanent`, `oir temporary`, `tir permanent`, `no-oip`,
 //! `no-tip`, `waiting N`, separated by `|`.
 
-use crate::worlds::{World, is, put, uri, word};
+use crate::environments::{TestEnvironment, is, put, uri, word};
+use mmtel_base::List;
 use mmtel_lex::Uri;
-use mmtel_scan::List;
 use mmtel_sheet_values::{
     Action, BarPart, Condition, DiversionPart, EventWord, Forward, Restriction, Rule, Sheet, Who,
 };
-use mmtel_told::{Told, cut};
+use mmtel_test_tables::{Transcript, split_or_all};
 use std::mem;
 
 /// The event of a rule; None for all calls.
@@ -73,22 +73,22 @@ fn take_diversion(place: &mut Option<DiversionPart>) -> DiversionPart {
     }
 }
 
-fn add_rule(told: &mut Told, part: &mut DiversionPart, words: &[u8]) {
+fn add_rule(transcript: &mut Transcript, part: &mut DiversionPart, words: &[u8]) {
     let (event, rest) = word(words);
     let (target, flag) = word(rest);
-    if let Some(target) = uri(told, target) {
+    if let Some(target) = uri(transcript, target) {
         let rule = Rule {
             condition: condition(event_of(event), None),
             action: Action::Forward(forward(target, flag)),
         };
-        let pushed = part.rules.push(told.alloc, rule);
-        told.noted(pushed);
+        let pushed = part.rules.push(transcript.alloc, rule);
+        transcript.value_or_fail(pushed);
     }
 }
 
-fn divert(told: &mut Told, place: &mut Option<DiversionPart>, words: &[u8]) {
+fn divert(transcript: &mut Transcript, place: &mut Option<DiversionPart>, words: &[u8]) {
     let mut part = take_diversion(place);
-    add_rule(told, &mut part, words);
+    add_rule(transcript, &mut part, words);
     drop(mem::replace(place, Some(part)));
 }
 
@@ -99,11 +99,11 @@ fn deflect(place: &mut Option<DiversionPart>) {
 }
 
 /// One identity.
-fn only(told: &mut Told, identity: &[u8]) -> Who {
+fn only(transcript: &mut Transcript, identity: &[u8]) -> Who {
     let mut one = List::new();
-    if let Some(uri) = uri(told, identity) {
-        let pushed = one.push(told.alloc, uri);
-        told.noted(pushed);
+    if let Some(uri) = uri(transcript, identity) {
+        let pushed = one.push(transcript.alloc, uri);
+        transcript.value_or_fail(pushed);
     }
     Who {
         one,
@@ -121,27 +121,27 @@ fn take_bars(place: &mut Option<BarPart>) -> BarPart {
 }
 
 /// This identity; none where there are no bytes.
-fn who(told: &mut Told, identity: &[u8]) -> Option<Who> {
+fn who(transcript: &mut Transcript, identity: &[u8]) -> Option<Who> {
     if identity.is_empty() {
         None
     } else {
-        Some(only(told, identity))
+        Some(only(transcript, identity))
     }
 }
 
 /// One more rule, for this identity, or for each where there is none.
-fn add_bar(told: &mut Told, part: &mut BarPart, identity: &[u8], allow: bool) {
+fn add_bar(transcript: &mut Transcript, part: &mut BarPart, identity: &[u8], allow: bool) {
     let rule = Rule {
-        condition: condition(None, who(told, identity)),
+        condition: condition(None, who(transcript, identity)),
         action: Action::Allow(allow),
     };
-    let pushed = part.rules.push(told.alloc, rule);
-    told.noted(pushed);
+    let pushed = part.rules.push(transcript.alloc, rule);
+    transcript.value_or_fail(pushed);
 }
 
-fn bar(told: &mut Told, place: &mut Option<BarPart>, identity: &[u8], allow: bool) {
+fn bar(transcript: &mut Transcript, place: &mut Option<BarPart>, identity: &[u8], allow: bool) {
     let mut part = take_bars(place);
-    add_bar(told, &mut part, identity, allow);
+    add_bar(transcript, &mut part, identity, allow);
     drop(mem::replace(place, Some(part)));
 }
 
@@ -160,17 +160,17 @@ fn restriction(mode: &[u8]) -> Restriction {
     }
 }
 
-fn change_rules(told: &mut Told, sheet: &mut Sheet, kind: &[u8], rest: &[u8]) -> bool {
+fn change_rules(transcript: &mut Transcript, sheet: &mut Sheet, kind: &[u8], rest: &[u8]) -> bool {
     if is(kind, b"divert") {
-        divert(told, &mut sheet.diversion, rest);
+        divert(transcript, &mut sheet.diversion, rest);
     } else if is(kind, b"deflect") {
         deflect(&mut sheet.diversion);
     } else if is(kind, b"bar") {
-        bar(told, &mut sheet.incoming, b"", false);
+        bar(transcript, &mut sheet.incoming, b"", false);
     } else if is(kind, b"allow") {
-        bar(told, &mut sheet.incoming, rest, true);
+        bar(transcript, &mut sheet.incoming, rest, true);
     } else if is(kind, b"bar-out") {
-        bar(told, &mut sheet.outgoing, rest, false);
+        bar(transcript, &mut sheet.outgoing, rest, false);
     } else if is(kind, b"no-anonymous") {
         reject_anonymous(&mut sheet.incoming);
     } else {
@@ -196,35 +196,40 @@ fn change_identity(sheet: &mut Sheet, kind: &[u8], rest: &[u8]) -> bool {
     true
 }
 
-fn change(told: &mut Told, sheet: &mut Sheet, clause: &[u8]) {
+fn change(transcript: &mut Transcript, sheet: &mut Sheet, clause: &[u8]) {
     let (kind, rest) = word(clause);
-    if !change_rules(told, sheet, kind, rest) && !change_identity(sheet, kind, rest) {
-        told.fail();
+    if !change_rules(transcript, sheet, kind, rest) && !change_identity(sheet, kind, rest) {
+        transcript.fail();
     }
 }
 
 /// Changes a record as these words describe.
-fn change_all(told: &mut Told, sheet: &mut Sheet, words: &[u8]) {
+fn change_all(transcript: &mut Transcript, sheet: &mut Sheet, words: &[u8]) {
     let mut rest = words;
     for _ in 0..9 {
         if rest.is_empty() {
             break;
         }
-        let (clause, later) = cut(b'|', rest);
-        change(told, sheet, clause);
+        let (clause, later) = split_or_all(b'|', rest);
+        change(transcript, sheet, clause);
         rest = later;
     }
 }
 
 /// The record of these words.
-fn sheet(told: &mut Told, words: &[u8]) -> Sheet {
+fn sheet(transcript: &mut Transcript, words: &[u8]) -> Sheet {
     let mut sheet = Sheet::empty();
-    change_all(told, &mut sheet, words);
+    change_all(transcript, &mut sheet, words);
     sheet
 }
 
 /// Sets a record of these words for an account.
-pub fn put_record(told: &mut Told, world: &mut World, account: u32, words: &[u8]) {
-    let sheet = sheet(told, words);
-    put(told, world, account, sheet);
+pub fn put_record(
+    transcript: &mut Transcript,
+    world: &mut TestEnvironment,
+    account: u32,
+    words: &[u8],
+) {
+    let sheet = sheet(transcript, words);
+    put(transcript, world, account, sheet);
 }

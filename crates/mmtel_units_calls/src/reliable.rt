@@ -4,8 +4,8 @@
 //! attempt, or the call.
 
 use crate::asserting::assert_right;
-use crate::calling::wrong_call;
-use crate::stepping::wrong_step;
+use crate::call_tables::wrong_step;
+use crate::tables_of_calls::wrong_call;
 
 const RELIABLE: &[u8] =
     br#"# the answer has a number of the server's own, its PRACK that of the target; only the first PRACK of it goes on, and none once the call is answered

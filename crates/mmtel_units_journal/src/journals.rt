@@ -1,85 +1,85 @@
 //! A keeper over a journal on a disk in memory: the length of the journal, what a stop leaves of it, and where one is broken.
 
-use crate::keeping::{add_held, add_record, add_rows};
+use crate::keeping::{add_contents, add_record, add_rows};
+use mmtel_base::List;
 use mmtel_journal::{Disk, JournalFault, JournalKeeper, MemoryDisk, make};
-use mmtel_scan::List;
-use mmtel_told::{Rows, Told, wrong_line};
+use mmtel_test_tables::{RowRunner, Transcript, wrong_line};
 use std::alloc::Global;
 
-fn add_fault(told: &mut Told, fault: JournalFault) {
+fn add_fault(transcript: &mut Transcript, fault: JournalFault) {
     match fault {
-        JournalFault::Failed => told.add(b"failed"),
+        JournalFault::Failed => transcript.add(b"failed"),
         JournalFault::NotEmpty { len } => {
-            told.add(b"not empty");
-            told.add_spaced_number(len);
+            transcript.add(b"not empty");
+            transcript.add_spaced_number(len);
         }
         JournalFault::Broken { at } => {
-            told.add(b"broken");
-            told.add_spaced_number(at);
+            transcript.add(b"broken");
+            transcript.add_spaced_number(at);
         }
-        JournalFault::NoMemory => told.fail(),
+        JournalFault::NoMemory => transcript.fail(),
     }
 }
 
 /// Opens a disk, and writes the contents.
-fn add_opened(told: &mut Told, disk: MemoryDisk) {
-    match JournalKeeper::open(told.alloc, disk) {
+fn add_opened(transcript: &mut Transcript, disk: MemoryDisk) {
+    match JournalKeeper::open(transcript.alloc, disk) {
         Ok(mut keeper) => {
-            add_held(told, &mut keeper);
+            add_contents(transcript, &mut keeper);
             drop(keeper);
         }
         Err((disk, fault)) => {
             drop(disk);
-            add_fault(told, fault);
+            add_fault(transcript, fault);
         }
     }
 }
 
 /// Writes the byte at a place.
-fn add_byte(told: &mut Told, disk: &mut MemoryDisk, at: u64) {
+fn add_byte(transcript: &mut Transcript, disk: &mut MemoryDisk, at: u64) {
     let mut buf = [0; 1];
     match disk.read(at, &mut buf) {
-        Ok(1) => told.add_number(u64::from(buf[0])),
-        _ => told.fail(),
+        Ok(1) => transcript.add_number(u64::from(buf[0])),
+        _ => transcript.fail(),
     }
 }
 
 /// A keeper over a journal whose calls a table makes.
 #[derive(Drop)]
-struct Kept {
+struct KeeperRows {
     keeper: JournalKeeper<MemoryDisk>,
 }
 
-impl Kept {
+impl KeeperRows {
     /// The disk as a stop directly after all calls but so many leaves it.
-    fn stopped(&self, told: &mut Told, but: u64) -> Option<MemoryDisk> {
+    fn stopped(&self, transcript: &mut Transcript, but: u64) -> Option<MemoryDisk> {
         let calls = self.keeper.disk().calls();
         if but > calls {
-            told.fail();
+            transcript.fail();
             return None;
         }
-        told.noted(self.keeper.disk().stopped(calls - but))
+        transcript.value_or_fail(self.keeper.disk().stopped(calls - but))
     }
 
     /// Writes the length of the journal, and whether another can be created over it.
-    fn add_long(&self, told: &mut Told) {
-        if let Some(mut disk) = self.stopped(told, 0) {
+    fn add_long(&self, transcript: &mut Transcript) {
+        if let Some(mut disk) = self.stopped(transcript, 0) {
             match make(&mut disk) {
-                Ok(()) => told.add(b"made"),
-                Err(fault) => add_fault(told, fault),
+                Ok(()) => transcript.add(b"made"),
+                Err(fault) => add_fault(transcript, fault),
             }
             drop(disk);
         }
     }
 
     /// Writes the first byte and the last.
-    fn add_gates(&self, told: &mut Told) {
-        if let Some(mut disk) = self.stopped(told, 0) {
+    fn add_gates(&self, transcript: &mut Transcript) {
+        if let Some(mut disk) = self.stopped(transcript, 0) {
             if let Ok(len @ 1..) = disk.len() {
-                add_byte(told, &mut disk, 0);
-                add_byte(told, &mut disk, len - 1);
+                add_byte(transcript, &mut disk, 0);
+                add_byte(transcript, &mut disk, len - 1);
             } else {
-                told.fail();
+                transcript.fail();
             }
             drop(disk);
         }
@@ -87,23 +87,23 @@ impl Kept {
 }
 
 /// Writes what a stop directly after all calls but so many leaves.
-fn add_stopped(told: &mut Told, kept: &Kept, but: u64) {
-    if let Some(disk) = kept.stopped(told, but) {
-        add_opened(told, disk);
+fn add_stopped(transcript: &mut Transcript, kept: &KeeperRows, but: u64) {
+    if let Some(disk) = kept.stopped(transcript, but) {
+        add_opened(transcript, disk);
     }
 }
 
-impl Rows for Kept {
-    fn tell(&mut self, told: &mut Told, asked: &[u8]) {
+impl RowRunner for KeeperRows {
+    fn run_row(&mut self, transcript: &mut Transcript, asked: &[u8]) {
         match asked {
-            [b's', account] => add_record(told, &mut self.keeper, *account),
-            [b'a', digits @ ..] => add_rows(told, &mut self.keeper, digits),
-            [b'o', but] => add_stopped(told, self, u64::from(but.saturating_sub(b'0'))),
-            [b'h', ..] => add_held(told, &mut self.keeper),
-            [b'g', ..] => self.add_gates(told),
-            _ => self.add_long(told),
+            [b's', account] => add_record(transcript, &mut self.keeper, *account),
+            [b'a', digits @ ..] => add_rows(transcript, &mut self.keeper, digits),
+            [b'o', but] => add_stopped(transcript, self, u64::from(but.saturating_sub(b'0'))),
+            [b'h', ..] => add_contents(transcript, &mut self.keeper),
+            [b'g', ..] => self.add_gates(transcript),
+            _ => self.add_long(transcript),
         }
-        told.add(b"\n");
+        transcript.add(b"\n");
     }
 }
 
@@ -162,31 +162,31 @@ ok
 ";
 
 /// A keeper over a journal that is created on a disk whose calls of these numbers fail: three are made by `make`, two by `open`.
-fn kept_on(told: &mut Told, failing: &[u64]) -> Option<Kept> {
+fn kept_on(transcript: &mut Transcript, failing: &[u64]) -> Option<KeeperRows> {
     let mut numbers = List::new();
     for number in failing {
-        let done = numbers.push(told.alloc, *number);
-        told.keep(done.is_ok());
+        let done = numbers.push(transcript.alloc, *number);
+        transcript.fail_unless(done.is_ok());
     }
-    let mut disk = MemoryDisk::new(told.alloc, numbers);
+    let mut disk = MemoryDisk::new(transcript.alloc, numbers);
     let made = make(&mut disk);
-    told.keep(made.is_ok());
-    let opened = JournalKeeper::open(told.alloc, disk);
-    let keeper = told.noted(opened)?;
-    Some(Kept { keeper })
+    transcript.fail_unless(made.is_ok());
+    let opened = JournalKeeper::open(transcript.alloc, disk);
+    let keeper = transcript.value_or_fail(opened)?;
+    Some(KeeperRows { keeper })
 }
 
 /// The first line of the table that is wrong.
 fn wrong_kept(alloc: Global, failing: &[u64], table: &[u8]) -> usize {
-    let mut told = Told::new(alloc);
-    let Some(mut kept) = kept_on(&mut told, failing) else {
-        drop(told);
+    let mut transcript = Transcript::new(alloc);
+    let Some(mut kept) = kept_on(&mut transcript, failing) else {
+        drop(transcript);
         return 1;
     };
     let wrong = wrong_line(alloc, &mut kept, table);
     drop(kept);
-    let failed = told.has_failed();
-    drop(told);
+    let failed = transcript.has_failed();
+    drop(transcript);
     if failed { 1 } else { wrong }
 }
 

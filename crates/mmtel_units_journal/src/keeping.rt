@@ -2,7 +2,7 @@
 
 use mmtel_charging::{Kind, Row};
 use mmtel_keeper::{KeepFault, Keeper};
-use mmtel_told::Told;
+use mmtel_test_tables::Transcript;
 use mmtel_types::{Account, CallNo, Cause, Moment};
 
 /// A record of 38 bytes.
@@ -24,52 +24,52 @@ fn row(digit: u8) -> Option<Row> {
 }
 
 /// Writes the result of a call.
-pub fn add_kept(told: &mut Told, done: Result<(), KeepFault>) {
+pub fn add_result(transcript: &mut Transcript, done: Result<(), KeepFault>) {
     match done {
-        Ok(()) => told.add(b"ok"),
-        Err(KeepFault::Failed) => told.add(b"failed"),
-        Err(KeepFault::NoMemory) => told.fail(),
+        Ok(()) => transcript.add(b"ok"),
+        Err(KeepFault::Failed) => transcript.add(b"failed"),
+        Err(KeepFault::NoMemory) => transcript.fail(),
     }
 }
 
 /// Stores the record for the account of a digit, and writes the result.
-pub fn add_record<K: Keeper>(told: &mut Told, keeper: &mut K, digit: u8) {
+pub fn add_record<K: Keeper>(transcript: &mut Transcript, keeper: &mut K, digit: u8) {
     let account = Account(u32::from(digit.saturating_sub(b'0')));
-    let done = keeper.store(told.alloc, account, SHEET);
-    add_kept(told, done);
+    let done = keeper.store(transcript.alloc, account, SHEET);
+    add_result(transcript, done);
 }
 
 /// Adds the rows of two digits, and writes the result.
-pub fn add_rows<K: Keeper>(told: &mut Told, keeper: &mut K, digits: &[u8]) {
+pub fn add_rows<K: Keeper>(transcript: &mut Transcript, keeper: &mut K, digits: &[u8]) {
     let [one, other] = digits else {
-        return told.fail();
+        return transcript.fail();
     };
     let (Some(one), Some(other)) = (
         row(one.saturating_sub(b'0')),
         row(other.saturating_sub(b'0')),
     ) else {
-        return told.fail();
+        return transcript.fail();
     };
-    let done = keeper.add_rows(told.alloc, &[one, other]);
-    add_kept(told, done);
+    let done = keeper.add_rows(transcript.alloc, &[one, other]);
+    add_result(transcript, done);
 }
 
 /// Writes the accounts of the sheets, and the digits of the rows.
-pub fn add_held<K: Keeper>(told: &mut Told, keeper: &mut K) {
-    let loaded = keeper.load(told.alloc);
-    if let Some(sheets) = told.noted(loaded) {
+pub fn add_contents<K: Keeper>(transcript: &mut Transcript, keeper: &mut K) {
+    let loaded = keeper.load(transcript.alloc);
+    if let Some(sheets) = transcript.value_or_fail(loaded) {
         for sheet in sheets.items() {
-            told.add_number(u64::from(sheet.0.0));
-            told.add(b":");
-            told.add_number(sheet.1.bytes().len() as u64);
-            told.add(b".");
+            transcript.add_number(u64::from(sheet.0.0));
+            transcript.add(b":");
+            transcript.add_number(sheet.1.bytes().len() as u64);
+            transcript.add(b".");
         }
         drop(sheets);
     }
-    let listed = keeper.rows(told.alloc);
-    if let Some(rows) = told.noted(listed) {
+    let listed = keeper.rows(transcript.alloc);
+    if let Some(rows) = transcript.value_or_fail(listed) {
         for row in rows.items() {
-            told.add_number(u64::from(row.holds));
+            transcript.add_number(u64::from(row.holds));
         }
         drop(rows);
     }

@@ -1,9 +1,9 @@
 //! A keeper over a journal or a database in files, by the path: bound again, and to a path of neither.
 
-use crate::keeping::{add_held, add_kept, add_record, add_rows};
+use crate::keeping::{add_contents, add_record, add_result, add_rows};
 use mmtel_keeper::Keeper;
-use mmtel_stores::StoreKeeper;
-use mmtel_told::{Rows, Told, wrong_line};
+use mmtel_stored_keepers::StoreKeeper;
+use mmtel_test_tables::{RowRunner, Transcript, wrong_line};
 
 /// A keeper whose calls a table makes, and another. Both have to be closed.
 struct Stored<'a> {
@@ -12,21 +12,21 @@ struct Stored<'a> {
 }
 
 /// Binds a keeper, and writes the result.
-fn add_bound(told: &mut Told, keeper: &mut StoreKeeper<'_>, path: &[u8]) {
-    let done = keeper.bind(told.alloc, path);
-    add_kept(told, done);
+fn add_bound(transcript: &mut Transcript, keeper: &mut StoreKeeper<'_>, path: &[u8]) {
+    let done = keeper.bind(transcript.alloc, path);
+    add_result(transcript, done);
 }
 
-impl Rows for Stored<'_> {
-    fn tell(&mut self, told: &mut Told, asked: &[u8]) {
+impl RowRunner for Stored<'_> {
+    fn run_row(&mut self, transcript: &mut Transcript, asked: &[u8]) {
         match asked {
-            [b'b', path @ ..] => add_bound(told, &mut self.keeper, path),
-            [b'o', path @ ..] => add_bound(told, &mut self.other, path),
-            [b's', account] => add_record(told, &mut self.keeper, *account),
-            [b'a', digits @ ..] => add_rows(told, &mut self.keeper, digits),
-            _ => add_held(told, &mut self.keeper),
+            [b'b', path @ ..] => add_bound(transcript, &mut self.keeper, path),
+            [b'o', path @ ..] => add_bound(transcript, &mut self.other, path),
+            [b's', account] => add_record(transcript, &mut self.keeper, *account),
+            [b'a', digits @ ..] => add_rows(transcript, &mut self.keeper, digits),
+            _ => add_contents(transcript, &mut self.keeper),
         }
-        told.add(b"\n");
+        transcript.add(b"\n");
     }
 }
 

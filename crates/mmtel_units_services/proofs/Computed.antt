@@ -1,6 +1,6 @@
 -- Each row computes.
 use Rattle.std.proofs.Common.{refl}
-use Rattle.mmtel_scan.specs.Classes.{in_class}
+use Rattle.mmtel_base.specs.Classes.{in_class}
 use Rattle.mmtel_rules.specs.Conditions.{condition_holds}
 use Rattle.mmtel_rules.specs.Identities.{identity_holds}
 use Rattle.mmtel_lex.specs.SameIdentity.{is_same_identity}

@@ -15,14 +15,14 @@ use Rattle.mmtel_sheet_values.specs.declared.values.EventWord.TheVariants as eve
 use Rattle.mmtel_sheet_values.specs.declared.values.Forward.{Forward}
 use Rattle.mmtel_sheet_values.specs.declared.values.Rule.{Rule}
 use Rattle.mmtel_sheet_values.specs.declared.values.Sheet.{Sheet}
-use Rattle.mmtel_targets.specs.declared.served.RegistrationState.TheVariants.{Registered, Unregistered}
-use Rattle.mmtel_targets.specs.declared.served.Served.{Served}
-use Rattle.mmtel_rules.specs.Circumstances.{Circumstances}
-use Rattle.mmtel_precedence.specs.Services.{AccountState, DueDiversion}
-use Rattle.mmtel_precedence.specs.Attempts.{AckTime, CallerGaveUp, Response, end_by}
-use Rattle.mmtel_precedence.specs.Calls.{Answer, Cancel, Unacknowledged, UserBusy, NoReply, Deflection, Standing, Call, Offer, NotOffered, Offered, Target, Result, Pending, Answered, Final, Outcome}
+use Rattle.mmtel_served_user.specs.declared.served_user.RegistrationState.TheVariants.{Registered, Unregistered}
+use Rattle.mmtel_served_user.specs.declared.served_user.Served.{Served}
+use Rattle.mmtel_rules.specs.Facts.{FactsView}
+use Rattle.mmtel_precedence.specs.Services.{DueDiversionView, ServedAccountView}
+use Rattle.mmtel_precedence.specs.Attempts.{CallerGaveUp, PrackTime, Response, end_by}
+use Rattle.mmtel_precedence.specs.Calls.{Answer, Cancel, Unacknowledged, UserBusy, NoReply, Deflection, SnapshotView, CallInputs, OfferState, NotOffered, Offered, OutcomeTarget, CallResult, Pending, Answered, Final, Outcome}
 use Rattle.mmtel_precedence.specs.Outcome.{outcome}
-use Rattle.mmtel_precedence.specs.Turns.{EndAnswered, EndRefuse, turn_on}
+use Rattle.mmtel_precedence.specs.NextSteps.{EndAnswered, EndRefuse, step_after_attempt}
 
 -- ---- parties
 
@@ -120,11 +120,11 @@ restricts_always = record empty_sheet { oir = record { active = true; permanent 
 
 -- ---- accounts in their states: alice's is number 1, bob's 2, carol's 3
 
-abbrev pub of_account : Sheet → (registered : Bool) → (live : ℕ) → AccountState
+abbrev pub of_account : Sheet → (registered : Bool) → (live : ℕ) → ServedAccountView
 of_account sheet registered live = record { sheet = sheet; registered = registered; live = live }
 
 -- of an empty record, registered, and in no call
-abbrev pub free : AccountState
+abbrev pub free : ServedAccountView
 free = of_account empty_sheet true 0
 
 abbrev pub number : ℕ → Account
@@ -136,7 +136,7 @@ peer n = record { 0 = n }
 abbrev pub account_of : Uri → Option Account
 account_of u = if is_same_identity bob u then Some (number 2) else if is_same_identity carol u then Some (number 3) else None
 
-abbrev pub one_of : (alice bob carol : AccountState) → ℕ → AccountState
+abbrev pub one_of : (alice bob carol : ServedAccountView) → ℕ → ServedAccountView
 one_of a b c n = if n == 2 then b else if n == 3 then c else a
 
 -- a registration that has no end, or one that has ended
@@ -144,11 +144,11 @@ abbrev pub end_of : (registered : Bool) → Option ℕ
 end_of true = None
 end_of false = Some 0
 
-abbrev pub stands : (alice bob carol : AccountState) → Standing
+abbrev pub stands : (alice bob carol : ServedAccountView) → SnapshotView
 stands a b c = record {
   at = 0;
   sheets = λ n. Some (one_of a b c n).sheet;
-  ends = λ n. end_of (one_of a b c n).registered;
+  registration_ends = λ n. end_of (one_of a b c n).registered;
   live = λ n. (one_of a b c n).live;
 }
 
@@ -162,12 +162,12 @@ abbrev pub served_for : (origin target : Option Account) → (both : Bool) → S
 served_for origin target both = record { origin = origin; target = target; both = both }
 
 -- bob and carol are in these states all the time
-abbrev pub call : (received bound : ℕ) → (bob carol : AccountState) → Call
+abbrev pub call : (received bound : ℕ) → (bob carol : ServedAccountView) → CallInputs
 call received bound b c = record {
   privacy = words false false false;
   served = served_for None (Some (number 2)) true;
   registration = None;
-  asks = λ who. false;
+  identity_matches = λ who. false;
   has_identity = true;
   media = codes "audio" ∷ [];
   received = received;
@@ -176,35 +176,35 @@ call received bound b c = record {
   country = None;
   account_of = account_of;
   peer_of = λ u. Some (peer 1);
-  first = bob;
-  opening = stands free b c;
-  later = λ k. stands free b c;
+  first_target = bob;
+  opening_snapshot = stands free b c;
+  later_snapshots = λ k. stands free b c;
 }
 
 -- the call has an anonymous caller
-abbrev pub hidden_call : Call → Call
+abbrev pub hidden_call : CallInputs → CallInputs
 hidden_call c = record c { privacy = words true false false }
 
 -- alice calls, whose account is in this state
-abbrev pub called_by_alice : AccountState → Call → Call
-called_by_alice a c = record c { served = served_for (Some (number 1)) (Some (number 2)) true; opening = stands a free free }
+abbrev pub called_by_alice : ServedAccountView → CallInputs → CallInputs
+called_by_alice a c = record c { served = served_for (Some (number 1)) (Some (number 2)) true; opening_snapshot = stands a free free }
 
 -- the call is to a target of no account
-abbrev pub to_nobody : Uri → Call → Call
-to_nobody uri c = record c { first = uri; served = served_for None None true }
+abbrev pub to_nobody : Uri → CallInputs → CallInputs
+to_nobody uri c = record c { first_target = uri; served = served_for None None true }
 
 -- by a diversion to here that reveals everything, for this cause
-abbrev pub by : Uri → (cause : ℕ) → Option DueDiversion
+abbrev pub by : Uri → (cause : ℕ) → Option DueDiversionView
 by to cause = Some (record { forward = shown_to_all to; cause = cause; bound = None })
 
 -- the same, by an account that sets this bound
-abbrev pub bounded_by : Uri → (cause bound : ℕ) → Option DueDiversion
+abbrev pub bounded_by : Uri → (cause bound : ℕ) → Option DueDiversionView
 bounded_by to cause bound = Some (record { forward = shown_to_all to; cause = cause; bound = Some bound })
 
-abbrev pub target : Uri → Option DueDiversion → Offer → Target
-target uri led offer = record { uri = uri; by = led; offer = offer }
+abbrev pub target : Uri → Option DueDiversionView → OfferState → OutcomeTarget
+target uri led offer = record { uri = uri; diversion = led; offer = offer }
 
-abbrev pub comes_to : List Target → Result → Outcome
+abbrev pub comes_to : List OutcomeTarget → CallResult → Outcome
 comes_to targets result = record { targets = targets; result = result }
 
 -- ---- the rows
@@ -219,7 +219,7 @@ pub record AreOutcomes : Type 0 where
   pub hidden_by_record : outcome
       (record (call 0 5 free free) {
         served = served_for (Some (number 1)) (Some (number 2)) true;
-        opening = stands (of_account restricts_always true 0) (of_account rejects_and_diverts true 0) free;
+        opening_snapshot = stands (of_account restricts_always true 0) (of_account rejects_and_diverts true 0) free;
       }) []
       ≡ comes_to (target bob None NotOffered ∷ []) (Final causes.AnonymousRejected)
   -- two diversions: bob always to carol, who is in a call and diverts on busy
@@ -318,7 +318,7 @@ pub record AreOutcomes : Type 0 where
   -- the record at that time: that of bob when he was reached, though he has another one when the attempt ends; and that of carol when she was reached
   pub record_of_the_attempt : outcome
       (record (call 0 5 (of_account (diverts (rule (Some event.NoAnswer) carol ∷ []) false) true 0) free) {
-        later = λ k. stands free free
+        later_snapshots = λ k. stands free free
             (of_account (diverts (rule None vm ∷ []) false) true 0);
       }) (record { at = 20100; how = NoReply } ∷ [])
       ≡ comes_to (target bob None (Offered false) ∷ target carol (by carol 408) NotOffered ∷ target vm (by vm 302) (Offered false) ∷ []) Pending
@@ -334,8 +334,8 @@ pub record AreEnds : Type 0 where
   pub last_success : end_by (Response 299 None) true ≡ Some Answer
   pub gave_up_ringing : end_by CallerGaveUp true ≡ Some Cancel
   pub gave_up : end_by CallerGaveUp false ≡ Some Cancel
-  pub after_gave_up : (c : Circumstances) → turn_on c (Some (diverts (rule (Some event.NoAnswer) vm ∷ []) false)) Cancel ≡ EndRefuse causes.Cancelled
-  pub unacknowledged_ringing : end_by AckTime true ≡ Some Unacknowledged
-  pub unacknowledged : end_by AckTime false ≡ Some Unacknowledged
-  pub after_unacknowledged : (c : Circumstances) → turn_on c (Some (diverts (rule (Some event.NoAnswer) vm ∷ []) false)) Unacknowledged ≡ EndRefuse causes.Unacknowledged
-  pub after_answer : (c : Circumstances) → turn_on c None Answer ≡ EndAnswered
+  pub after_gave_up : (c : FactsView) → step_after_attempt c (Some (diverts (rule (Some event.NoAnswer) vm ∷ []) false)) Cancel ≡ EndRefuse causes.Cancelled
+  pub unacknowledged_ringing : end_by PrackTime true ≡ Some Unacknowledged
+  pub unacknowledged : end_by PrackTime false ≡ Some Unacknowledged
+  pub after_unacknowledged : (c : FactsView) → step_after_attempt c (Some (diverts (rule (Some event.NoAnswer) vm ∷ []) false)) Unacknowledged ≡ EndRefuse causes.Unacknowledged
+  pub after_answer : (c : FactsView) → step_after_attempt c None Answer ≡ EndAnswered

@@ -8,7 +8,7 @@ use crate::reading::{Called, Table, facts, read_called, sheet_of, wrong_line};
 use mmtel_barring::{Barred, Refusal, incoming, outgoing};
 use mmtel_rules::all_bar;
 use mmtel_sheet_values::{BarPart, Sheet};
-use mmtel_told::Told;
+use mmtel_test_tables::Transcript;
 
 /// The index of a rule that bars, or `-`.
 fn place(rule: Option<usize>) -> &'static [u8] {
@@ -31,10 +31,16 @@ fn refused(refusal: Option<Refusal>) -> &'static [u8] {
 }
 
 /// Writes why the user whose record has these keys and rules refuses a call.
-fn tell_incoming(told: &mut Told, keys: &[u8], line: &[u8], called: &Called) {
-    let sheet = sheet_of(told, b"incoming-communication-barring", keys, b"", line);
+fn write_incoming(transcript: &mut Transcript, keys: &[u8], line: &[u8], called: &Called) {
+    let sheet = sheet_of(
+        transcript,
+        b"incoming-communication-barring",
+        keys,
+        b"",
+        line,
+    );
     if let Some(sheet) = sheet {
-        told.add(refused(incoming(&sheet, &facts(called))));
+        transcript.add(refused(incoming(&sheet, &facts(called))));
         drop(sheet);
     }
 }
@@ -43,10 +49,10 @@ fn tell_incoming(told: &mut Told, keys: &[u8], line: &[u8], called: &Called) {
 struct Incoming;
 
 impl Table for Incoming {
-    fn tell(told: &mut Told, line: &[u8], asked: &[u8]) {
-        let called = read_called(told, asked);
-        tell_incoming(told, b"", line, &called);
-        tell_incoming(told, b"reject-anonymous = true, ", line, &called);
+    fn write_row(transcript: &mut Transcript, line: &[u8], asked: &[u8]) {
+        let called = read_called(transcript, asked);
+        write_incoming(transcript, b"", line, &called);
+        write_incoming(transcript, b"reject-anonymous = true, ", line, &called);
         drop(called);
     }
 }
@@ -60,18 +66,24 @@ fn barred_by(sheet: &Sheet, called: &Called) -> Option<usize> {
 }
 
 /// Writes which rule of the record bars an outgoing call; `?` where `all_bar` gives another result.
-fn tell_bars(told: &mut Told, sheet: &Sheet, part: &BarPart, called: &Called) {
+fn write_bars(transcript: &mut Transcript, sheet: &Sheet, part: &BarPart, called: &Called) {
     let rule = barred_by(sheet, called);
     let same = rule == all_bar(part.rules.items(), &facts(called));
-    told.add_if(same, place(rule), b"?");
+    transcript.add_if(same, place(rule), b"?");
 }
 
 /// Writes which of these rules bars an outgoing call.
-fn tell_outgoing(told: &mut Told, line: &[u8], called: &Called) {
-    if let Some(sheet) = sheet_of(told, b"outgoing-communication-barring", b"", b"", line) {
+fn write_outgoing(transcript: &mut Transcript, line: &[u8], called: &Called) {
+    if let Some(sheet) = sheet_of(
+        transcript,
+        b"outgoing-communication-barring",
+        b"",
+        b"",
+        line,
+    ) {
         match &sheet.outgoing {
-            None => told.fail(),
-            Some(part) => tell_bars(told, &sheet, part, called),
+            None => transcript.fail(),
+            Some(part) => write_bars(transcript, &sheet, part, called),
         }
         drop(sheet);
     }
@@ -81,9 +93,9 @@ fn tell_outgoing(told: &mut Told, line: &[u8], called: &Called) {
 struct Outgoing;
 
 impl Table for Outgoing {
-    fn tell(told: &mut Told, line: &[u8], asked: &[u8]) {
-        let called = read_called(told, asked);
-        tell_outgoing(told, line, &called);
+    fn write_row(transcript: &mut Transcript, line: &[u8], asked: &[u8]) {
+        let called = read_called(transcript, asked);
+        write_outgoing(transcript, line, &called);
         drop(called);
     }
 }

@@ -2,6 +2,6 @@
 //! 4458).
 
 mod decisions;
+mod next_steps;
 mod records;
 mod reports;
-mod turns;

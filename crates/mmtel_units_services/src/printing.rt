@@ -3,16 +3,16 @@
 use crate::asserting::assert_right;
 use mmtel_lex::{List, NoMemory, Text};
 use mmtel_sheets::{BarPart, DiversionPart, Restriction, Sheet, print_sheet, read_sheet};
-use mmtel_told::Told;
+use mmtel_test_tables::Transcript;
 use std::alloc::Global;
 
 /// The number of the first line in which the printed record differs; 0 where there is none. A line `#` ends it.
 fn wrong_text(alloc: Global, printed: Result<Text, NoMemory>, record: &[u8]) -> usize {
-    let mut told = Told::new(alloc);
-    let printed = told.made(printed);
-    told.add(printed.bytes());
-    told.add(b"#\n");
-    told.wrong_line(record)
+    let mut transcript = Transcript::new(alloc);
+    let printed = transcript.text_or_fail(printed);
+    transcript.add(printed.bytes());
+    transcript.add(b"#\n");
+    transcript.wrong_line(record)
 }
 
 /// The record of an empty sheet: each part that is always present, with its default.

@@ -5,12 +5,12 @@
 //! A call is its facts, the sip URI of the other party and its tel URI, separated by `|`. The facts are `r` where the caller is anonymous, else `-`; the moment; and the kinds of
 //! media that are offered, each after a space.
 
+use mmtel_base::{number_up_to, split_once_at};
 use mmtel_lex::{List, Text, Uri, read_uri};
 use mmtel_rules::{Facts, Identities2};
-use mmtel_scan::{number_up_to, part};
 use mmtel_sheet_reader::read_sheet;
 use mmtel_sheet_values::Sheet;
-use mmtel_told::{Told, cut, next_line};
+use mmtel_test_tables::{Transcript, next_line, split_or_all};
 use mmtel_types::Moment;
 use mmtel_types::limits::LAST_MOMENT;
 use std::alloc::Global;
@@ -18,20 +18,20 @@ use std::alloc::Global;
 /// The test of a table.
 pub trait Table {
     /// Writes the results of a row under the line above it that begins with `:`, which has no bytes where there is none.
-    fn tell(told: &mut Told, line: &[u8], asked: &[u8]);
+    fn write_row(transcript: &mut Transcript, line: &[u8], asked: &[u8]);
 }
 
 /// Writes a row with its results.
-fn tell_row<T: Table>(told: &mut Told, line: &[u8], row: &[u8]) {
-    let (_answers, asked) = cut(b'|', row);
-    T::tell(told, line, asked);
-    told.add(b"|");
-    told.add_line(asked);
+fn write_row<T: Table>(transcript: &mut Transcript, line: &[u8], row: &[u8]) {
+    let (_answers, asked) = split_or_all(b'|', row);
+    T::write_row(transcript, line, asked);
+    transcript.add(b"|");
+    transcript.add_line(asked);
 }
 
 /// The number of the first line of a table, from 1, that differs from the actual one; 0 where none does.
 pub fn wrong_line<T: Table>(alloc: Global, table: &[u8]) -> usize {
-    let mut told = Told::new(alloc);
+    let mut transcript = Transcript::new(alloc);
     let mut above: &[u8] = b"";
     let mut rest = table;
     for _ in 0..400 {
@@ -41,16 +41,16 @@ pub fn wrong_line<T: Table>(alloc: Global, table: &[u8]) -> usize {
             [] => {}
             [b'#', ..] => {
                 above = b"";
-                told.add_line(line);
+                transcript.add_line(line);
             }
             [b':', ..] => {
                 above = line;
-                told.add_line(line);
+                transcript.add_line(line);
             }
-            _ => tell_row::<T>(&mut told, above, line),
+            _ => write_row::<T>(&mut transcript, above, line),
         }
     }
-    told.wrong_line(table)
+    transcript.wrong_line(table)
 }
 
 /// A call of a row.
@@ -76,45 +76,45 @@ pub fn facts(called: &Called) -> Facts<'_> {
 }
 
 /// The sheet of the record of these tables, which are separated by this byte.
-pub fn read_tables(told: &mut Told, parted_by: u8, tables: &[u8]) -> Option<Sheet> {
-    let mut text = Told::new(told.alloc);
+pub fn read_tables(transcript: &mut Transcript, parted_by: u8, tables: &[u8]) -> Option<Sheet> {
+    let mut text = Transcript::new(transcript.alloc);
     text.add_ended(parted_by, tables, b"\n");
-    told.keep(!text.has_failed());
-    let sheet = read_sheet(told.alloc, text.bytes());
-    told.noted(sheet)
+    transcript.fail_unless(!text.has_failed());
+    let sheet = read_sheet(transcript.alloc, text.bytes());
+    transcript.value_or_fail(sheet)
 }
 
 /// A URI; none of no bytes.
-pub fn identity(told: &mut Told, uri: &[u8]) -> Option<Uri> {
+pub fn identity(transcript: &mut Transcript, uri: &[u8]) -> Option<Uri> {
     if uri.is_empty() {
         return None;
     }
-    let uri = read_uri(told.alloc, uri);
-    told.noted(uri)
+    let uri = read_uri(transcript.alloc, uri);
+    transcript.value_or_fail(uri)
 }
 
 /// The party with a sip URI and a tel URI, of which each may be absent.
-fn party(told: &mut Told, uris: &[u8]) -> Identities2 {
-    let (sip, tel) = cut(b'|', uris);
-    let sip = identity(told, sip);
-    let tel = identity(told, tel);
+fn party(transcript: &mut Transcript, uris: &[u8]) -> Identities2 {
+    let (sip, tel) = split_or_all(b'|', uris);
+    let sip = identity(transcript, sip);
+    let tel = identity(transcript, tel);
     Identities2 { sip, tel }
 }
 
 /// The kinds of media, with a space between two, at most four.
-fn kinds(told: &mut Told, words: &[u8]) -> List<Text> {
+fn kinds(transcript: &mut Transcript, words: &[u8]) -> List<Text> {
     let mut kinds = List::new();
     let mut rest = words;
     for _ in 0..4 {
         if !rest.is_empty() {
-            let (word, later) = cut(b' ', rest);
-            let kind = told.copy(word);
-            let done = kinds.push(told.alloc, kind);
-            told.keep(done.is_ok());
+            let (word, later) = split_or_all(b' ', rest);
+            let kind = transcript.copy(word);
+            let done = kinds.push(transcript.alloc, kind);
+            transcript.fail_unless(done.is_ok());
             rest = later;
         }
     }
-    told.keep(rest.is_empty());
+    transcript.fail_unless(rest.is_empty());
     kinds
 }
 
@@ -126,11 +126,11 @@ pub fn first_moment() -> Moment {
     }
 }
 
-fn moment(told: &mut Told, digits: &[u8]) -> Moment {
+fn moment(transcript: &mut Transcript, digits: &[u8]) -> Moment {
     match number_up_to(LAST_MOMENT, digits) {
         Some(ms) => Moment::new(ms).unwrap_or(first_moment()),
         None => {
-            told.fail();
+            transcript.fail();
             first_moment()
         }
     }
@@ -146,13 +146,13 @@ fn flagged(when: &[u8]) -> (u8, &[u8]) {
 
 /// The call of a row: the facts, and the URIs of the other party. Its first byte is `r` where the caller is anonymous, `d` where the call was diverted before, `a` where its target
 /// is abroad, and else `-`.
-pub fn read_called(told: &mut Told, row: &[u8]) -> Called {
-    let (known, uris) = cut(b'|', row);
-    let (when, media) = cut(b' ', known);
+pub fn read_called(transcript: &mut Transcript, row: &[u8]) -> Called {
+    let (known, uris) = split_or_all(b'|', row);
+    let (when, media) = split_or_all(b' ', known);
     let (flag, digits) = flagged(when);
-    let now = moment(told, digits);
-    let party = party(told, uris);
-    let media = kinds(told, media);
+    let now = moment(transcript, digits);
+    let party = party(transcript, uris);
+    let media = kinds(transcript, media);
     Called {
         party,
         restricted: flag == b'r',
@@ -164,7 +164,7 @@ pub fn read_called(told: &mut Told, row: &[u8]) -> Called {
 }
 
 /// Writes a rule after these keys.
-fn write_rule(out: &mut Told, keys: &[u8], rule: &[u8]) {
+fn write_rule(out: &mut Transcript, keys: &[u8], rule: &[u8]) {
     out.add(b"{ ");
     out.add(keys);
     out.add(rule);
@@ -172,10 +172,10 @@ fn write_rule(out: &mut Told, keys: &[u8], rule: &[u8]) {
 }
 
 /// Writes the rules of a line, at most nine, each after these keys.
-fn write_rules(out: &mut Told, keys: &[u8], line: &[u8]) {
+fn write_rules(out: &mut Transcript, keys: &[u8], line: &[u8]) {
     let mut rest = line;
     for _ in 0..8 {
-        if let Some((rule, later)) = part(b'&', rest) {
+        if let Some((rule, later)) = split_once_at(b'&', rest) {
             write_rule(out, keys, rule);
             rest = later;
         }
@@ -186,13 +186,13 @@ fn write_rules(out: &mut Told, keys: &[u8], line: &[u8]) {
 /// The sheet of the record of one table: these keys of the table, and the rules of a line, each after these keys of a rule. A line of no bytes has no rules, and any other
 /// begins with `:`. The record is of the second version.
 pub fn sheet_of(
-    told: &mut Told,
+    transcript: &mut Transcript,
     table: &[u8],
     table_keys: &[u8],
     rule_keys: &[u8],
     line: &[u8],
 ) -> Option<Sheet> {
-    let mut text = Told::new(told.alloc);
+    let mut text = Transcript::new(transcript.alloc);
     text.add(b"version = 2\n");
     text.add(table);
     text.add(b" = { ");
@@ -202,7 +202,7 @@ pub fn sheet_of(
         write_rules(&mut text, rule_keys, rules);
     }
     text.add(b"] }\n");
-    told.keep(!text.has_failed());
-    let sheet = read_sheet(told.alloc, text.bytes());
-    told.noted(sheet)
+    transcript.fail_unless(!text.has_failed());
+    let sheet = read_sheet(transcript.alloc, text.bytes());
+    transcript.value_or_fail(sheet)
 }

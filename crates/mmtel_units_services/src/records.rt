@@ -11,63 +11,63 @@ use mmtel_sheet_values::{
     Action, BarPart, Condition, DiversionPart, EventWord, Forward, Restriction, Rule, Sheet,
     Weekly, Who, Window,
 };
-use mmtel_told::{Told, next_line};
+use mmtel_test_tables::{Transcript, next_line};
 use std::alloc::Global;
 
-fn add_flag(told: &mut Told, name: &[u8], flag: bool) {
+fn add_flag(transcript: &mut Transcript, name: &[u8], flag: bool) {
     if flag {
-        told.add(b" ");
-        told.add(name);
+        transcript.add(b" ");
+        transcript.add(name);
     }
 }
 
-fn add_uri(told: &mut Told, name: &[u8], uri: &Uri) {
-    let text = print_uri(told.alloc, uri);
-    let text = told.made(text);
-    told.add_part(name, text.bytes());
+fn add_uri(transcript: &mut Transcript, name: &[u8], uri: &Uri) {
+    let text = print_uri(transcript.alloc, uri);
+    let text = transcript.text_or_fail(text);
+    transcript.add_part(name, text.bytes());
 }
 
-fn add_uris(told: &mut Told, name: &[u8], uris: &List<Uri>) {
+fn add_uris(transcript: &mut Transcript, name: &[u8], uris: &List<Uri>) {
     for uri in uris.items() {
-        add_uri(told, name, uri);
+        add_uri(transcript, name, uri);
     }
 }
 
-fn add_domain(told: &mut Told, many: &Option<Text>) {
+fn add_domain(transcript: &mut Transcript, many: &Option<Text>) {
     if let Some(domain) = many {
-        told.add_part(b"many", domain.bytes());
+        transcript.add_part(b"many", domain.bytes());
     }
 }
 
-fn add_who(told: &mut Told, who: &Option<Who>) {
+fn add_who(transcript: &mut Transcript, who: &Option<Who>) {
     if let Some(who) = who {
-        told.add(b" who");
-        add_uris(told, b"one", &who.one);
-        add_domain(told, &who.many);
-        add_uris(told, b"except", &who.except);
+        transcript.add(b" who");
+        add_uris(transcript, b"one", &who.one);
+        add_domain(transcript, &who.many);
+        add_uris(transcript, b"except", &who.except);
     }
 }
 
 /// Adds a moment in milliseconds since 1970, which may be before that.
-fn add_moment(told: &mut Told, name: &[u8], moment: i128) {
-    match moment.to_string(told.alloc) {
-        Ok(digits) => told.add_part(name, digits.as_bytes()),
-        Err(_) => told.fail(),
+fn add_moment(transcript: &mut Transcript, name: &[u8], moment: i128) {
+    match moment.to_string(transcript.alloc) {
+        Ok(digits) => transcript.add_part(name, digits.as_bytes()),
+        Err(_) => transcript.fail(),
     }
 }
 
-fn add_window(told: &mut Told, window: Option<Window>) {
+fn add_window(transcript: &mut Transcript, window: Option<Window>) {
     if let Some(window) = window {
-        add_moment(told, b"from", window.from);
-        add_moment(told, b"until", window.until);
+        add_moment(transcript, b"from", window.from);
+        add_moment(transcript, b"until", window.until);
     }
 }
 
-fn add_media(told: &mut Told, media: &Option<List<Text>>) {
+fn add_media(transcript: &mut Transcript, media: &Option<List<Text>>) {
     if let Some(media) = media {
-        told.add(b" media");
+        transcript.add(b" media");
         for kind in media.items() {
-            told.add_part(b"of", kind.bytes());
+            transcript.add_part(b"of", kind.bytes());
         }
     }
 }
@@ -82,140 +82,144 @@ fn event_name(event: Option<EventWord>) -> &'static [u8] {
     }
 }
 
-fn add_days(told: &mut Told, days: [bool; 7]) {
+fn add_days(transcript: &mut Transcript, days: [bool; 7]) {
     for day in days {
-        told.add_if(day, b"x", b"-");
+        transcript.add_if(day, b"x", b"-");
     }
 }
 
 /// Adds the days, Monday first, the minutes of a day and the offset.
-fn add_weekly(told: &mut Told, weekly: Option<Weekly>) {
+fn add_weekly(transcript: &mut Transcript, weekly: Option<Weekly>) {
     if let Some(weekly) = weekly {
-        told.add(b" weekly ");
-        add_days(told, weekly.days);
-        told.add_spaced_number(u64::from(weekly.from));
-        told.add_spaced_number(u64::from(weekly.until));
-        add_moment(told, b"offset", i128::from(weekly.offset));
+        transcript.add(b" weekly ");
+        add_days(transcript, weekly.days);
+        transcript.add_spaced_number(u64::from(weekly.from));
+        transcript.add_spaced_number(u64::from(weekly.until));
+        add_moment(transcript, b"offset", i128::from(weekly.offset));
     }
 }
 
 /// The parts of a condition that are present.
-fn add_condition(told: &mut Told, condition: &Condition) {
-    add_who(told, &condition.identity);
-    add_flag(told, b"anonymous", condition.anonymous);
-    add_window(told, condition.window);
-    add_media(told, &condition.media);
-    told.add(event_name(condition.event));
-    add_flag(told, b"diverted", condition.diverted);
-    add_flag(told, b"abroad", condition.abroad);
-    add_weekly(told, condition.weekly);
+fn add_condition(transcript: &mut Transcript, condition: &Condition) {
+    add_who(transcript, &condition.identity);
+    add_flag(transcript, b"anonymous", condition.anonymous);
+    add_window(transcript, condition.window);
+    add_media(transcript, &condition.media);
+    transcript.add(event_name(condition.event));
+    add_flag(transcript, b"diverted", condition.diverted);
+    add_flag(transcript, b"abroad", condition.abroad);
+    add_weekly(transcript, condition.weekly);
 }
 
-fn add_forward(told: &mut Told, forward: &Forward) {
-    add_uri(told, b"to", &forward.target);
-    add_flag(told, b"notify", forward.notify_caller);
-    add_flag(told, b"target-to-caller", forward.reveal_to_caller);
-    add_flag(told, b"served-to-caller", forward.reveal_served_to_caller);
-    add_flag(told, b"served-to-target", forward.reveal_to_target);
+fn add_forward(transcript: &mut Transcript, forward: &Forward) {
+    add_uri(transcript, b"to", &forward.target);
+    add_flag(transcript, b"notify", forward.notify_caller);
+    add_flag(transcript, b"target-to-caller", forward.reveal_to_caller);
+    add_flag(
+        transcript,
+        b"served-to-caller",
+        forward.reveal_served_to_caller,
+    );
+    add_flag(transcript, b"served-to-target", forward.reveal_to_target);
 }
 
-fn add_action(told: &mut Told, action: &Action) {
+fn add_action(transcript: &mut Transcript, action: &Action) {
     match action {
-        Action::Forward(forward) => add_forward(told, forward),
-        Action::Allow(allowed) => told.add_if(*allowed, b" allow", b" bar"),
+        Action::Forward(forward) => add_forward(transcript, forward),
+        Action::Allow(allowed) => transcript.add_if(*allowed, b" allow", b" bar"),
     }
 }
 
 /// Adds a line for each rule: its condition and its action.
-fn add_rules(told: &mut Told, rules: &List<Rule>) {
+fn add_rules(transcript: &mut Transcript, rules: &List<Rule>) {
     for rule in rules.items() {
-        told.add(b"rule");
-        add_condition(told, &rule.condition);
-        told.add(b":");
-        add_action(told, &rule.action);
-        told.add(b"\n");
+        transcript.add(b"rule");
+        add_condition(transcript, &rule.condition);
+        transcript.add(b":");
+        add_action(transcript, &rule.action);
+        transcript.add(b"\n");
     }
 }
 
-fn add_diversion(told: &mut Told, part: &Option<DiversionPart>) {
+fn add_diversion(transcript: &mut Transcript, part: &Option<DiversionPart>) {
     if let Some(part) = part {
-        told.add(b"diversion after");
-        told.add_spaced_number(u64::from(part.no_reply));
-        add_flag(told, b"deflection", part.deflection);
+        transcript.add(b"diversion after");
+        transcript.add_spaced_number(u64::from(part.no_reply));
+        add_flag(transcript, b"deflection", part.deflection);
         if let Some(bound) = part.bound {
-            told.add(b" bound");
-            told.add_spaced_number(u64::from(bound));
+            transcript.add(b" bound");
+            transcript.add_spaced_number(u64::from(bound));
         }
-        told.add(b"\n");
-        add_rules(told, &part.rules);
+        transcript.add(b"\n");
+        add_rules(transcript, &part.rules);
     }
 }
 
-fn add_bar(told: &mut Told, word: &[u8], part: &Option<BarPart>) {
+fn add_bar(transcript: &mut Transcript, word: &[u8], part: &Option<BarPart>) {
     if let Some(part) = part {
-        told.add(word);
-        add_flag(told, b"reject-anonymous", part.reject_anonymous);
-        told.add(b"\n");
-        add_rules(told, &part.rules);
+        transcript.add(word);
+        add_flag(transcript, b"reject-anonymous", part.reject_anonymous);
+        transcript.add(b"\n");
+        add_rules(transcript, &part.rules);
     }
 }
 
 /// Adds a line for a restriction that differs from the default.
-fn add_restriction(told: &mut Told, word: &[u8], restriction: Restriction) {
+fn add_restriction(transcript: &mut Transcript, word: &[u8], restriction: Restriction) {
     if restriction.active || restriction.permanent || restriction.by_default {
-        told.add(word);
-        add_flag(told, b"active", restriction.active);
-        add_flag(told, b"permanent", restriction.permanent);
-        add_flag(told, b"by-default", restriction.by_default);
-        told.add(b"\n");
+        transcript.add(word);
+        add_flag(transcript, b"active", restriction.active);
+        add_flag(transcript, b"permanent", restriction.permanent);
+        add_flag(transcript, b"by-default", restriction.by_default);
+        transcript.add(b"\n");
     }
 }
 
-fn add_waiting(told: &mut Told, calls: Option<u8>) {
+fn add_waiting(transcript: &mut Transcript, calls: Option<u8>) {
     if let Some(calls) = calls {
-        told.add(b"waiting");
-        told.add_spaced_number(u64::from(calls));
-        told.add(b"\n");
+        transcript.add(b"waiting");
+        transcript.add_spaced_number(u64::from(calls));
+        transcript.add(b"\n");
     }
 }
 
 /// Adds a line for each part of the sheet that differs from an empty record.
-fn add_sheet(told: &mut Told, sheet: &Sheet) {
-    add_diversion(told, &sheet.diversion);
-    add_bar(told, b"incoming", &sheet.incoming);
-    add_bar(told, b"outgoing", &sheet.outgoing);
-    told.add_if(sheet.oip, b"", b"no oip\n");
-    add_restriction(told, b"oir", sheet.oir);
-    told.add_if(sheet.tip, b"", b"no tip\n");
-    add_restriction(told, b"tir", sheet.tir);
-    add_waiting(told, sheet.waiting);
+fn add_sheet(transcript: &mut Transcript, sheet: &Sheet) {
+    add_diversion(transcript, &sheet.diversion);
+    add_bar(transcript, b"incoming", &sheet.incoming);
+    add_bar(transcript, b"outgoing", &sheet.outgoing);
+    transcript.add_if(sheet.oip, b"", b"no oip\n");
+    add_restriction(transcript, b"oir", sheet.oir);
+    transcript.add_if(sheet.tip, b"", b"no tip\n");
+    add_restriction(transcript, b"tir", sheet.tir);
+    add_waiting(transcript, sheet.waiting);
 }
 
-fn add_key(told: &mut Told, word: &[u8], key: &Text) {
-    told.add(word);
-    told.add_line(key.bytes());
+fn add_key(transcript: &mut Transcript, word: &[u8], key: &Text) {
+    transcript.add(word);
+    transcript.add_line(key.bytes());
 }
 
-fn add_fault(told: &mut Told, fault: &SheetFault) {
+fn add_fault(transcript: &mut Transcript, fault: &SheetFault) {
     match fault {
-        SheetFault::NotToml => told.add(b"not TOML\n"),
-        SheetFault::Unknown { key } => add_key(told, b"unknown ", key),
-        SheetFault::Wrong { key } => add_key(told, b"wrong ", key),
-        SheetFault::Many { key, limit: 64 } => add_key(told, b"many ", key),
-        SheetFault::Many { key, .. } => add_key(told, b"other limit ", key),
-        SheetFault::NoMemory => told.fail(),
+        SheetFault::NotToml => transcript.add(b"not TOML\n"),
+        SheetFault::Unknown { key } => add_key(transcript, b"unknown ", key),
+        SheetFault::Wrong { key } => add_key(transcript, b"wrong ", key),
+        SheetFault::Many { key, limit: 64 } => add_key(transcript, b"many ", key),
+        SheetFault::Many { key, .. } => add_key(transcript, b"other limit ", key),
+        SheetFault::NoMemory => transcript.fail(),
     }
 }
 
 /// Writes the result of reading the record: the lines of the sheet, or a line for its first fault.
-fn tell_read(told: &mut Told, record: &[u8]) {
-    match read_sheet(told.alloc, record) {
+fn write_read(transcript: &mut Transcript, record: &[u8]) {
+    match read_sheet(transcript.alloc, record) {
         Ok(sheet) => {
-            add_sheet(told, &sheet);
+            add_sheet(transcript, &sheet);
             drop(sheet);
         }
         Err(fault) => {
-            add_fault(told, &fault);
+            add_fault(transcript, &fault);
             drop(fault);
         }
     }
@@ -231,7 +235,7 @@ fn repeated(line: &[u8]) -> (u8, &[u8]) {
     }
 }
 
-fn add_repeated(text: &mut Told, line: &[u8]) {
+fn add_repeated(text: &mut Transcript, line: &[u8]) {
     let (times, line) = repeated(line);
     for _ in 0..times {
         text.add_line(line);
@@ -239,7 +243,7 @@ fn add_repeated(text: &mut Told, line: &[u8]) {
 }
 
 /// Adds the lines of the first record of a table, and its expected lines; returns what follows the row's end, an empty line.
-fn add_row<'a>(record: &mut Told, wanted: &mut Told, table: &'a [u8]) -> &'a [u8] {
+fn add_row<'a>(record: &mut Transcript, wanted: &mut Transcript, table: &'a [u8]) -> &'a [u8] {
     let mut rest = table;
     for _ in 0..120 {
         let (line, later) = next_line(rest);
@@ -255,8 +259,8 @@ fn add_row<'a>(record: &mut Told, wanted: &mut Told, table: &'a [u8]) -> &'a [u8
 
 /// Whether the result for the first record of a table differs from the lines after `=`, and what follows it.
 fn is_wrong(alloc: Global, table: &[u8]) -> (bool, &[u8]) {
-    let mut record = Told::new(alloc);
-    let mut wanted = Told::new(alloc);
+    let mut record = Transcript::new(alloc);
+    let mut wanted = Transcript::new(alloc);
     let rest = add_row(&mut record, &mut wanted, table);
     (
         wrong_answer(alloc, record.whole(), wanted.whole()) > 0,
@@ -279,9 +283,9 @@ fn wrong_record(alloc: Global, table: &[u8]) -> usize {
 
 /// The number of the first line, from 1, in which the result of reading this record differs; 0 where there is none.
 fn wrong_answer(alloc: Global, record: &[u8], answer: &[u8]) -> usize {
-    let mut told = Told::new(alloc);
-    tell_read(&mut told, record);
-    told.wrong_line(answer)
+    let mut transcript = Transcript::new(alloc);
+    write_read(&mut transcript, record);
+    transcript.wrong_line(answer)
 }
 
 /// Tables without rules. The first record is empty.

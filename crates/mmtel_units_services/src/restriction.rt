@@ -8,14 +8,14 @@ use crate::asserting::assert_right;
 use crate::reading::{Table, read_tables, wrong_line};
 use mmtel_identity::{callee_restricted, caller_restricted, present_to};
 use mmtel_sheet_values::Sheet;
-use mmtel_told::{Told, cut};
+use mmtel_test_tables::{Transcript, split_or_all};
 use mmtel_types::{PrivacySet, Side};
 
 /// Whether the word is one of these, which have a space between two.
 fn has(words: &[u8], word: &[u8]) -> bool {
     let mut rest = words;
     for _ in 0..8 {
-        let (first, later) = cut(b' ', rest);
+        let (first, later) = split_or_all(b' ', rest);
         if first == word {
             return true;
         }
@@ -37,24 +37,24 @@ fn privacy(words: &[u8]) -> PrivacySet {
 }
 
 /// Writes the four results.
-fn tell_answers(told: &mut Told, words: &PrivacySet, sheet: Option<&Sheet>) {
-    told.add_if(caller_restricted(words, sheet), b"r", b"-");
-    told.add_if(callee_restricted(words, sheet), b"r", b"-");
-    told.add_if(present_to(sheet, Side::Callee), b"p", b"-");
-    told.add_if(present_to(sheet, Side::Caller), b"p", b"-");
+fn write_responses(transcript: &mut Transcript, words: &PrivacySet, sheet: Option<&Sheet>) {
+    transcript.add_if(caller_restricted(words, sheet), b"r", b"-");
+    transcript.add_if(callee_restricted(words, sheet), b"r", b"-");
+    transcript.add_if(present_to(sheet, Side::Callee), b"p", b"-");
+    transcript.add_if(present_to(sheet, Side::Caller), b"p", b"-");
 }
 
 /// Restrictions and presentations.
 struct Identities;
 
 impl Table for Identities {
-    fn tell(told: &mut Told, line: &[u8], asked: &[u8]) {
+    fn write_row(transcript: &mut Transcript, line: &[u8], asked: &[u8]) {
         let words = privacy(asked);
         match line {
-            [] => tell_answers(told, &words, None),
+            [] => write_responses(transcript, &words, None),
             [_colon, tables @ ..] => {
-                if let Some(sheet) = read_tables(told, b'&', tables) {
-                    tell_answers(told, &words, Some(&sheet));
+                if let Some(sheet) = read_tables(transcript, b'&', tables) {
+                    write_responses(transcript, &words, Some(&sheet));
                     drop(sheet);
                 }
             }

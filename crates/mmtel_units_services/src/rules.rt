@@ -10,7 +10,7 @@ use crate::reading::{Called, Table, facts, identity, read_called, sheet_of, wron
 use mmtel_lex::Text;
 use mmtel_rules::{Facts, When, abroad, first, holds};
 use mmtel_sheet_values::Rule;
-use mmtel_told::Told;
+use mmtel_test_tables::Transcript;
 
 /// The index of the first rule that holds, evaluated one after the other.
 fn first_by_holds(rules: &[Rule], facts: &Facts, when: When) -> Option<usize> {
@@ -32,28 +32,33 @@ fn place(rule: Option<usize>) -> &'static [u8] {
 }
 
 /// Writes a result of a row; `?` where `first` and `holds` do not agree.
-fn tell_answer(told: &mut Told, rules: &[Rule], facts: &Facts, when: When) {
+fn write_response(transcript: &mut Transcript, rules: &[Rule], facts: &Facts, when: When) {
     let rule = first(rules, facts, when);
     let same = rule == first_by_holds(rules, facts, when);
-    told.add_if(same, place(rule), b"?");
+    transcript.add_if(same, place(rule), b"?");
 }
 
 /// Writes the five results of rules.
-fn tell_answers(told: &mut Told, rules: &[Rule], facts: &Facts) {
-    tell_answer(told, rules, facts, When::Arrival { registered: true });
-    tell_answer(told, rules, facts, When::Arrival { registered: false });
-    tell_answer(told, rules, facts, When::Busy);
-    tell_answer(told, rules, facts, When::NoAnswer);
-    tell_answer(told, rules, facts, When::NotReachable);
+fn write_responses(transcript: &mut Transcript, rules: &[Rule], facts: &Facts) {
+    write_response(transcript, rules, facts, When::Arrival { registered: true });
+    write_response(
+        transcript,
+        rules,
+        facts,
+        When::Arrival { registered: false },
+    );
+    write_response(transcript, rules, facts, When::Busy);
+    write_response(transcript, rules, facts, When::NoAnswer);
+    write_response(transcript, rules, facts, When::NotReachable);
 }
 
 /// Writes the five results of the rules of a line.
-fn tell_of(told: &mut Told, line: &[u8], called: &Called) {
+fn write_of(transcript: &mut Transcript, line: &[u8], called: &Called) {
     let target = b"target = \"sip:vm@far.example\"";
-    if let Some(sheet) = sheet_of(told, b"communication-diversion", b"", target, line) {
+    if let Some(sheet) = sheet_of(transcript, b"communication-diversion", b"", target, line) {
         match &sheet.diversion {
-            None => told.fail(),
-            Some(part) => tell_answers(told, part.rules.items(), &facts(called)),
+            None => transcript.fail(),
+            Some(part) => write_responses(transcript, part.rules.items(), &facts(called)),
         }
         drop(sheet);
     }
@@ -63,9 +68,9 @@ fn tell_of(told: &mut Told, line: &[u8], called: &Called) {
 struct Rules;
 
 impl Table for Rules {
-    fn tell(told: &mut Told, line: &[u8], asked: &[u8]) {
-        let called = read_called(told, asked);
-        tell_of(told, line, &called);
+    fn write_row(transcript: &mut Transcript, line: &[u8], asked: &[u8]) {
+        let called = read_called(transcript, asked);
+        write_of(transcript, line, &called);
         drop(called);
     }
 }
@@ -337,19 +342,19 @@ fn conditions_and_rules(rt: HostRuntime) {
 }
 
 /// The digits of the home country; none under no line.
-fn country(told: &mut Told, line: &[u8]) -> Option<Text> {
+fn country(transcript: &mut Transcript, line: &[u8]) -> Option<Text> {
     let digits = line.strip_prefix(b":")?;
-    Some(told.copy(digits))
+    Some(transcript.copy(digits))
 }
 
 /// Targets, of which some are abroad.
 struct Targets;
 
 impl Table for Targets {
-    fn tell(told: &mut Told, line: &[u8], asked: &[u8]) {
-        let country = country(told, line);
-        if let Some(uri) = identity(told, asked) {
-            told.add_if(abroad(&uri, country.as_ref()), b"a", b"-");
+    fn write_row(transcript: &mut Transcript, line: &[u8], asked: &[u8]) {
+        let country = country(transcript, line);
+        if let Some(uri) = identity(transcript, asked) {
+            transcript.add_if(abroad(&uri, country.as_ref()), b"a", b"-");
             drop(uri);
         }
         drop(country);

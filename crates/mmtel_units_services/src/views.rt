@@ -2,11 +2,11 @@
 
 use crate::asserting::assert_right;
 use crate::reading::read_tables;
-use mmtel_scan::number_up_to;
+use mmtel_base::number_up_to;
 use mmtel_sheet_values::{SharedSheet, Sheet, SheetView};
-use mmtel_told::{Rows, Told, cut, wrong_line};
+use mmtel_test_tables::{RowRunner, Transcript, split_or_all, wrong_line};
 use mmtel_types::{Account, Moment};
-use mmtel_uploads::kept_sheet;
+use mmtel_uploads::stored_sheet;
 use std::alloc::Global;
 
 /// A view, and one of its sheets that is kept.
@@ -35,136 +35,142 @@ fn waiting(calls: u8) -> Sheet {
 }
 
 /// Writes a number, or `-` for none.
-fn tell_number(told: &mut Told, number: Option<u64>) {
+fn write_number(transcript: &mut Transcript, number: Option<u64>) {
     match number {
-        None => told.add(b"-\n"),
+        None => transcript.add(b"-\n"),
         Some(number) => {
-            told.add_number(number);
-            told.add(b"\n");
+            transcript.add_number(number);
+            transcript.add(b"\n");
         }
     }
 }
 
 /// Writes the capacity in the sheet.
-fn tell_calls(told: &mut Told, sheet: &Sheet) {
+fn write_calls(transcript: &mut Transcript, sheet: &Sheet) {
     match sheet.waiting {
-        None => tell_number(told, None),
-        Some(calls) => tell_number(told, Some(u64::from(calls))),
+        None => write_number(transcript, None),
+        Some(calls) => write_number(transcript, Some(u64::from(calls))),
     }
 }
 
 /// Writes the capacity in the sheet; `none` where there is no sheet.
-fn tell_sheet(told: &mut Told, sheet: Option<&Sheet>) {
+fn write_sheet(transcript: &mut Transcript, sheet: Option<&Sheet>) {
     match sheet {
-        None => told.add(b"none\n"),
-        Some(sheet) => tell_calls(told, sheet),
+        None => transcript.add(b"none\n"),
+        Some(sheet) => write_calls(transcript, sheet),
     }
 }
 
-fn tell_shared(told: &mut Told, shared: &Option<SharedSheet>) {
+fn write_shared(transcript: &mut Transcript, shared: &Option<SharedSheet>) {
     match shared {
-        None => tell_sheet(told, None),
-        Some(shared) => tell_calls(told, shared.sheet()),
+        None => write_sheet(transcript, None),
+        Some(shared) => write_calls(transcript, shared.sheet()),
     }
 }
 
 /// Writes the no-reply time of a record, in which `|` ends a line.
-fn tell_time(told: &mut Told, record: &[u8]) {
-    if let Some(sheet) = read_tables(told, b'|', record) {
-        tell_number(told, sheet.no_reply_time());
+fn write_time(transcript: &mut Transcript, record: &[u8]) {
+    if let Some(sheet) = read_tables(transcript, b'|', record) {
+        write_number(transcript, sheet.no_reply_time());
         drop(sheet);
     }
 }
 
 /// Writes the capacity in a text that was stored.
-fn tell_text(told: &mut Told, text: &[u8]) {
-    match kept_sheet(told.alloc, text) {
+fn write_text(transcript: &mut Transcript, text: &[u8]) {
+    match stored_sheet(transcript.alloc, text) {
         Ok(sheet) => {
-            tell_calls(told, &sheet);
+            write_calls(transcript, &sheet);
             drop(sheet);
         }
-        Err(_) => told.fail(),
+        Err(_) => transcript.fail(),
     }
 }
 
 impl Views {
-    fn reserve(&mut self, told: &mut Told, account: Account) {
+    fn reserve(&mut self, transcript: &mut Transcript, account: Account) {
         let done = self.view.reserve(account);
-        told.keep(done.is_ok());
+        transcript.fail_unless(done.is_ok());
     }
 
     /// Puts the sheet of a record.
-    fn put(&mut self, told: &mut Told, account: Account, record: &[u8]) {
-        if let Some(sheet) = read_tables(told, b'|', record) {
+    fn put(&mut self, transcript: &mut Transcript, account: Account, record: &[u8]) {
+        if let Some(sheet) = read_tables(transcript, b'|', record) {
             let done = self.view.put(account, sheet);
-            told.keep(done.is_ok());
+            transcript.fail_unless(done.is_ok());
         }
     }
 
     /// Puts a sheet in place of the account's previous one without allocation, and writes the previous one.
-    fn replace_by(&mut self, told: &mut Told, account: Account, sheet: SharedSheet) {
+    fn replace_by(&mut self, transcript: &mut Transcript, account: Account, sheet: SharedSheet) {
         match self.view.reserve(account) {
-            Ok(()) => tell_shared(told, &self.view.replace(account, sheet)),
-            Err(_) => told.fail(),
+            Ok(()) => write_shared(transcript, &self.view.replace(account, sheet)),
+            Err(_) => transcript.fail(),
         }
     }
 
     /// The same of a sheet with a capacity of so many calls.
-    fn replace(&mut self, told: &mut Told, account: Account, digits: &[u8]) {
+    fn replace(&mut self, transcript: &mut Transcript, account: Account, digits: &[u8]) {
         let calls = number_up_to(9, digits).unwrap_or(0);
         let sheet = waiting(u8::try_from(calls).unwrap_or(0));
-        match SharedSheet::of(told.alloc, sheet) {
-            Ok(sheet) => self.replace_by(told, account, sheet),
-            Err(_) => told.fail(),
+        match SharedSheet::new(transcript.alloc, sheet) {
+            Ok(sheet) => self.replace_by(transcript, account, sheet),
+            Err(_) => transcript.fail(),
         }
     }
 
     /// Keeps the account's sheet, and writes it.
-    fn keep(&mut self, told: &mut Told, account: Account) {
-        match self.view.shared(account) {
+    fn keep(&mut self, transcript: &mut Transcript, account: Account) {
+        match self.view.shared_sheet(account) {
             Ok(shared) => self.kept = shared,
-            Err(_) => told.fail(),
+            Err(_) => transcript.fail(),
         }
-        tell_shared(told, &self.kept);
+        write_shared(transcript, &self.kept);
     }
 
     /// Sets the end of a registration, or that it has none.
-    fn end(&mut self, told: &mut Told, account: Account, digits: &[u8]) {
+    fn end(&mut self, transcript: &mut Transcript, account: Account, digits: &[u8]) {
         let done = self.view.set_registered(account, moment(digits));
-        told.keep(done.is_ok());
+        transcript.fail_unless(done.is_ok());
     }
 
     /// Writes whether the account is registered at this moment.
-    fn tell_registered(&self, told: &mut Told, account: Account, digits: &[u8]) {
+    fn write_registered(&self, transcript: &mut Transcript, account: Account, digits: &[u8]) {
         match moment(digits) {
-            Some(now) => told.add_if(self.view.registered(account, now), b"yes\n", b"no\n"),
-            None => told.fail(),
+            Some(now) => transcript.add_if(self.view.registered(account, now), b"yes\n", b"no\n"),
+            None => transcript.fail(),
         }
     }
 
     /// The states of the sheets.
-    fn tell_sheets(&mut self, told: &mut Told, word: &[u8], account: Account, rest: &[u8]) {
+    fn write_sheets(
+        &mut self,
+        transcript: &mut Transcript,
+        word: &[u8],
+        account: Account,
+        rest: &[u8],
+    ) {
         match word {
-            b"reserve" => self.reserve(told, account),
-            b"put" => self.put(told, account, rest),
-            b"replace" => self.replace(told, account, rest),
-            b"keep" => self.keep(told, account),
-            b"kept" => tell_shared(told, &self.kept),
-            _ => tell_sheet(told, self.view.sheet(account)),
+            b"reserve" => self.reserve(transcript, account),
+            b"put" => self.put(transcript, account, rest),
+            b"replace" => self.replace(transcript, account, rest),
+            b"keep" => self.keep(transcript, account),
+            b"kept" => write_shared(transcript, &self.kept),
+            _ => write_sheet(transcript, self.view.sheet(account)),
         }
     }
 }
 
-impl Rows for Views {
-    fn tell(&mut self, told: &mut Told, asked: &[u8]) {
-        let (word, rest) = cut(b' ', asked);
-        let (number, more) = cut(b' ', rest);
+impl RowRunner for Views {
+    fn run_row(&mut self, transcript: &mut Transcript, asked: &[u8]) {
+        let (word, rest) = split_or_all(b' ', asked);
+        let (number, more) = split_or_all(b' ', rest);
         match word {
-            b"end" => self.end(told, account(number), more),
-            b"registered" => self.tell_registered(told, account(number), more),
-            b"time" => tell_time(told, rest),
-            b"text" => tell_text(told, rest),
-            _ => self.tell_sheets(told, word, account(number), more),
+            b"end" => self.end(transcript, account(number), more),
+            b"registered" => self.write_registered(transcript, account(number), more),
+            b"time" => write_time(transcript, rest),
+            b"text" => write_text(transcript, rest),
+            _ => self.write_sheets(transcript, word, account(number), more),
         }
     }
 }

@@ -2,10 +2,10 @@
 
 use crate::asserting::assert_right;
 use crate::reading::{Table, wrong_line};
-use mmtel_scan::number_up_to;
+use mmtel_base::number_up_to;
 use mmtel_sdp::Direction;
 use mmtel_sheet_reader::read_sheet;
-use mmtel_told::Told;
+use mmtel_test_tables::Transcript;
 use mmtel_types::Side;
 use mmtel_waiting::{HoldState, capacity, is_busy};
 
@@ -13,24 +13,24 @@ use mmtel_waiting::{HoldState, capacity, is_busy};
 struct BusyUsers;
 
 /// A number of calls.
-fn calls(told: &mut Told, digits: &[u8]) -> u32 {
+fn calls(transcript: &mut Transcript, digits: &[u8]) -> u32 {
     match number_up_to(4_000_000_000, digits) {
         Some(live) => u32::try_from(live).unwrap_or(0),
         None => {
-            told.fail();
+            transcript.fail();
             0
         }
     }
 }
 
 impl Table for BusyUsers {
-    fn tell(told: &mut Told, line: &[u8], asked: &[u8]) {
-        let live = calls(told, asked);
+    fn write_row(transcript: &mut Transcript, line: &[u8], asked: &[u8]) {
+        let live = calls(transcript, asked);
         let record = line.strip_prefix(b":").unwrap_or(b"");
-        let sheet = read_sheet(told.alloc, record);
-        if let Some(sheet) = told.noted(sheet) {
-            told.add_number(u64::from(capacity(&sheet)));
-            told.add_if(is_busy(live, &sheet), b"b", b"-");
+        let sheet = read_sheet(transcript.alloc, record);
+        if let Some(sheet) = transcript.value_or_fail(sheet) {
+            transcript.add_number(u64::from(capacity(&sheet)));
+            transcript.add_if(is_busy(live, &sheet), b"b", b"-");
             drop(sheet);
         }
     }
@@ -81,7 +81,7 @@ fn direction_of(letter: u8) -> Direction {
 }
 
 /// The state after these steps, each of two letters: a side, and the direction that it offers.
-fn state_after(told: &mut Told, steps: &[u8]) -> HoldState {
+fn state_after(transcript: &mut Transcript, steps: &[u8]) -> HoldState {
     let mut state = HoldState::default();
     let mut rest = steps;
     for _ in 0..8 {
@@ -90,7 +90,7 @@ fn state_after(told: &mut Told, steps: &[u8]) -> HoldState {
             rest = later;
         }
     }
-    told.keep(rest.is_empty());
+    transcript.fail_unless(rest.is_empty());
     state
 }
 
@@ -98,11 +98,11 @@ fn state_after(told: &mut Told, steps: &[u8]) -> HoldState {
 struct HoldSteps;
 
 impl Table for HoldSteps {
-    fn tell(told: &mut Told, _line: &[u8], asked: &[u8]) {
-        let state = state_after(told, asked);
-        told.add_if(state.caller, b"a", b"-");
-        told.add_if(state.callee, b"b", b"-");
-        told.add_number(u64::from(state.holds));
+    fn write_row(transcript: &mut Transcript, _line: &[u8], asked: &[u8]) {
+        let state = state_after(transcript, asked);
+        transcript.add_if(state.caller, b"a", b"-");
+        transcript.add_if(state.callee, b"b", b"-");
+        transcript.add_number(u64::from(state.holds));
     }
 }
 

@@ -8,7 +8,7 @@ use Rattle.toml_parser.specs.Lexical.{skip_from}
 use Rattle.mmtel_sheet_grammar.specs.Texts.{sheet_read, document_read}
 use Rattle.mmtel_sheet_grammar.specs.declared.faults.SheetFault.TheVariants.{NotToml}
 use Rattle.mmtel_sheet_values.specs.Sheets.{empty_sheet}
-use Rattle.mmtel_uploads.specs.Uploads.{by_read, upload_of}
+use Rattle.mmtel_uploads.specs.Uploads.{upload_of, upload_of_read}
 use Rattle.mmtel_uploads.specs.declared.uploads.Upload.TheVariants.{Accepted}
 
 text : is_utf8 [] ≡ true
@@ -25,4 +25,4 @@ empty_text = ap (λ b. if b then document_read (parse_document []) else Err NotT
 
 pub empty_upload : upload_of [] ≡ Accepted empty_sheet
 unfolding upload_of
-empty_upload = ap by_read empty_text
+empty_upload = ap upload_of_read empty_text

@@ -1,7 +1,7 @@
 //! Texts of service records, uploaded, checked or stored: the content of one, or the line with its first fault.
 #![tactic(auto)]
 
-pub mod laws;
+pub mod theorems;
 mod uploads;
 
-pub use uploads::{Upload, fault_text, kept_sheet, upload_of};
+pub use uploads::{Upload, fault_text, stored_sheet, upload_of};

@@ -1,12 +1,12 @@
 //! The content of an upload.
 ghost use Rattle.std.specs.Prelude.{◌≡◌, ◌≢◌, ◌++◌, ◌∷◌, [], IfOk, OnOk, codes, decimal};
 ghost use Rattle.mmtel_uploads.specs.Uploads.{upload_of, fault_text};
-ghost use Rattle.mmtel_sheet_grammar.specs.Texts.{kept_sheet};
+ghost use Rattle.mmtel_sheet_grammar.specs.Texts.{stored_sheet};
 ghost use Rattle.mmtel_sheet_values.specs.Sheets.{empty_sheet};
 ghost use Rattle.mmtel_sheet_grammar.specs.declared.faults.SheetFault.TheVariants as kinds;
 
 use itoa::Buffer;
-use mmtel_scan::{NoMemory, Text};
+use mmtel_base::{NoMemory, Text};
 use mmtel_sheet_grammar::SheetFault;
 use mmtel_sheet_reader::read_sheet;
 use mmtel_sheet_values::Sheet;
@@ -98,8 +98,8 @@ fn without_record(fault: &SheetFault) -> Result<Sheet, NoMemory>
 /// # Errors
 ///
 /// Out of memory only.
-pub fn kept_sheet(alloc: Global, bytes: &[u8]) -> Result<Sheet, NoMemory>
-    ensures exact { IfOk result (λ sheet. sheet ≡ kept_sheet bytes.now) }
+pub fn stored_sheet(alloc: Global, bytes: &[u8]) -> Result<Sheet, NoMemory>
+    ensures exact { IfOk result (λ sheet. sheet ≡ stored_sheet bytes.now) }
 {
     match read_sheet(alloc, bytes) {
         Ok(sheet) => Ok(sheet),

@@ -1,1 +1,1 @@
-mod HoldLaws
+mod HoldTheorems

@@ -24,29 +24,29 @@ with_side state Caller holds = record state { caller = holds }
 with_side state Callee holds = record state { callee = holds }
 
 -- the greatest count
-abbrev pub most_holds : ℕ
-most_holds = 2 ^ 32 - 1
+abbrev pub max_holds : ℕ
+max_holds = 2 ^ 32 - 1
 
 -- one more, where a side begins to hold: it did not before, and does now
 abbrev pub count_after : ℕ → Bool → Bool → ℕ
-count_after count before now = if now && not before then min (count + 1) most_holds else count
+count_after count before now = if now && not before then min (count + 1) max_holds else count
 
 -- the state after a side offered a direction
-abbrev pub noted : HoldState → Side → Direction → HoldState
-noted state side direction = record (with_side state side (is_hold direction)) { holds = count_after state.holds (holds_of state side) (is_hold direction) }
+abbrev pub state_after_note : HoldState → Side → Direction → HoldState
+state_after_note state side direction = record (with_side state side (is_hold direction)) { holds = count_after state.holds (holds_of state side) (is_hold direction) }
 
 -- a side that made an offer, and the direction
-abbrev pub Ask : Type 0
-Ask = Side × Direction
+abbrev pub DirectionRequest : Type 0
+DirectionRequest = Side × Direction
 
 -- no side holds
-abbrev pub at_first : HoldState
-at_first = record { caller = false; callee = false; holds = 0 }
+abbrev pub no_hold : HoldState
+no_hold = record { caller = false; callee = false; holds = 0 }
 
 -- the state after these, noted one by one; the last one is first in the list
-abbrev pub state_after : List Ask → HoldState
-state_after [] = at_first
-state_after (last ∷ earlier) = noted (state_after earlier) last.0 last.1
+abbrev pub state_after : List DirectionRequest → HoldState
+state_after [] = no_hold
+state_after (last ∷ earlier) = state_after_note (state_after earlier) last.0 last.1
 
 -- the sides are the same
 abbrev pub is_side : Side → Side → Bool
@@ -56,16 +56,16 @@ is_side Callee Caller = false
 is_side Callee Callee = true
 
 -- the last direction that this side offered is a hold; the last one is first in the list
-abbrev pub holds_by_last : Side → List Ask → Bool
+abbrev pub holds_by_last : Side → List DirectionRequest → Bool
 holds_by_last side [] = false
 holds_by_last side (last ∷ earlier) = if is_side last.0 side then is_hold last.1 else holds_by_last side earlier
 
 -- how often a hold came from a side whose last direction before was none; the last one is first in the list
-abbrev pub times_begun : List Ask → ℕ
-times_begun [] = 0
-times_begun (last ∷ earlier) = if is_hold last.1 && not (holds_by_last last.0 earlier) then times_begun earlier + 1 else times_begun earlier
+abbrev pub holds_begun : List DirectionRequest → ℕ
+holds_begun [] = 0
+holds_begun (last ∷ earlier) = if is_hold last.1 && not (holds_by_last last.0 earlier) then holds_begun earlier + 1 else holds_begun earlier
 
 -- the state after any directions is determined by the last ones of each side, and by how often a hold began
-pub record IsToldByTheLast : Type 0 where
-  pub sides : (asks : List Ask) (side : Side) → holds_of (state_after asks) side ≡ holds_by_last side asks
-  pub count : (asks : List Ask) → (state_after asks).holds ≡ min (times_begun asks) most_holds
+pub record DependsOnLastDirections : Type 0 where
+  pub sides : (asks : List DirectionRequest) (side : Side) → holds_of (state_after asks) side ≡ holds_by_last side asks
+  pub count : (asks : List DirectionRequest) → (state_after asks).holds ≡ min (holds_begun asks) max_holds

@@ -1,6 +1,6 @@
 //! Which sides of a call hold it, and how often it was held.
 ghost use Rattle.std.specs.Prelude.{◌≡◌};
-ghost use Rattle.mmtel_waiting.specs.Hold.{is_hold, holds_of, noted, IsToldByTheLast};
+ghost use Rattle.mmtel_waiting.specs.Hold.{is_hold, holds_of, state_after_note, DependsOnLastDirections};
 
 use mmtel_sdp::Direction;
 use mmtel_types::Side;
@@ -18,11 +18,11 @@ pub struct HoldState {
 
 impl HoldState {
     /// Notes the direction of a new offer of this side: the side holds the call exactly for `SendOnly` and `Inactive`, and the count increases where it did not hold it before.
-    pub fn note(&mut self, side: Side, d: Direction)
-        ensures exact { self.new ≡ noted self.old side d }
+    pub fn note(&mut self, side: Side, direction: Direction)
+        ensures exact { self.new ≡ state_after_note self.old side direction }
     {
         let held = self.holds_at(side);
-        let holds = is_hold(d);
+        let holds = is_hold(direction);
         match side {
             Side::Caller => self.caller = holds,
             Side::Callee => self.callee = holds,
@@ -44,10 +44,10 @@ impl HoldState {
 }
 
 /// Whether the side that offers this direction holds the call.
-fn is_hold(d: Direction) -> bool
-    ensures { result ≡ is_hold d }
+fn is_hold(direction: Direction) -> bool
+    ensures { result ≡ is_hold direction }
 {
-    match d {
+    match direction {
         Direction::SendOnly | Direction::Inactive => true,
         Direction::SendRecv | Direction::RecvOnly => false,
     }
@@ -55,6 +55,6 @@ fn is_hold(d: Direction) -> bool
 
 /// A theorem, without code: after any directions, noted one by one, a side holds the call exactly where the last direction that it offered is a hold, and the count is how often a
 /// direction that is a hold came from a side that did not hold, or the greatest number where it was more often.
-pub fn hold_is_told_by_the_last_directions()
-    ensures law { IsToldByTheLast }
+pub fn hold_depends_on_last_directions()
+    ensures law { DependsOnLastDirections }
 {}

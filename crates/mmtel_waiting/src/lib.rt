@@ -5,4 +5,4 @@ mod capacities;
 mod hold;
 
 pub use capacities::{capacity, is_busy};
-pub use hold::{HoldState, hold_is_told_by_the_last_directions};
+pub use hold::{HoldState, hold_depends_on_last_directions};

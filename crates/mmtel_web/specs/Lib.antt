@@ -2,8 +2,8 @@
 pub mod Parties
 pub mod Replies
 pub mod Mailboxes
-pub mod Answers
-pub mod Agreed
+pub mod Handling
+pub mod Agreement
 pub mod Uploads
 
 -- Definitions that only private functions cite: none.

@@ -7,31 +7,31 @@ use Rattle.mmtel_lex.specs.declared.values.Uri.{Uri}
 use Rattle.mmtel_directory.specs.Directory.{readable}
 use Rattle.mmtel_lex.specs.Reading.{uri_of}
 use Rattle.mmtel_lex.specs.SameIdentity.{is_same_identity}
-use Rattle.mmtel_scan.specs.Chain.{◌>>=◌}
-use Rattle.mmtel_scan.specs.Scanning.{after_byte, parted}
+use Rattle.mmtel_base.specs.Chain.{◌>>=◌}
+use Rattle.mmtel_base.specs.Scanning.{after_byte, split_once_at}
 use Rattle.mmtel_trust.specs.declared.accounts.AccountIdentity.{AccountIdentity}
 
 -- what precedes the quote, where nothing follows it
-abbrev pub closed : List ℕ × List ℕ → Option (List ℕ)
-closed x = if length x.1 == 0 then Some x.0 else None
+abbrev pub complete_quote : List ℕ × List ℕ → Option (List ℕ)
+complete_quote x = if length x.1 == 0 then Some x.0 else None
 
 -- what is in the quotes
-abbrev pub quoted : List ℕ → Option (List ℕ)
-quoted value = after_byte 34 value >>= λ rest. parted 34 rest >>= closed
+abbrev pub quoted_text : List ℕ → Option (List ℕ)
+quoted_text value = after_byte 34 value >>= λ rest. split_once_at 34 rest >>= complete_quote
 
 -- the identity in the one value of the field of the asserted identity: one URI in quotes, and nothing else
 abbrev pub identity_of : Option (List ℕ) → Option Uri
 identity_of None = None
-identity_of (Some value) = quoted value >>= λ bytes. readable (uri_of bytes)
+identity_of (Some value) = quoted_text value >>= λ bytes. readable (uri_of bytes)
 
 -- the URI is an identity of the account, whether or not another account has one that is equal to it
 abbrev pub is_own : List AccountIdentity → Account → Uri → Bool
 is_own identities account u = list_any (λ identity. identity.account.0 == account.0 && is_same_identity identity.uri u) identities
 
 -- it was asserted, and is an identity of the account
-abbrev pub may_ask : List AccountIdentity → Account → Option Uri → Bool
-may_ask identities account None = false
-may_ask identities account (Some u) = is_own identities account u
+abbrev pub may_access : List AccountIdentity → Account → Option Uri → Bool
+may_access identities account None = false
+may_access identities account (Some u) = is_own identities account u
 
 -- the identity is the operator's
 abbrev pub is_operator : Option Uri → Option Uri → Bool

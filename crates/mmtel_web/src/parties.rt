@@ -1,21 +1,21 @@
 //! Who makes a request.
 ghost use Rattle.std.specs.Prelude.{◌≡◌, IfOk};
 ghost use Rattle.std.specs.Option.{option_copied};
-ghost use Rattle.mmtel_web.specs.Parties.{identity_of, quoted, is_own, may_ask, is_operator};
+ghost use Rattle.mmtel_web.specs.Parties.{identity_of, quoted_text, is_own, may_access, is_operator};
 
+use mmtel_base::{NoMemory, skip_byte, split_once_at};
 use mmtel_directory::readable_uri;
 use mmtel_lex::{Uri, same_identity};
-use mmtel_scan::{NoMemory, part, skip_byte};
 use mmtel_trust::{AccountIdentity, Accounts};
 use mmtel_types::Account;
 use std::alloc::Global;
 
 /// What is in the quotes.
-fn quoted(value: &[u8]) -> Option<&[u8]>
-    ensures { option_copied result ≡ quoted value.now }
+fn quoted_text(value: &[u8]) -> Option<&[u8]>
+    ensures { option_copied result ≡ quoted_text value.now }
 {
     let rest = skip_byte(b'"', value)?;
-    let (inner, behind) = part(b'"', rest)?;
+    let (inner, behind) = split_once_at(b'"', rest)?;
     if behind.is_empty() { Some(inner) } else { None }
 }
 
@@ -25,7 +25,7 @@ pub fn identity_of(alloc: Global, value: Option<&[u8]>) -> Result<Option<Uri>, N
 {
     match value {
         None => Ok(None),
-        Some(value) => match quoted(value) {
+        Some(value) => match quoted_text(value) {
             None => Ok(None),
             Some(bytes) => readable_uri(alloc, bytes),
         },
@@ -56,8 +56,8 @@ fn is_own(accounts: &Accounts, account: Account, uri: &Uri) -> bool
 }
 
 /// Whether the identity was asserted, and is one of the account.
-pub fn may_ask(accounts: &Accounts, account: Account, identity: &Option<Uri>) -> bool
-    ensures { result ≡ may_ask accounts.now account identity.now }
+pub fn may_access(accounts: &Accounts, account: Account, identity: &Option<Uri>) -> bool
+    ensures { result ≡ may_access accounts.now account identity.now }
 {
     match identity {
         None => false,

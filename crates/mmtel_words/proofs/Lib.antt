@@ -8,5 +8,5 @@ pub mod Spelling
 pub mod Once
 pub mod Whole
 pub mod Lines
-pub mod Tellings
+pub mod ReadTheorems
 pub mod Texts

@@ -7,10 +7,10 @@ use Rattle.std.specs.List.{list_all, starts_with}
 use Rattle.std.specs.Str.{bytes_eq}
 use Rattle.clap.specs.Words.{App, Text, Row, fault_of, matches_of}
 use Rattle.clap.specs.Kinds.{Kinds}
-use Rattle.mmtel_scan.specs.Classes.{in_class, IsAll}
-use Rattle.mmtel_scan.specs.declared.classes.Class.TheVariants.{Digit}
-use Rattle.mmtel_scan.proofs.Numerals.{decimal_writes}
-use Rattle.mmtel_scan.proofs.Runs.{and_true}
+use Rattle.mmtel_base.specs.Classes.{in_class, IsAll}
+use Rattle.mmtel_base.specs.declared.classes.Class.TheVariants.{Digit}
+use Rattle.mmtel_base.proofs.Numerals.{decimal_writes}
+use Rattle.mmtel_base.proofs.Runs.{and_true}
 use Rattle.mmtel_words.specs.CommandLine.{Command, Serve, Replay, Check, Charges, Workload, EachText, IsCommand, Spells, is_hex, is_token, names_of}
 use Rattle.mmtel_words.specs.Reads.{SpellsNone}
 use Rattle.mmtel_words.specs.Rules.{serve_app, replay_app, file_app, workload_app}
@@ -64,10 +64,10 @@ one_alone i k (w ∷ x ∷ ws) = by (bytes_eq i k)
     by true = omega arith
     by false = omega arith
 
-one_tells : (i p : Text) (ws : List Text) → length ws ≤ 1 → At (i ∷ []) ws (i ∷ []) (p ∷ []) → ws ≡ p ∷ []
-one_tells i p [] few told = absurd (let wrong : [] ≡ p ∷ [] = told.0 in cc)
-one_tells i p (w ∷ []) few told = sym (ap (λ b. cond b (w ∷ []) []) (equal_self i)) ∙ told.0
-one_tells i p (w ∷ x ∷ ws) few told = absurd (omega arith)
+one_determines : (i p : Text) (ws : List Text) → length ws ≤ 1 → At (i ∷ []) ws (i ∷ []) (p ∷ []) → ws ≡ p ∷ []
+one_determines i p [] few told = absurd (let wrong : [] ≡ p ∷ [] = told.0 in cc)
+one_determines i p (w ∷ []) few told = sym (ap (λ b. cond b (w ∷ []) []) (equal_self i)) ∙ told.0
+one_determines i p (w ∷ x ∷ ws) few told = absurd (omega arith)
 
 two_alone : (k : Text) (ws : List Text) → length (entries k (placed ws (codes "config" ∷ codes "script" ∷ []))) ≤ 1
 two_alone k [] = omega arith
@@ -90,15 +90,15 @@ two_alone k (w ∷ x ∷ ws) = by (bytes_eq (codes "config") k) (bytes_eq (codes
     by false true e f vs none = rw none (omega arith)
     by false false e f vs none = rw none (omega arith)
 
-two_tells : (p q : Text) (ws : List Text) → length ws ≤ 2 → At (codes "config" ∷ codes "script" ∷ []) ws (codes "config" ∷ codes "script" ∷ []) (p ∷ q ∷ []) → ws ≡ p ∷ q ∷ []
-two_tells p q [] few told = absurd (let wrong : [] ≡ p ∷ [] = told.0 in cc)
-two_tells p q (w ∷ []) few told = absurd (let wrong : [] ≡ q ∷ [] = told.1.0 in cc)
-two_tells p q (w ∷ x ∷ []) few told = let one : w ∷ [] ≡ p ∷ [] = told.0 in let two : x ∷ [] ≡ q ∷ [] = told.1.0 in cc
-two_tells p q (w ∷ x ∷ y ∷ ws) few told = absurd (omega arith)
+two_determines : (p q : Text) (ws : List Text) → length ws ≤ 2 → At (codes "config" ∷ codes "script" ∷ []) ws (codes "config" ∷ codes "script" ∷ []) (p ∷ q ∷ []) → ws ≡ p ∷ q ∷ []
+two_determines p q [] few told = absurd (let wrong : [] ≡ p ∷ [] = told.0 in cc)
+two_determines p q (w ∷ []) few told = absurd (let wrong : [] ≡ q ∷ [] = told.1.0 in cc)
+two_determines p q (w ∷ x ∷ []) few told = let one : w ∷ [] ≡ p ∷ [] = told.0 in let two : x ∷ [] ≡ q ∷ [] = told.1.0 in cc
+two_determines p q (w ∷ x ∷ y ∷ ws) few told = absurd (omega arith)
 
-none_tells : (ws : List Text) → length ws ≤ 0 → ws ≡ []
-none_tells [] few = refl
-none_tells (w ∷ ws) few = absurd (omega arith)
+none_determines : (ws : List Text) → length ws ≤ 0 → ws ≡ []
+none_determines [] few = refl
+none_determines (w ∷ ws) few = absurd (omega arith)
 
 none_alone : (k : Text) (ws : List Text) → length (entries k (placed ws [])) ≤ 1
 none_alone k [] = omega arith
@@ -114,21 +114,21 @@ abbrev pub workload_options : Text → Text → List (Text × Text)
 workload_options calls salt = (codes "calls", calls) ∷ (codes "salt", salt) ∷ []
 
 serve_names : (config token turns : Text) → Names (serve_options token turns) (codes "config" ∷ []) (config ∷ [])
-serve_names config token turns = record { fine = refl; off = (refl, (refl, tt)); other = (refl, tt); lone = one_alone (codes "config"); tells = one_tells (codes "config") config; told = (refl, tt); many = omega arith }
+serve_names config token turns = record { fine = refl; off = (refl, (refl, tt)); other = (refl, tt); lone = one_alone (codes "config"); tells = one_determines (codes "config") config; told = (refl, tt); many = omega arith }
 
 replay_names : (config script token : Text) → Names (replay_options token) (codes "config" ∷ codes "script" ∷ []) (config ∷ script ∷ [])
-replay_names config script token = record { fine = refl; off = (refl, tt); other = (refl, (refl, tt)); lone = two_alone; tells = two_tells config script; told = (refl, (refl, tt)); many = omega arith }
+replay_names config script token = record { fine = refl; off = (refl, tt); other = (refl, (refl, tt)); lone = two_alone; tells = two_determines config script; told = (refl, (refl, tt)); many = omega arith }
 
 file_names : (file : Text) → Names [] (codes "file" ∷ []) (file ∷ [])
-file_names file = record { fine = refl; off = tt; other = (refl, tt); lone = one_alone (codes "file"); tells = one_tells (codes "file") file; told = (refl, tt); many = omega arith }
+file_names file = record { fine = refl; off = tt; other = (refl, tt); lone = one_alone (codes "file"); tells = one_determines (codes "file") file; told = (refl, tt); many = omega arith }
 
 workload_names : (calls salt : Text) → Names (workload_options calls salt) [] []
-workload_names calls salt = record { fine = refl; off = (refl, (refl, tt)); other = tt; lone = none_alone; tells = λ ws few told. none_tells ws few; told = tt; many = omega arith }
+workload_names calls salt = record { fine = refl; off = (refl, (refl, tt)); other = tt; lone = none_alone; tells = λ ws few told. none_determines ws few; told = tt; many = omega arith }
 
 -- ---- what `clap` finds
 
-pub taken : (a : App) (names ids ws : List Text) → IsRead a names ids ws → fault_of a ws ≡ [] → good (names ++ ids) [] (read names ws ids reading) ≡ Some (matches_of a ws)
-taken a names ids ws is e = is ∙ ap (λ f. cond (none f) (Some (matches_of a ws)) None) e
+pub matches_are_read : (a : App) (names ids ws : List Text) → IsRead a names ids ws → fault_of a ws ≡ [] → good (names ++ ids) [] (read names ws ids reading) ≡ Some (matches_of a ws)
+matches_are_read a names ids ws is e = is ∙ ap (λ f. cond (none f) (Some (matches_of a ws)) None) e
 
 -- what a command finds in the words that spell it
 pub record Line (a : App) (options : List (Text × Text)) (ids pos ws : List Text) : Type 0 where
@@ -169,23 +169,23 @@ pub serve_spelled : (config token turns : Text) (ws : List Text) → EachText (c
     → Spells (codes "serve") (config ∷ []) (serve_options token turns) (codes "serve" ∷ ws)
 serve_spelled config token turns ws texts l plain =
     is_spelled (codes "serve") (serve_options token turns) (codes "config" ∷ []) (config ∷ []) ws (matches_of serve_app ws) (serve_names config token turns) texts
-    (taken serve_app (codes "token" ∷ codes "turns" ∷ []) (codes "config" ∷ []) ws (serve_read ws texts.1) l.fault) l.firsts l.places plain
+    (matches_are_read serve_app (codes "token" ∷ codes "turns" ∷ []) (codes "config" ∷ []) ws (serve_read ws texts.1) l.fault) l.firsts l.places plain
 
 pub replay_spelled : (config script token : Text) (ws : List Text) → EachText (codes "replay" ∷ ws) → Line replay_app (replay_options token) (codes "config" ∷ codes "script" ∷ []) (config ∷ script ∷ []) ws → EachPlain (replay_options token)
     → Spells (codes "replay") (config ∷ script ∷ []) (replay_options token) (codes "replay" ∷ ws)
 replay_spelled config script token ws texts l plain =
     is_spelled (codes "replay") (replay_options token) (codes "config" ∷ codes "script" ∷ []) (config ∷ script ∷ []) ws (matches_of replay_app ws) (replay_names config script token) texts
-    (taken replay_app (codes "token" ∷ []) (codes "config" ∷ codes "script" ∷ []) ws (replay_read ws texts.1) l.fault) l.firsts l.places plain
+    (matches_are_read replay_app (codes "token" ∷ []) (codes "config" ∷ codes "script" ∷ []) ws (replay_read ws texts.1) l.fault) l.firsts l.places plain
 
 pub file_spelled : (command file : Text) (ws : List Text) → EachText (command ∷ ws) → Line (file_app command) [] (codes "file" ∷ []) (file ∷ []) ws → Spells command (file ∷ []) [] (command ∷ ws)
 file_spelled command file ws texts l =
-    is_spelled command [] (codes "file" ∷ []) (file ∷ []) ws (matches_of (file_app command) ws) (file_names file) texts (taken (file_app command) [] (codes "file" ∷ []) ws (file_read command ws texts.1) l.fault) l.firsts l.places tt
+    is_spelled command [] (codes "file" ∷ []) (file ∷ []) ws (matches_of (file_app command) ws) (file_names file) texts (matches_are_read (file_app command) [] (codes "file" ∷ []) ws (file_read command ws texts.1) l.fault) l.firsts l.places tt
 
 pub workload_spelled : (calls salt : Text) (ws : List Text) → EachText (codes "workload" ∷ ws) → Line workload_app (workload_options calls salt) [] [] ws → EachPlain (workload_options calls salt)
     → Spells (codes "workload") [] (workload_options calls salt) (codes "workload" ∷ ws)
 workload_spelled calls salt ws texts l plain =
     is_spelled (codes "workload") (workload_options calls salt) [] [] ws (matches_of workload_app ws) (workload_names calls salt) texts
-    (taken workload_app (codes "calls" ∷ codes "salt" ∷ []) [] ws (workload_read ws texts.1) l.fault) l.firsts l.places plain
+    (matches_are_read workload_app (codes "calls" ∷ codes "salt" ∷ []) [] ws (workload_read ws texts.1) l.fault) l.firsts l.places plain
 
 -- ---- one command at most
 
@@ -229,27 +229,27 @@ same_workload : (c c' s s' : ℕ) → c ≡ c' → s ≡ s' → Workload c s ≡
 same_workload c c' s s' e f = cc
 
 -- two commands that the same words after a name spell
-alike : (one other : Command) (ws : List Text) → EachText ws → IsCommand one (name_of one ∷ ws) → IsCommand other (name_of one ∷ ws) → one ≡ other
-alike (Serve c t n) (Serve c' t' n') ws texts a b =
+same_command : (one other : Command) (ws : List Text) → EachText ws → IsCommand one (name_of one ∷ ws) → IsCommand other (name_of one ∷ ws) → one ≡ other
+same_command (Serve c t n) (Serve c' t' n') ws texts a b =
     let p = serve_line c t (decimal n) ws texts a.3 in
     let q = serve_line c' t' (decimal n') ws texts b.3 in
     let most : n ≤ 1000000000 = a.2 in
     let also : n' ≤ 1000000000 = b.2 in
     same_serve c c' t t' n n' (same_first _ c c' p.places.0 q.places.0) (same_first _ t t' p.firsts.0 q.firsts.0)
     (decimal_injective n n' (omega arith) (omega arith) (same_first _ (decimal n) (decimal n') p.firsts.1.0 q.firsts.1.0))
-alike (Replay x) (Replay y) ws texts a b =
+same_command (Replay x) (Replay y) ws texts a b =
     let p = replay_line x.config x.script x.token ws texts a.1 in
     let q = replay_line y.config y.script y.token ws texts b.1 in
     same_replay x.config y.config x.script y.script x.token y.token (same_first _ x.config y.config p.places.0 q.places.0) (same_first _ x.script y.script p.places.1.0 q.places.1.0) (same_first _ x.token y.token p.firsts.0 q.firsts.0)
-alike (Check r) (Check r') ws texts a b =
+same_command (Check r) (Check r') ws texts a b =
     let p = file_line (codes "check") r ws texts a in
     let q = file_line (codes "check") r' ws texts b in
     ap Check (same_first _ r r' p.places.0 q.places.0)
-alike (Charges r) (Charges r') ws texts a b =
+same_command (Charges r) (Charges r') ws texts a b =
     let p = file_line (codes "charges") r ws texts a in
     let q = file_line (codes "charges") r' ws texts b in
     ap Charges (same_first _ r r' p.places.0 q.places.0)
-alike (Workload c s) (Workload c' s') ws texts a b =
+same_command (Workload c s) (Workload c' s') ws texts a b =
     let p = workload_line (decimal c) (decimal s) ws texts a.3 in
     let q = workload_line (decimal c') (decimal s') ws texts b.3 in
     let m1 : c ≤ 10000 = a.1 in
@@ -258,31 +258,31 @@ alike (Workload c s) (Workload c' s') ws texts a b =
     let m4 : s' ≤ 4294967295 = b.2 in
     same_workload c c' s s' (decimal_injective c c' (omega arith) (omega arith) (same_first _ (decimal c) (decimal c') p.firsts.0 q.firsts.0))
     (decimal_injective s s' (omega arith) (omega arith) (same_first _ (decimal s) (decimal s') p.firsts.1.0 q.firsts.1.0))
-alike (Serve c t n) (Replay y) ws texts a b = absurd (let s = begins (Replay y) _ b in clash _ _ _ _ s.whole refl)
-alike (Serve c t n) (Check r) ws texts a b = absurd (let s = begins (Check r) _ b in clash _ _ _ _ s.whole refl)
-alike (Serve c t n) (Charges r) ws texts a b = absurd (let s = begins (Charges r) _ b in clash _ _ _ _ s.whole refl)
-alike (Serve c t n) (Workload k s) ws texts a b = absurd (let s = begins (Workload k s) _ b in clash _ _ _ _ s.whole refl)
-alike (Replay x) (Serve c t n) ws texts a b = absurd (let s = begins (Serve c t n) _ b in clash _ _ _ _ s.whole refl)
-alike (Replay x) (Check r) ws texts a b = absurd (let s = begins (Check r) _ b in clash _ _ _ _ s.whole refl)
-alike (Replay x) (Charges r) ws texts a b = absurd (let s = begins (Charges r) _ b in clash _ _ _ _ s.whole refl)
-alike (Replay x) (Workload k s) ws texts a b = absurd (let s = begins (Workload k s) _ b in clash _ _ _ _ s.whole refl)
-alike (Check r) (Serve c t n) ws texts a b = absurd (let s = begins (Serve c t n) _ b in clash _ _ _ _ s.whole refl)
-alike (Check r) (Replay y) ws texts a b = absurd (let s = begins (Replay y) _ b in clash _ _ _ _ s.whole refl)
-alike (Check r) (Charges r') ws texts a b = absurd (let s = begins (Charges r') _ b in clash _ _ _ _ s.whole refl)
-alike (Check r) (Workload k s) ws texts a b = absurd (let s = begins (Workload k s) _ b in clash _ _ _ _ s.whole refl)
-alike (Charges r) (Serve c t n) ws texts a b = absurd (let s = begins (Serve c t n) _ b in clash _ _ _ _ s.whole refl)
-alike (Charges r) (Replay y) ws texts a b = absurd (let s = begins (Replay y) _ b in clash _ _ _ _ s.whole refl)
-alike (Charges r) (Check r') ws texts a b = absurd (let s = begins (Check r') _ b in clash _ _ _ _ s.whole refl)
-alike (Charges r) (Workload k s) ws texts a b = absurd (let s = begins (Workload k s) _ b in clash _ _ _ _ s.whole refl)
-alike (Workload k s) (Serve c t n) ws texts a b = absurd (let s = begins (Serve c t n) _ b in clash _ _ _ _ s.whole refl)
-alike (Workload k s) (Replay y) ws texts a b = absurd (let s = begins (Replay y) _ b in clash _ _ _ _ s.whole refl)
-alike (Workload k s) (Check r) ws texts a b = absurd (let s = begins (Check r) _ b in clash _ _ _ _ s.whole refl)
-alike (Workload k s) (Charges r) ws texts a b = absurd (let s = begins (Charges r) _ b in clash _ _ _ _ s.whole refl)
+same_command (Serve c t n) (Replay y) ws texts a b = absurd (let s = begins (Replay y) _ b in clash _ _ _ _ s.whole refl)
+same_command (Serve c t n) (Check r) ws texts a b = absurd (let s = begins (Check r) _ b in clash _ _ _ _ s.whole refl)
+same_command (Serve c t n) (Charges r) ws texts a b = absurd (let s = begins (Charges r) _ b in clash _ _ _ _ s.whole refl)
+same_command (Serve c t n) (Workload k s) ws texts a b = absurd (let s = begins (Workload k s) _ b in clash _ _ _ _ s.whole refl)
+same_command (Replay x) (Serve c t n) ws texts a b = absurd (let s = begins (Serve c t n) _ b in clash _ _ _ _ s.whole refl)
+same_command (Replay x) (Check r) ws texts a b = absurd (let s = begins (Check r) _ b in clash _ _ _ _ s.whole refl)
+same_command (Replay x) (Charges r) ws texts a b = absurd (let s = begins (Charges r) _ b in clash _ _ _ _ s.whole refl)
+same_command (Replay x) (Workload k s) ws texts a b = absurd (let s = begins (Workload k s) _ b in clash _ _ _ _ s.whole refl)
+same_command (Check r) (Serve c t n) ws texts a b = absurd (let s = begins (Serve c t n) _ b in clash _ _ _ _ s.whole refl)
+same_command (Check r) (Replay y) ws texts a b = absurd (let s = begins (Replay y) _ b in clash _ _ _ _ s.whole refl)
+same_command (Check r) (Charges r') ws texts a b = absurd (let s = begins (Charges r') _ b in clash _ _ _ _ s.whole refl)
+same_command (Check r) (Workload k s) ws texts a b = absurd (let s = begins (Workload k s) _ b in clash _ _ _ _ s.whole refl)
+same_command (Charges r) (Serve c t n) ws texts a b = absurd (let s = begins (Serve c t n) _ b in clash _ _ _ _ s.whole refl)
+same_command (Charges r) (Replay y) ws texts a b = absurd (let s = begins (Replay y) _ b in clash _ _ _ _ s.whole refl)
+same_command (Charges r) (Check r') ws texts a b = absurd (let s = begins (Check r') _ b in clash _ _ _ _ s.whole refl)
+same_command (Charges r) (Workload k s) ws texts a b = absurd (let s = begins (Workload k s) _ b in clash _ _ _ _ s.whole refl)
+same_command (Workload k s) (Serve c t n) ws texts a b = absurd (let s = begins (Serve c t n) _ b in clash _ _ _ _ s.whole refl)
+same_command (Workload k s) (Replay y) ws texts a b = absurd (let s = begins (Replay y) _ b in clash _ _ _ _ s.whole refl)
+same_command (Workload k s) (Check r) ws texts a b = absurd (let s = begins (Check r) _ b in clash _ _ _ _ s.whole refl)
+same_command (Workload k s) (Charges r) ws texts a b = absurd (let s = begins (Charges r) _ b in clash _ _ _ _ s.whole refl)
 
 pub only_one : (one other : Command) (words : List Text) → IsCommand one words → IsCommand other words → one ≡ other
 only_one one other words a b =
     let s = begins one words a in
-    alike one other s.rest s.texts (subst (IsCommand one) s.whole a) (subst (IsCommand other) s.whole b)
+    same_command one other s.rest s.texts (subst (IsCommand one) s.whole a) (subst (IsCommand other) s.whole b)
 
 -- words after a name spell a command of that name, or none
 pub none_else : (name : Text) (ws : List Text) → ((c : Command) → bytes_eq name (name_of c) ≡ true → IsCommand c (name ∷ ws) → ⊥) → SpellsNone (name ∷ ws)

@@ -120,7 +120,7 @@ none-check true = refl
 none-check false = refl
 
 -- a command that is configured as in this crate
-record Told (s : Shape) (names ids : List Text) : Type 0 where
+record IsCommandSetup (s : Shape) (names ids : List Text) : Type 0 where
   rules : s.rules ≡ rules_from names ids
   plain : AllPlain s.rules
   keys : keys_of s.rules ≡ names ++ ids
@@ -130,7 +130,7 @@ record Told (s : Shape) (names ids : List Text) : Type 0 where
   sub : s.subcommand_required ≡ false
   negates : s.subcommand_negates_reqs ≡ false
 
-ends_of : (s : Shape) (names ids : List Text) → Told s names ids → (h : Held) → none (or_else (defaults_fault (settled s.rules h).rows s.rules) (check_fault s (finished s.rules h) false)) ≡ list_all (λ k. is_given k (settled s.rules h).rows) (names ++ ids)
+ends_of : (s : Shape) (names ids : List Text) → IsCommandSetup s names ids → (h : Held) → none (or_else (defaults_fault (settled s.rules h).rows s.rules) (check_fault s (finished s.rules h) false)) ≡ list_all (λ k. is_given k (settled s.rules h).rows) (names ++ ids)
 ends_of s names ids t h =
     let E = (settled s.rules h).rows in
     let D = list_all (λ k. is_given k E) (keys_of s.rules) in
@@ -140,7 +140,7 @@ ends_of s names ids t h =
     ∙ last
     ∙ ap (λ l. list_all (λ k. is_given k E) l) t.keys
 
-setup_of : (s : Shape) (names ids : List Text) → Told s names ids → Setup s names (names ++ ids)
+setup_of : (s : Shape) (names ids : List Text) → IsCommandSetup s names ids → Setup s names (names ++ ids)
 setup_of s names ids t = record {
   known = known_in s names ids t.rules;
   lost = λ k e. ap (λ r. arg_by_long r k) t.rules ∙ long_in names ids k ∙ ap (λ b. cond b (Some (option_rule k)) None) e;
@@ -157,7 +157,7 @@ IsRead a names ids ws = good (names ++ ids) [] (read names ws ids reading) ≡ c
 abbrev walked_to : Shape → List Text → Held
 walked_to s ws = (fold (walked s.rules []) (walk_from nothing_held) ws).held
 
-is_read : (a : App) (names ids ws : List Text) → Told (built a).top names ids → Places (built a).top 1 ids → EachText ws
+is_read : (a : App) (names ids ws : List Text) → IsCommandSetup (built a).top names ids → Places (built a).top 1 ids → EachText ws
     → fault_of a ws ≡ run (built a).top (walk_from nothing_held) ws → matches_of a ws ≡ finished (built a).top.rules (walked_to (built a).top ws) → IsRead a names ids ws
 is_read a names ids ws t places texts fault found =
     let s = (built a).top in

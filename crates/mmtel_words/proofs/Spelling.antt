@@ -4,7 +4,7 @@ use Rattle.std.specs.List.{flat_map, list_all}
 use Rattle.std.specs.Str.{bytes_eq}
 use Rattle.clap.specs.Words.{Text}
 use Rattle.clap.specs.Lexer.{long_of, short_of}
-use Rattle.mmtel_words.specs.CommandLine.{Piece, Word, Apart, Joined, spelling, is_among, is_positional, word_in, mark_words, behind_mark}
+use Rattle.mmtel_words.specs.CommandLine.{Piece, Word, Apart, Joined, spelling, is_among, is_positional, word_in, mark_words, words_after_mark}
 use Rattle.mmtel_words.proofs.Reader.{Form, mark, joined, apart, bad, Mode, reading, wanting, trailing, by_long, Entry, and_entry, at_place, by_form, read}
 use Rattle.mmtel_words.proofs.Forms.{equal, joined_is, apart_is, place_is, joined_form, apart_form, place_form, is_name, among_all}
 
@@ -15,33 +15,33 @@ placed (w ∷ ws) [] = []
 placed (w ∷ ws) (id ∷ left) = (id, w) ∷ placed ws left
 
 -- the result of elements, and of positional words after them
-abbrev pub given : List Piece → List Text → List Text → List Entry
-given [] left ws = placed ws left
-given (Word w ∷ pieces) [] ws = given pieces [] ws
-given (Word w ∷ pieces) (id ∷ left) ws = (id, w) ∷ given pieces left ws
-given (Apart k v ∷ pieces) left ws = (k, v) ∷ given pieces left ws
-given (Joined k v ∷ pieces) left ws = (k, v) ∷ given pieces left ws
+abbrev pub entries_of : List Piece → List Text → List Text → List Entry
+entries_of [] left ws = placed ws left
+entries_of (Word w ∷ pieces) [] ws = entries_of pieces [] ws
+entries_of (Word w ∷ pieces) (id ∷ left) ws = (id, w) ∷ entries_of pieces left ws
+entries_of (Apart k v ∷ pieces) left ws = (k, v) ∷ entries_of pieces left ws
+entries_of (Joined k v ∷ pieces) left ws = (k, v) ∷ entries_of pieces left ws
 
 -- as `MayStand`, but `-` may be a separate value
-abbrev pub Stands : List Text → Piece → Type 0
-Stands names (Word w) = is_positional w ≡ true
-Stands names (Apart k v) = (is_among names k ≡ true) × (is_positional v ≡ true)
-Stands names (Joined k v) = is_among names k ≡ true
+abbrev pub MayAppearSpelled : List Text → Piece → Type 0
+MayAppearSpelled names (Word w) = is_positional w ≡ true
+MayAppearSpelled names (Apart k v) = (is_among names k ≡ true) × (is_positional v ≡ true)
+MayAppearSpelled names (Joined k v) = is_among names k ≡ true
 
-abbrev pub EachStands : List Text → List Piece → Type 0
-EachStands names [] = Unit {0}
-EachStands names (piece ∷ pieces) = Stands names piece × EachStands names pieces
+abbrev pub EachMayAppearSpelled : List Text → List Piece → Type 0
+EachMayAppearSpelled names [] = Unit {0}
+EachMayAppearSpelled names (piece ∷ pieces) = MayAppearSpelled names piece × EachMayAppearSpelled names pieces
 
 abbrev pub words_of : List Piece → Option (List Text) → List Text
-words_of pieces marked = flat_map word_in pieces ++ behind_mark marked
+words_of pieces marked = flat_map word_in pieces ++ words_after_mark marked
 
 -- words that elements spell
 pub record Spelled (names left ws : List Text) (es : List Entry) : Type 0 where
   pub pieces : List Piece
   pub marked : Option (List Text)
   pub whole : ws ≡ flat_map spelling pieces ++ mark_words marked
-  pub stand : EachStands names pieces
-  pub are : es ≡ given pieces left (behind_mark marked)
+  pub stand : EachMayAppearSpelled names pieces
+  pub are : es ≡ entries_of pieces left (words_after_mark marked)
   pub few : length (words_of pieces marked) ≤ length left
 
 -- the words after an option that waits for its value
@@ -186,8 +186,8 @@ plain_again names [] left few = refl
 plain_again names (w ∷ ws) [] few = absurd (omega arith)
 plain_again names (w ∷ ws) (id ∷ left) few = ap (and_entry (id, w)) (plain_again names ws left (omega arith))
 
-pub read_again : (names : List Text) → list_all is_name names ≡ true → (marked : Option (List Text)) (pieces : List Piece) (left : List Text) → EachStands names pieces → length (words_of pieces marked) ≤ length left
-    → read names (flat_map spelling pieces ++ mark_words marked) left reading ≡ Some (given pieces left (behind_mark marked))
+pub read_again : (names : List Text) → list_all is_name names ≡ true → (marked : Option (List Text)) (pieces : List Piece) (left : List Text) → EachMayAppearSpelled names pieces → length (words_of pieces marked) ≤ length left
+    → read names (flat_map spelling pieces ++ mark_words marked) left reading ≡ Some (entries_of pieces left (words_after_mark marked))
 read_again names fine None [] left stand few = refl
 read_again names fine (Some ws) [] left stand few = plain_again names ws left few
 read_again names fine marked (Word w ∷ pieces) [] stand few = absurd (omega arith)

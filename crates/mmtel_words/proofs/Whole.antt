@@ -4,11 +4,11 @@ use Rattle.std.specs.List.{flat_map, list_all, starts_with}
 use Rattle.std.specs.Str.{bytes_eq}
 use Rattle.clap.specs.Words.{Text, Row, first_of}
 use Rattle.clap.specs.Walk.{has_row}
-use Rattle.mmtel_words.specs.CommandLine.{Piece, Word, Apart, Joined, EachMayStand, EachOnce, EachText, Spells, spelling, is_among, is_positional, names_of, word_in, value_in, mark_words, behind_mark}
+use Rattle.mmtel_words.specs.CommandLine.{Piece, Word, Apart, Joined, EachMayAppear, EachOnce, EachText, Spells, spelling, is_among, is_positional, names_of, word_in, value_in, mark_words, words_after_mark}
 use Rattle.mmtel_words.proofs.Reader.{Entry, reading, read}
 use Rattle.mmtel_words.proofs.Auto.{rows, puts, good}
 use Rattle.mmtel_words.proofs.Forms.{equal, equal_self, same_both, is_name}
-use Rattle.mmtel_words.proofs.Spelling.{placed, given, EachStands, words_of, spelled, read_again}
+use Rattle.mmtel_words.proofs.Spelling.{placed, entries_of, EachMayAppearSpelled, words_of, spelled, read_again}
 use Rattle.mmtel_words.proofs.Once.{entries, filled, has_is, first_is, once_is, puts_all}
 
 -- ---- the values of options and of places
@@ -29,13 +29,13 @@ value_first k name v vs = ap (λ b. cond b (v ∷ vs) vs) (same_both name k) ∙
     by true = refl
     by false = refl
 
-option_values : (k : Text) (pieces : List Piece) (left ws : List Text) → is_among left k ≡ false → entries k (given pieces left ws) ≡ flat_map (value_in k) pieces
+option_values : (k : Text) (pieces : List Piece) (left ws : List Text) → is_among left k ≡ false → entries k (entries_of pieces left ws) ≡ flat_map (value_in k) pieces
 option_values k [] left ws off = no_place k ws left off
 option_values k (Word w ∷ pieces) [] ws off = option_values k pieces [] ws off
 option_values k (Word w ∷ pieces) (id ∷ left) ws off = by (bytes_eq id k) off (option_values k pieces left ws)
   where
-    by : (b : Bool) → (b || is_among left k) ≡ false → (is_among left k ≡ false → entries k (given pieces left ws) ≡ flat_map (value_in k) pieces)
-        → cond b (w ∷ entries k (given pieces left ws)) (entries k (given pieces left ws)) ≡ flat_map (value_in k) pieces
+    by : (b : Bool) → (b || is_among left k) ≡ false → (is_among left k ≡ false → entries k (entries_of pieces left ws) ≡ flat_map (value_in k) pieces)
+        → cond b (w ∷ entries k (entries_of pieces left ws)) (entries k (entries_of pieces left ws)) ≡ flat_map (value_in k) pieces
     by true off h = absurd cc
     by false off h = h off
 option_values k (Apart name v ∷ pieces) left ws off =
@@ -55,14 +55,14 @@ no_left : (ws : List Text) → placed ws [] ≡ []
 no_left [] = refl
 no_left (w ∷ ws) = refl
 
-place_values : (names : List Text) (k : Text) (pieces : List Piece) (left ws : List Text) → is_among names k ≡ false → EachStands names pieces → entries k (given pieces left ws) ≡ entries k (placed (flat_map word_in pieces ++ ws) left)
+place_values : (names : List Text) (k : Text) (pieces : List Piece) (left ws : List Text) → is_among names k ≡ false → EachMayAppearSpelled names pieces → entries k (entries_of pieces left ws) ≡ entries k (placed (flat_map word_in pieces ++ ws) left)
 place_values names k [] left ws off stand = refl
 place_values names k (Word w ∷ pieces) [] ws off stand = place_values names k pieces [] ws off stand.1 ∙ ap (entries k) (no_left (flat_map word_in pieces ++ ws))
 place_values names k (Word w ∷ pieces) (id ∷ left) ws off stand = ap (λ vs. cond (bytes_eq id k) (w ∷ vs) vs) (place_values names k pieces left ws off stand.1)
 place_values names k (Apart name v ∷ pieces) left ws off stand =
-    ap (λ b. cond b (v ∷ entries k (given pieces left ws)) (entries k (given pieces left ws))) (other_name names name k stand.0.0 off) ∙ place_values names k pieces left ws off stand.1
+    ap (λ b. cond b (v ∷ entries k (entries_of pieces left ws)) (entries k (entries_of pieces left ws))) (other_name names name k stand.0.0 off) ∙ place_values names k pieces left ws off stand.1
 place_values names k (Joined name v ∷ pieces) left ws off stand =
-    ap (λ b. cond b (v ∷ entries k (given pieces left ws)) (entries k (given pieces left ws))) (other_name names name k stand.0 off) ∙ place_values names k pieces left ws off stand.1
+    ap (λ b. cond b (v ∷ entries k (entries_of pieces left ws)) (entries k (entries_of pieces left ws))) (other_name names name k stand.0 off) ∙ place_values names k pieces left ws off stand.1
 
 -- ---- a separate value does not begin with `-`
 
@@ -81,13 +81,13 @@ all-append p (x ∷ xs) ys e = by (p x) e (all-append p xs ys)
     by true e h = h e
     by false e h = absurd cc
 
-all_stand : (names : List Text) (pieces : List Piece) → EachStands names pieces → ((k : Text) → is_among names k ≡ true → list_all is_plain (flat_map (value_in k) pieces) ≡ true) → EachMayStand names pieces
-all_stand names [] stand h = tt
-all_stand names (Word w ∷ pieces) stand h = (stand.0, all_stand names pieces stand.1 h)
-all_stand names (Apart name v ∷ pieces) stand h =
+all_may_appear : (names : List Text) (pieces : List Piece) → EachMayAppearSpelled names pieces → ((k : Text) → is_among names k ≡ true → list_all is_plain (flat_map (value_in k) pieces) ≡ true) → EachMayAppear names pieces
+all_may_appear names [] stand h = tt
+all_may_appear names (Word w ∷ pieces) stand h = (stand.0, all_may_appear names pieces stand.1 h)
+all_may_appear names (Apart name v ∷ pieces) stand h =
     let more = λ (k : Text) (among : is_among names k ≡ true). (all-append is_plain (value_in k (Apart name v)) (flat_map (value_in k) pieces) (h k among)).1 in
     let here = (all-append is_plain (value_in name (Apart name v)) (flat_map (value_in name) pieces) (h name stand.0.0)).0 in
-    ((stand.0.0, by (bytes_eq name name) (equal_self name) here), all_stand names pieces stand.1 more)
+    ((stand.0.0, by (bytes_eq name name) (equal_self name) here), all_may_appear names pieces stand.1 more)
   where
     by : (b : Bool) → b ≡ true → list_all is_plain (cond b (v ∷ []) []) ≡ true → starts_with nat_eq v (codes "-") ≡ false
     by true e p = not-true (starts_with nat_eq v (codes "-")) (one (is_plain v) p)
@@ -96,8 +96,8 @@ all_stand names (Apart name v ∷ pieces) stand h =
         one true e = refl
         one false e = e
     by false e p = absurd cc
-all_stand names (Joined name v ∷ pieces) stand h =
-    (stand.0, all_stand names pieces stand.1 (λ (k : Text) (among : is_among names k ≡ true). (all-append is_plain (value_in k (Joined name v)) (flat_map (value_in k) pieces) (h k among)).1))
+all_may_appear names (Joined name v ∷ pieces) stand h =
+    (stand.0, all_may_appear names pieces stand.1 (λ (k : Text) (among : is_among names k ≡ true). (all-append is_plain (value_in k (Joined name v)) (flat_map (value_in k) pieces) (h k among)).1))
 
 plain_place : (v : Text) → starts_with nat_eq v (codes "-") ≡ false → is_positional v ≡ true
 plain_place v e = rw e (or-true (bytes_eq v (codes "-")))
@@ -106,11 +106,11 @@ plain_place v e = rw e (or-true (bytes_eq v (codes "-")))
     or-true true = refl
     or-true false = refl
 
-all_may : (names : List Text) (pieces : List Piece) → EachMayStand names pieces → EachStands names pieces
-all_may names [] may = tt
-all_may names (Word w ∷ pieces) may = (may.0, all_may names pieces may.1)
-all_may names (Apart name v ∷ pieces) may = ((may.0.0, plain_place v may.0.1), all_may names pieces may.1)
-all_may names (Joined name v ∷ pieces) may = (may.0, all_may names pieces may.1)
+each_may_appear : (names : List Text) (pieces : List Piece) → EachMayAppear names pieces → EachMayAppearSpelled names pieces
+each_may_appear names [] may = tt
+each_may_appear names (Word w ∷ pieces) may = (may.0, each_may_appear names pieces may.1)
+each_may_appear names (Apart name v ∷ pieces) may = ((may.0.0, plain_place v may.0.1), each_may_appear names pieces may.1)
+each_may_appear names (Joined name v ∷ pieces) may = (may.0, each_may_appear names pieces may.1)
 
 -- ---- the options and places of a command
 
@@ -156,7 +156,7 @@ EachPlain (o ∷ options) = (starts_with nat_eq o.1 (codes "-") ≡ false) × Ea
 
 -- ---- what is read is spelled
 
-each_once : (keys ids : List Text) (es : List Entry) (R : List Row) (pieces : List Piece) (ws : List Text) → puts keys [] es ≡ Some R → es ≡ given pieces ids ws → (options : List (Text × Text)) → EachOff ids options → EachFirst options R → EachOnce options pieces
+each_once : (keys ids : List Text) (es : List Entry) (R : List Row) (pieces : List Piece) (ws : List Text) → puts keys [] es ≡ Some R → es ≡ entries_of pieces ids ws → (options : List (Text × Text)) → EachOff ids options → EachFirst options R → EachOnce options pieces
 each_once keys ids es R pieces ws put are [] off firsts = tt
 each_once keys ids es R pieces ws put are (o ∷ options) off firsts =
     (sym (option_values o.0 pieces ids ws off.0) ∙ ap (entries o.0) (sym are) ∙ once_is keys es R put o.0 o.1 firsts.0, each_once keys ids es R pieces ws put are options off.1 firsts.1)
@@ -169,7 +169,7 @@ each_plain (o ∷ options) pieces once plain k among = by (bytes_eq o.0 k) refl 
     by true e a h = ap (λ i. list_all is_plain (flat_map (value_in i) pieces)) (sym (equal o.0 k e)) ∙ ap (list_all is_plain) once.0 ∙ ap (λ b. not b && true) plain.0
     by false e a h = h a
 
-each_place : (keys names ids0 : List Text) (es : List Entry) (R : List Row) (pieces : List Piece) (ws : List Text) → puts keys [] es ≡ Some R → es ≡ given pieces ids0 ws → EachStands names pieces → (ids pos : List Text) → NoneAmong names ids → Firsts ids pos R
+each_place : (keys names ids0 : List Text) (es : List Entry) (R : List Row) (pieces : List Piece) (ws : List Text) → puts keys [] es ≡ Some R → es ≡ entries_of pieces ids0 ws → EachMayAppearSpelled names pieces → (ids pos : List Text) → NoneAmong names ids → Firsts ids pos R
     → At ids0 (flat_map word_in pieces ++ ws) ids pos
 each_place keys names ids0 es R pieces ws put are stand [] [] other firsts = tt
 each_place keys names ids0 es R pieces ws put are stand [] (p ∷ pos) other firsts = absurd firsts
@@ -185,14 +185,14 @@ is_spelled command options ids pos ws R n texts is firsts places plain = by (rea
     by None e is = absurd cc
     by (Some es) e is =
         let s = spelled (names_of options) ws ids es e in
-        let once = each_once (names_of options ++ ids) ids es R s.pieces (behind_mark s.marked) is s.are options n.off firsts in
+        let once = each_once (names_of options ++ ids) ids es R s.pieces (words_after_mark s.marked) is s.are options n.off firsts in
         record {
           texts = texts;
           pieces = s.pieces;
           marked = s.marked;
           whole = ap (λ l. command ∷ l) s.whole;
-          may_stand = all_stand (names_of options) s.pieces s.stand (each_plain options s.pieces once plain);
-          positionals = n.tells (words_of s.pieces s.marked) s.few (each_place (names_of options ++ ids) (names_of options) ids es R s.pieces (behind_mark s.marked) is s.are s.stand ids pos n.other places);
+          may_appear = all_may_appear (names_of options) s.pieces s.stand (each_plain options s.pieces once plain);
+          positionals = n.tells (words_of s.pieces s.marked) s.few (each_place (names_of options ++ ids) (names_of options) ids es R s.pieces (words_after_mark s.marked) is s.are s.stand ids pos n.other places);
           each_once = once;
         }
 
@@ -213,30 +213,30 @@ all-both p (x ∷ xs) ys e f = by (p x) e (λ g. all-both p xs ys g f)
     by false e h = absurd cc
 
 options_are : (ids ws : List Text) (pieces : List Piece) (options : List (Text × Text)) → EachOff ids options → EachOnce options pieces
-    → EachFirst options (rows (given pieces ids ws)) × (list_all (λ k. has_row k (rows (given pieces ids ws))) (names_of options) ≡ true)
+    → EachFirst options (rows (entries_of pieces ids ws)) × (list_all (λ k. has_row k (rows (entries_of pieces ids ws))) (names_of options) ≡ true)
 options_are ids ws pieces [] off once = (tt, refl)
 options_are ids ws pieces (o ∷ options) off once =
-    let here = one_value o.0 o.1 (given pieces ids ws) (option_values o.0 pieces ids ws off.0 ∙ once.0) in
+    let here = one_value o.0 o.1 (entries_of pieces ids ws) (option_values o.0 pieces ids ws off.0 ∙ once.0) in
     let more = options_are ids ws pieces options off.1 once.1 in
-    ((here.0, more.0), both-true (has_row o.0 (rows (given pieces ids ws))) (list_all (λ k. has_row k (rows (given pieces ids ws))) (names_of options)) here.1 more.1)
+    ((here.0, more.0), both-true (has_row o.0 (rows (entries_of pieces ids ws))) (list_all (λ k. has_row k (rows (entries_of pieces ids ws))) (names_of options)) here.1 more.1)
 
-places_are : (names ids0 ws words : List Text) (pieces : List Piece) → EachStands names pieces → flat_map word_in pieces ++ ws ≡ words → (ids pos : List Text) → NoneAmong names ids → At ids0 words ids pos
-    → Firsts ids pos (rows (given pieces ids0 ws)) × (list_all (λ k. has_row k (rows (given pieces ids0 ws))) ids ≡ true)
+places_are : (names ids0 ws words : List Text) (pieces : List Piece) → EachMayAppearSpelled names pieces → flat_map word_in pieces ++ ws ≡ words → (ids pos : List Text) → NoneAmong names ids → At ids0 words ids pos
+    → Firsts ids pos (rows (entries_of pieces ids0 ws)) × (list_all (λ k. has_row k (rows (entries_of pieces ids0 ws))) ids ≡ true)
 places_are names ids0 ws words pieces stand are [] [] other told = (tt, refl)
 places_are names ids0 ws words pieces stand are [] (p ∷ pos) other told = absurd told
 places_are names ids0 ws words pieces stand are (id ∷ ids) [] other told = absurd told
 places_are names ids0 ws words pieces stand are (id ∷ ids) (p ∷ pos) other told =
-    let here = one_value id p (given pieces ids0 ws) (place_values names id pieces ids0 ws other.0 stand ∙ ap (λ l. entries id (placed l ids0)) are ∙ told.0) in
+    let here = one_value id p (entries_of pieces ids0 ws) (place_values names id pieces ids0 ws other.0 stand ∙ ap (λ l. entries id (placed l ids0)) are ∙ told.0) in
     let more = places_are names ids0 ws words pieces stand are ids pos other.1 told.1 in
-    ((here.0, more.0), both-true (has_row id (rows (given pieces ids0 ws))) (list_all (λ k. has_row k (rows (given pieces ids0 ws))) ids) here.1 more.1)
+    ((here.0, more.0), both-true (has_row id (rows (entries_of pieces ids0 ws))) (list_all (λ k. has_row k (rows (entries_of pieces ids0 ws))) ids) here.1 more.1)
 
-at_most_one : (ids ws : List Text) (pieces : List Piece) (options : List (Text × Text)) → EachOff ids options → EachOnce options pieces → (k : Text) → is_among (names_of options) k ≡ true → length (entries k (given pieces ids ws)) ≤ 1
+at_most_one : (ids ws : List Text) (pieces : List Piece) (options : List (Text × Text)) → EachOff ids options → EachOnce options pieces → (k : Text) → is_among (names_of options) k ≡ true → length (entries k (entries_of pieces ids ws)) ≤ 1
 at_most_one ids ws pieces [] off once k among = absurd cc
 at_most_one ids ws pieces (o ∷ options) off once k among = by (bytes_eq o.0 k) refl among (at_most_one ids ws pieces options off.1 once.1 k)
   where
-    by : (b : Bool) → bytes_eq o.0 k ≡ b → (b || is_among (names_of options) k) ≡ true → (is_among (names_of options) k ≡ true → length (entries k (given pieces ids ws)) ≤ 1) → length (entries k (given pieces ids ws)) ≤ 1
+    by : (b : Bool) → bytes_eq o.0 k ≡ b → (b || is_among (names_of options) k) ≡ true → (is_among (names_of options) k ≡ true → length (entries k (entries_of pieces ids ws)) ≤ 1) → length (entries k (entries_of pieces ids ws)) ≤ 1
     by true e a h =
-        let n : length (entries k (given pieces ids ws)) ≡ 1 = ap (λ i. length (entries i (given pieces ids ws))) (sym (equal o.0 k e)) ∙ ap length (option_values o.0 pieces ids ws off.0 ∙ once.0) in
+        let n : length (entries k (entries_of pieces ids ws)) ≡ 1 = ap (λ i. length (entries i (entries_of pieces ids ws))) (sym (equal o.0 k e)) ∙ ap length (option_values o.0 pieces ids ws off.0 ∙ once.0) in
         omega arith
     by false e a h = h a
 
@@ -249,9 +249,9 @@ pub record ReadAs (options : List (Text × Text)) (ids pos ws : List Text) : Typ
 pub is_read_as : (command : Text) (options : List (Text × Text)) (ids pos ws : List Text) → Names options ids pos → Spells command pos options (command ∷ ws) → ReadAs options ids pos ws
 is_read_as command options ids pos ws n s =
     let names = names_of options in
-    let behind = behind_mark s.marked in
-    let es = given s.pieces ids behind in
-    let stand = all_may names s.pieces s.may_stand in
+    let behind = words_after_mark s.marked in
+    let es = entries_of s.pieces ids behind in
+    let stand = each_may_appear names s.pieces s.may_appear in
     let whole : ws ≡ flat_map spelling s.pieces ++ mark_words s.marked = let w = s.whole in cc in
     let count : length (words_of s.pieces s.marked) ≡ length pos = ap length s.positionals in
     let most : length pos ≤ length ids = n.many in
@@ -267,6 +267,6 @@ is_read_as command options ids pos ws n s =
       places = places_in.0;
     }
   where
-    lone : (k : Text) (b : Bool) → is_among (names_of options) k ≡ b → length (entries k (given s.pieces ids (behind_mark s.marked))) ≤ 1
-    lone k true among = at_most_one ids (behind_mark s.marked) s.pieces options n.off s.each_once k among
-    lone k false off = subst (λ l. length l ≤ 1) (sym (place_values (names_of options) k s.pieces ids (behind_mark s.marked) off (all_may (names_of options) s.pieces s.may_stand))) (n.lone k (words_of s.pieces s.marked))
+    lone : (k : Text) (b : Bool) → is_among (names_of options) k ≡ b → length (entries k (entries_of s.pieces ids (words_after_mark s.marked))) ≤ 1
+    lone k true among = at_most_one ids (words_after_mark s.marked) s.pieces options n.off s.each_once k among
+    lone k false off = subst (λ l. length l ≤ 1) (sym (place_values (names_of options) k s.pieces ids (words_after_mark s.marked) off (each_may_appear (names_of options) s.pieces s.may_appear))) (n.lone k (words_of s.pieces s.marked))

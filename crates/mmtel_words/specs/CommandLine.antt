@@ -18,7 +18,7 @@ abbrev pub is_positional : List ℕ → Bool
 is_positional word = bytes_eq word (codes "-") || not (starts_with nat_eq word (codes "-"))
 
 -- the arguments of `replay`: the names of its two files, and the token
-pub record Asked : Type 0 where
+pub record ReplayArgs : Type 0 where
   pub config : List ℕ
   pub script : List ℕ
   pub token : List ℕ
@@ -40,14 +40,14 @@ abbrev pub is_among : List (List ℕ) → List ℕ → Bool
 is_among names name = list_any (λ n. bytes_eq n name) names
 
 -- a positional word is `-` or does not begin with `-`; an option is the command's own, and a separate value does not begin with `-`
-abbrev pub MayStand : List (List ℕ) → Piece → Type 0
-MayStand names (Word word) = is_positional word ≡ true
-MayStand names (Apart name value) = (is_among names name ≡ true) × (starts_with nat_eq value (codes "-") ≡ false)
-MayStand names (Joined name value) = is_among names name ≡ true
+abbrev pub MayAppear : List (List ℕ) → Piece → Type 0
+MayAppear names (Word word) = is_positional word ≡ true
+MayAppear names (Apart name value) = (is_among names name ≡ true) × (starts_with nat_eq value (codes "-") ≡ false)
+MayAppear names (Joined name value) = is_among names name ≡ true
 
-abbrev pub EachMayStand : List (List ℕ) → List Piece → Type 0
-EachMayStand names [] = ⊤
-EachMayStand names (piece ∷ pieces) = MayStand names piece × EachMayStand names pieces
+abbrev pub EachMayAppear : List (List ℕ) → List Piece → Type 0
+EachMayAppear names [] = ⊤
+EachMayAppear names (piece ∷ pieces) = MayAppear names piece × EachMayAppear names pieces
 
 -- the positional word of an element, if it is one
 abbrev pub word_in : Piece → List (List ℕ)
@@ -76,9 +76,9 @@ abbrev pub mark_words : Option (List (List ℕ)) → List (List ℕ)
 mark_words None = []
 mark_words (Some words) = codes "--" ∷ words
 
-abbrev pub behind_mark : Option (List (List ℕ)) → List (List ℕ)
-behind_mark None = []
-behind_mark (Some words) = words
+abbrev pub words_after_mark : Option (List (List ℕ)) → List (List ℕ)
+words_after_mark None = []
+words_after_mark (Some words) = words
 
 -- each word is UTF-8 (RFC 3629)
 abbrev pub EachText : List (List ℕ) → Type 0
@@ -91,14 +91,14 @@ pub record Spells (command : List ℕ) (positional : List (List ℕ)) (options :
   pub pieces : List Piece
   pub marked : Option (List (List ℕ))
   pub whole : words ≡ command ∷ (flat_map spelling pieces ++ mark_words marked)
-  pub may_stand : EachMayStand (names_of options) pieces
-  pub positionals : flat_map word_in pieces ++ behind_mark marked ≡ positional
+  pub may_appear : EachMayAppear (names_of options) pieces
+  pub positionals : flat_map word_in pieces ++ words_after_mark marked ≡ positional
   pub each_once : EachOnce options pieces
 
 -- the commands
 pub data Command : Type 0 where
   Serve : (config token : List ℕ) → (turns : ℕ) → Command
-  Replay : (asked : Asked) → Command
+  Replay : (asked : ReplayArgs) → Command
   Check : (records : List ℕ) → Command
   Charges : (config : List ℕ) → Command
   Workload : (calls salt : ℕ) → Command

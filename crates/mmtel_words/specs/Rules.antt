@@ -12,18 +12,18 @@ abbrev pub position_arg : Text → Rule
 position_arg name = record (new_rule name) { required = true }
 
 -- a command whose words do not begin with the program's name, and that has no help option
-abbrev pub bare : Text → App
-bare name = on_top (λ s. record s { no_binary_name = true; disable_help_flag = true }) (new_app name)
+abbrev pub bare_command : Text → App
+bare_command name = on_top (λ s. record s { no_binary_name = true; disable_help_flag = true }) (new_app name)
 
 abbrev pub serve_app : App
-serve_app = with_rule (with_rule (with_rule (bare (codes "serve")) (option_arg (codes "token"))) (option_arg (codes "turns"))) (position_arg (codes "config"))
+serve_app = with_rule (with_rule (with_rule (bare_command (codes "serve")) (option_arg (codes "token"))) (option_arg (codes "turns"))) (position_arg (codes "config"))
 
 abbrev pub replay_app : App
-replay_app = with_rule (with_rule (with_rule (bare (codes "replay")) (option_arg (codes "token"))) (position_arg (codes "config"))) (position_arg (codes "script"))
+replay_app = with_rule (with_rule (with_rule (bare_command (codes "replay")) (option_arg (codes "token"))) (position_arg (codes "config"))) (position_arg (codes "script"))
 
 -- `check` and `charges`
 abbrev pub file_app : Text → App
-file_app name = with_rule (bare name) (position_arg (codes "file"))
+file_app name = with_rule (bare_command name) (position_arg (codes "file"))
 
 abbrev pub workload_app : App
-workload_app = with_rule (with_rule (bare (codes "workload")) (option_arg (codes "calls"))) (option_arg (codes "salt"))
+workload_app = with_rule (with_rule (bare_command (codes "workload")) (option_arg (codes "calls"))) (option_arg (codes "salt"))

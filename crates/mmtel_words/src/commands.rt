@@ -2,15 +2,15 @@
 ghost use Rattle.std.specs.Prelude.{◌≡◌, ◌∷◌, ℕ, IfOk, IfSome, List, Some, codes, false, map};
 ghost use Rattle.clap.specs.Words.{app_of, rule_of};
 ghost use Rattle.mmtel_words.specs.CommandLine.{Command as Spelled, EachText, IsCommand};
-ghost use Rattle.mmtel_words.specs.Commands.{command_given};
-ghost use Rattle.mmtel_words.specs.Rules.{bare, file_app, option_arg, position_arg, replay_app, serve_app, workload_app};
-ghost use Rattle.mmtel_words.specs.Reads.{AreTexts, IsOneFile, Tells};
+ghost use Rattle.mmtel_words.specs.Commands.{command_if_any};
+ghost use Rattle.mmtel_words.specs.Rules.{bare_command, file_app, option_arg, position_arg, replay_app, serve_app, workload_app};
+ghost use Rattle.mmtel_words.specs.Reads.{AreTexts, IsOneFile, ReadsCommand};
 
-use crate::refused::Refused;
-use crate::values::{found, number, small_number, text, token};
-use crate::wanted::{Replay, Serve, Wanted};
+use crate::faults::WordsFault;
+use crate::values::{find_matches, number, small_number, text, token};
+use crate::wanted_commands::{Replay, Serve, WantedCommand};
 use clap::{Arg, Command};
-use mmtel_scan::{NoMemory, Text};
+use mmtel_base::{NoMemory, Text};
 use std::alloc::{AllocError, Global};
 
 /// The greatest number of turns.
@@ -23,8 +23,8 @@ const CALLS: u32 = 10_000;
 const SALT: u32 = 4_294_967_295;
 
 /// A command whose words do not begin with the program's name, and that has no help option.
-fn bare<'a>(alloc: Global, name: &'a str) -> Command<'a>
-    ensures { app_of result ≡ bare name.entry.now }
+fn bare_command<'a>(alloc: Global, name: &'a str) -> Command<'a>
+    ensures { app_of result ≡ bare_command name.entry.now }
 {
     Command::new(alloc, name)
         .no_binary_name(true)
@@ -51,7 +51,7 @@ fn positional<'a>(alloc: Global, name: &'a str) -> Arg<'a>
 fn serve_command<'a>(alloc: Global) -> Result<Command<'a>, AllocError>
     ensures { IfOk result (λ c. app_of c ≡ serve_app) }
 {
-    bare(alloc, "serve")
+    bare_command(alloc, "serve")
         .arg(option(alloc, "token"))?
         .arg(option(alloc, "turns"))?
         .arg(positional(alloc, "config"))
@@ -61,7 +61,7 @@ fn serve_command<'a>(alloc: Global) -> Result<Command<'a>, AllocError>
 fn replay_command<'a>(alloc: Global) -> Result<Command<'a>, AllocError>
     ensures { IfOk result (λ c. app_of c ≡ replay_app) }
 {
-    bare(alloc, "replay")
+    bare_command(alloc, "replay")
         .arg(option(alloc, "token"))?
         .arg(positional(alloc, "config"))?
         .arg(positional(alloc, "script"))
@@ -71,31 +71,31 @@ fn replay_command<'a>(alloc: Global) -> Result<Command<'a>, AllocError>
 fn file_command<'a>(alloc: Global, name: &'a str) -> Result<Command<'a>, AllocError>
     ensures { IfOk result (λ c. app_of c ≡ file_app name.entry.now) }
 {
-    bare(alloc, name).arg(positional(alloc, "file"))
+    bare_command(alloc, name).arg(positional(alloc, "file"))
 }
 
 /// `workload --calls N --salt S`.
 fn workload_command<'a>(alloc: Global) -> Result<Command<'a>, AllocError>
     ensures { IfOk result (λ c. app_of c ≡ workload_app) }
 {
-    bare(alloc, "workload")
+    bare_command(alloc, "workload")
         .arg(option(alloc, "calls"))?
         .arg(option(alloc, "salt"))
 }
 
 /// What the words after `serve` request.
-fn read_serve<'a>(alloc: Global, words: &'a [&'a str]) -> Result<Wanted, Refused>
+fn read_serve<'a>(alloc: Global, words: &'a [&'a str]) -> Result<WantedCommand, WordsFault>
     requires { EachText (codes "serve" ∷ map (λ w. w.now) words.now) }
-    ensures { Tells (codes "serve" ∷ map (λ w. w.now) words.entry.now) result }
+    ensures { ReadsCommand (codes "serve" ∷ map (λ w. w.now) words.entry.now) result }
 {
     let Ok(command) = serve_command(alloc) else {
-        return Err(Refused::NoMemory);
+        return Err(WordsFault::NoMemory);
     };
-    let matches = found(command, words)?;
+    let matches = find_matches(command, words)?;
     let token = token(alloc, &matches, "token")?;
     let turns = number(&matches, "turns", 1, TURNS)?;
     let config = text(alloc, &matches, "config")?;
-    Ok(Wanted::Serve(Serve {
+    Ok(WantedCommand::Serve(Serve {
         config,
         token,
         turns,
@@ -103,18 +103,18 @@ fn read_serve<'a>(alloc: Global, words: &'a [&'a str]) -> Result<Wanted, Refused
 }
 
 /// What the words after `replay` request.
-fn read_replay<'a>(alloc: Global, words: &'a [&'a str]) -> Result<Wanted, Refused>
+fn read_replay<'a>(alloc: Global, words: &'a [&'a str]) -> Result<WantedCommand, WordsFault>
     requires { EachText (codes "replay" ∷ map (λ w. w.now) words.now) }
-    ensures { Tells (codes "replay" ∷ map (λ w. w.now) words.entry.now) result }
+    ensures { ReadsCommand (codes "replay" ∷ map (λ w. w.now) words.entry.now) result }
 {
     let Ok(command) = replay_command(alloc) else {
-        return Err(Refused::NoMemory);
+        return Err(WordsFault::NoMemory);
     };
-    let matches = found(command, words)?;
+    let matches = find_matches(command, words)?;
     let token = token(alloc, &matches, "token")?;
     let config = text(alloc, &matches, "config")?;
     let script = text(alloc, &matches, "script")?;
-    Ok(Wanted::Replay(Replay {
+    Ok(WantedCommand::Replay(Replay {
         config,
         script,
         token,
@@ -122,53 +122,57 @@ fn read_replay<'a>(alloc: Global, words: &'a [&'a str]) -> Result<Wanted, Refuse
 }
 
 /// The one word after `check` or `charges`.
-fn read_file<'a>(alloc: Global, name: &'a str, words: &'a [&'a str]) -> Result<Text, Refused>
+fn read_file<'a>(alloc: Global, name: &'a str, words: &'a [&'a str]) -> Result<Text, WordsFault>
     requires { EachText (name.now ∷ map (λ w. w.now) words.now) }
     ensures { IsOneFile name.entry.now (map (λ w. w.now) words.entry.now) result }
 {
     let Ok(command) = file_command(alloc, name) else {
-        return Err(Refused::NoMemory);
+        return Err(WordsFault::NoMemory);
     };
-    let matches = found(command, words)?;
+    let matches = find_matches(command, words)?;
     text(alloc, &matches, "file")
 }
 
 /// What the words after `workload` request.
-fn read_workload<'a>(alloc: Global, words: &'a [&'a str]) -> Result<Wanted, Refused>
+fn read_workload<'a>(alloc: Global, words: &'a [&'a str]) -> Result<WantedCommand, WordsFault>
     requires { EachText (codes "workload" ∷ map (λ w. w.now) words.now) }
-    ensures { Tells (codes "workload" ∷ map (λ w. w.now) words.entry.now) result }
+    ensures { ReadsCommand (codes "workload" ∷ map (λ w. w.now) words.entry.now) result }
 {
     let Ok(command) = workload_command(alloc) else {
-        return Err(Refused::NoMemory);
+        return Err(WordsFault::NoMemory);
     };
-    let matches = found(command, words)?;
+    let matches = find_matches(command, words)?;
     let calls = small_number(&matches, "calls", 1, CALLS)?;
     let salt = small_number(&matches, "salt", 0, SALT)?;
-    Ok(Wanted::Workload { calls, salt })
+    Ok(WantedCommand::Workload { calls, salt })
 }
 
 /// What the words after `check` request.
-fn read_check<'a>(alloc: Global, words: &'a [&'a str]) -> Result<Wanted, Refused>
+fn read_check<'a>(alloc: Global, words: &'a [&'a str]) -> Result<WantedCommand, WordsFault>
     requires { EachText (codes "check" ∷ map (λ w. w.now) words.now) }
-    ensures { Tells (codes "check" ∷ map (λ w. w.now) words.entry.now) result }
+    ensures { ReadsCommand (codes "check" ∷ map (λ w. w.now) words.entry.now) result }
 {
     let records = read_file(alloc, "check", words)?;
-    Ok(Wanted::Check(records))
+    Ok(WantedCommand::Check(records))
 }
 
 /// What the words after `charges` request.
-fn read_charges<'a>(alloc: Global, words: &'a [&'a str]) -> Result<Wanted, Refused>
+fn read_charges<'a>(alloc: Global, words: &'a [&'a str]) -> Result<WantedCommand, WordsFault>
     requires { EachText (codes "charges" ∷ map (λ w. w.now) words.now) }
-    ensures { Tells (codes "charges" ∷ map (λ w. w.now) words.entry.now) result }
+    ensures { ReadsCommand (codes "charges" ∷ map (λ w. w.now) words.entry.now) result }
 {
     let config = read_file(alloc, "charges", words)?;
-    Ok(Wanted::Charges(config))
+    Ok(WantedCommand::Charges(config))
 }
 
 /// The command that this first word and the words after it are.
-fn read_rest<'a>(alloc: Global, name: &str, words: &'a [&'a str]) -> Result<Wanted, Refused>
+fn read_rest<'a>(
+    alloc: Global,
+    name: &str,
+    words: &'a [&'a str],
+) -> Result<WantedCommand, WordsFault>
     requires { EachText (name.now ∷ map (λ w. w.now) words.now) }
-    ensures { Tells (name.now ∷ map (λ w. w.now) words.entry.now) result }
+    ensures { ReadsCommand (name.now ∷ map (λ w. w.now) words.entry.now) result }
 {
     if name == "serve" {
         read_serve(alloc, words)
@@ -181,34 +185,34 @@ fn read_rest<'a>(alloc: Global, name: &str, words: &'a [&'a str]) -> Result<Want
     } else if name == "workload" {
         read_workload(alloc, words)
     } else {
-        Err(Refused::Words)
+        Err(WordsFault::Words)
     }
 }
 
 /// The words as texts of characters.
-fn texts_of<'a>(alloc: Global, words: &'a [Text]) -> Result<Vec<&'a str>, Refused>
+fn texts_of<'a>(alloc: Global, words: &'a [Text]) -> Result<Vec<&'a str>, WordsFault>
     ensures { AreTexts words.now result }
 {
     let mut texts = Vec::new(alloc);
     for word in words {
         let Ok(text) = str::from_utf8(word.bytes()) else {
-            return Err(Refused::Words);
+            return Err(WordsFault::Words);
         };
         if texts.push(text).is_err() {
-            return Err(Refused::NoMemory);
+            return Err(WordsFault::NoMemory);
         }
     }
     Ok(texts)
 }
 
 /// The command of the words, the command's name first.
-fn read_words(alloc: Global, words: &[Text]) -> Result<Wanted, Refused>
-    ensures { Tells words.now result }
+fn read_words(alloc: Global, words: &[Text]) -> Result<WantedCommand, WordsFault>
+    ensures { ReadsCommand words.now result }
 {
     let texts = texts_of(alloc, words)?;
     match texts.as_slice() {
         [name, rest @ ..] => read_rest(alloc, name, rest),
-        [] => Err(Refused::Words),
+        [] => Err(WordsFault::Words),
     }
 }
 
@@ -222,14 +226,14 @@ fn read_words(alloc: Global, words: &[Text]) -> Result<Wanted, Refused>
 /// # Errors
 ///
 /// Out of memory only.
-pub fn command(alloc: Global, words: &[Text]) -> Result<Option<Wanted>, NoMemory>
-    ensures spelled { IfOk result (λ given. IfSome (command_given given) (λ wanted. IsCommand wanted words.now)) }
-    ensures only { IfOk result (λ given. (wanted : Spelled) → IsCommand wanted words.now → command_given given ≡ Some wanted) }
+pub fn command(alloc: Global, words: &[Text]) -> Result<Option<WantedCommand>, NoMemory>
+    ensures spelled { IfOk result (λ given. IfSome (command_if_any given) (λ wanted. IsCommand wanted words.now)) }
+    ensures only { IfOk result (λ given. (wanted : Spelled) → IsCommand wanted words.now → command_if_any given ≡ Some wanted) }
 {
     match read_words(alloc, words) {
-        Ok(wanted) => Ok(Some(wanted)),
-        Err(Refused::Words) => Ok(None),
-        Err(Refused::NoMemory) => Err(NoMemory),
+        Ok(read_command) => Ok(Some(read_command)),
+        Err(WordsFault::Words) => Ok(None),
+        Err(WordsFault::NoMemory) => Err(NoMemory),
     }
 }
 

@@ -2,9 +2,9 @@
 #![tactic(auto)]
 
 mod commands;
-mod refused;
+mod faults;
 mod values;
-mod wanted;
+mod wanted_commands;
 
 pub use commands::{command, one_command_at_most};
-pub use wanted::{Replay, Serve, Wanted};
+pub use wanted_commands::{Replay, Serve, WantedCommand};

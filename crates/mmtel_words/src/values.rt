@@ -3,12 +3,12 @@ ghost use Rattle.std.specs.Prelude.{◌≡◌, map, true, option_map};
 ghost use Rattle.std.specs.List.{list_all};
 ghost use Rattle.clap.specs.Words.{app_of, is_simple_and_free};
 ghost use Rattle.mmtel_words.specs.CommandLine.{is_hex, is_token};
-ghost use Rattle.mmtel_words.specs.Reads.{FoundIn, IsNumber, IsText, IsToken, value_of};
+ghost use Rattle.mmtel_words.specs.Reads.{IsNumber, IsText, IsToken, MatchesIn, value_of};
 
-use crate::refused::Refused;
+use crate::faults::WordsFault;
 use clap::error::ErrorKind;
 use clap::{ArgMatches, Command};
-use mmtel_scan::{Text, plain_number};
+use mmtel_base::{Text, plain_number};
 use std::alloc::Global;
 
 /// Whether a byte is a lower-case hexadecimal digit.
@@ -33,17 +33,20 @@ fn is_token(word: &[u8]) -> bool
 }
 
 /// The arguments that a command finds in the words after its name.
-pub fn found<'a>(command: Command<'a>, words: &'a [&'a str]) -> Result<ArgMatches<'a>, Refused>
+pub fn find_matches<'a>(
+    command: Command<'a>,
+    words: &'a [&'a str],
+) -> Result<ArgMatches<'a>, WordsFault>
     requires { is_simple_and_free (app_of command) ≡ true }
-    ensures { FoundIn (app_of command.entry) (map (λ w. w.now) words.entry.now) result }
+    ensures { MatchesIn (app_of command.entry) (map (λ w. w.now) words.entry.now) result }
 {
     match command.try_get_matches_from(words) {
         Ok(matches) => Ok(matches),
         Err(e) => {
             if e.kind() == ErrorKind::OutOfMemory {
-                Err(Refused::NoMemory)
+                Err(WordsFault::NoMemory)
             } else {
-                Err(Refused::Words)
+                Err(WordsFault::Words)
             }
         }
     }
@@ -57,7 +60,7 @@ fn value<'a>(matches: &ArgMatches<'a>, name: &str) -> Option<&'a str>
 }
 
 /// The text of that name.
-pub fn text(alloc: Global, matches: &ArgMatches<'_>, name: &str) -> Result<Text, Refused>
+pub fn text(alloc: Global, matches: &ArgMatches<'_>, name: &str) -> Result<Text, WordsFault>
     ensures { IsText (value_of matches.now name.now) result }
 {
     match value(matches, name) {
@@ -65,32 +68,37 @@ pub fn text(alloc: Global, matches: &ArgMatches<'_>, name: &str) -> Result<Text,
             let text = Text::of(alloc, value.as_bytes())?;
             Ok(text)
         }
-        None => Err(Refused::Words),
+        None => Err(WordsFault::Words),
     }
 }
 
 /// The token of that name.
-pub fn token(alloc: Global, matches: &ArgMatches<'_>, name: &str) -> Result<Text, Refused>
+pub fn token(alloc: Global, matches: &ArgMatches<'_>, name: &str) -> Result<Text, WordsFault>
     ensures { IsToken (value_of matches.now name.now) result }
 {
     let token = text(alloc, matches, name)?;
     if is_token(token.bytes()) {
         Ok(token)
     } else {
-        Err(Refused::Words)
+        Err(WordsFault::Words)
     }
 }
 
 /// The number of that name, within these limits.
-pub fn number(matches: &ArgMatches<'_>, name: &str, least: u64, most: u64) -> Result<u64, Refused>
+pub fn number(
+    matches: &ArgMatches<'_>,
+    name: &str,
+    least: u64,
+    most: u64,
+) -> Result<u64, WordsFault>
     ensures { IsNumber (value_of matches.now name.now) least most result }
 {
     match value(matches, name) {
         Some(value) => match plain_number(most, value.as_bytes()) {
             Some(number) if number >= least => Ok(number),
-            _ => Err(Refused::Words),
+            _ => Err(WordsFault::Words),
         },
-        None => Err(Refused::Words),
+        None => Err(WordsFault::Words),
     }
 }
 
@@ -100,7 +108,7 @@ pub fn small_number(
     name: &str,
     least: u32,
     most: u32,
-) -> Result<u32, Refused>
+) -> Result<u32, WordsFault>
     ensures { IsNumber (value_of matches.now name.now) least most result }
 {
     let number = number(matches, name, u64::from(least), u64::from(most))?;

@@ -1,9 +1,9 @@
 -- Which calls a workload makes: the kind of each by its number and a salt, the actions in it, and how many numbers the server draws for it.
 use Rattle.std.specs.Prelude.{ℕ, zero, suc, ◌+◌, ◌*◌, ◌/◌, ◌%◌, ◌^◌, ◌==◌, if◌then◌else◌, List, [], ◌∷◌}
-use Rattle.mmtel_workload.specs.declared.kinds.Act.{Act}
-use Rattle.mmtel_workload.specs.declared.kinds.Act.TheVariants as act
+use Rattle.mmtel_workload.specs.declared.kinds.CallMessage.{CallMessage}
+use Rattle.mmtel_workload.specs.declared.kinds.CallMessage.TheVariants as act
 use Rattle.mmtel_workload.specs.declared.kinds.Kind.{Kind}
-use Rattle.mmtel_workload.specs.declared.kinds.Kind.TheVariants.{Answered, Diverted, Busy, GivenUp}
+use Rattle.mmtel_workload.specs.declared.kinds.Kind.TheVariants.{Answered, Diverted, Busy, Cancelled}
 
 -- the value of the rule after another
 abbrev pub next_value : ℕ → ℕ
@@ -20,21 +20,21 @@ kind_by value =
     if value / 65536 % 4 == 0 then Answered
     else if value / 65536 % 4 == 1 then Diverted
     else if value / 65536 % 4 == 2 then Busy
-    else GivenUp
+    else Cancelled
 
 -- the actions in a call of this kind, in order, each so many milliseconds after its beginning
-abbrev pub acts_of : Kind → List (ℕ × Act)
-acts_of Answered = (0, act.Invite) ∷ (100, act.Ring) ∷ (200, act.Answer) ∷ (300, act.Confirm) ∷ (400, act.Bye) ∷ (500, act.Ended) ∷ []
-acts_of Diverted = (0, act.Invite) ∷ (100, act.Ring) ∷ (200, act.Answer) ∷ (300, act.Confirm) ∷ (400, act.Bye) ∷ (500, act.Ended) ∷ []
-acts_of Busy = (0, act.Invite) ∷ (100, act.Busy) ∷ (200, act.Accept) ∷ []
-acts_of GivenUp = (0, act.Invite) ∷ (100, act.Ring) ∷ (200, act.Cancel) ∷ (300, act.Stopped) ∷ (300, act.Terminated) ∷ (300, act.Accept) ∷ []
+abbrev pub messages_of : Kind → List (ℕ × CallMessage)
+messages_of Answered = (0, act.Invite) ∷ (100, act.Ringing) ∷ (200, act.OkToInvite) ∷ (300, act.AckOfOk) ∷ (400, act.Bye) ∷ (500, act.OkToBye) ∷ []
+messages_of Diverted = (0, act.Invite) ∷ (100, act.Ringing) ∷ (200, act.OkToInvite) ∷ (300, act.AckOfOk) ∷ (400, act.Bye) ∷ (500, act.OkToBye) ∷ []
+messages_of Busy = (0, act.Invite) ∷ (100, act.BusyHere) ∷ (200, act.AckOfRefusal) ∷ []
+messages_of Cancelled = (0, act.Invite) ∷ (100, act.Ringing) ∷ (200, act.Cancel) ∷ (300, act.OkToCancel) ∷ (300, act.RequestTerminated) ∷ (300, act.AckOfRefusal) ∷ []
 
 -- how many numbers for identifiers the server draws in it: for its own tag, and the Call-ID, tag and branch of its INVITE; and for the branches of an ACK and a BYE
 abbrev pub drawn_in : Kind → ℕ
 drawn_in Answered = 6
 drawn_in Diverted = 6
 drawn_in Busy = 4
-drawn_in GivenUp = 4
+drawn_in Cancelled = 4
 
 -- and how many in the first so many calls
 abbrev pub drawn_before : (salt calls : ℕ) → ℕ

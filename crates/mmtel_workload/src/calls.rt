@@ -1,10 +1,10 @@
 //! The messages of a call, as the parties send them.
 ghost use Rattle.std.specs.Prelude.{◌≡◌, ◌<◌, ◌^◌, ◌++◌, decimal, IfOk, OnOk};
-ghost use Rattle.mmtel_workload.specs.Messages.{asked_lines, call_lines, callee, drawn_text, from_lines, heard_text, reached, reached_lines};
+ghost use Rattle.mmtel_workload.specs.Messages.{call_lines, callee, from_lines, identifier_text, message_text, reached_party, to_and_call_id_lines, via_and_from_lines};
 ghost use Rattle.mmtel_workload.specs.Messages.{request_text, request_uri, response_text, to_line};
 
-use crate::kinds::{Act, Kind};
-use mmtel_scan::{NoMemory, Text, add_number};
+use crate::kinds::{CallMessage, Kind};
+use mmtel_base::{NoMemory, Text, add_number};
 use std::alloc::Global;
 
 /// A call of a workload.
@@ -20,13 +20,13 @@ pub struct Call {
 
 /// The Request-URI and To of a request: in the call's dialog (RFC 3261 §12) or outside it, and there with or without the tag of the other side.
 #[derive(Clone, Copy, Debug, PartialEq, Eq)]
-pub enum Way {
+pub enum RequestScope {
     /// To the callee, outside a dialog.
-    Opening,
+    Initial,
     /// To the callee, with the tag of the response.
-    Tagged,
+    WithToTag,
     /// To the server, in the dialog.
-    Dialog,
+    InDialog,
 }
 
 /// Adds a text and a number after it.
@@ -44,32 +44,32 @@ impl Call {
     {
         match self.kind {
             Kind::Diverted => b"sip:carol@home.example",
-            Kind::Answered | Kind::Busy | Kind::GivenUp => b"sip:bob@home.example",
+            Kind::Answered | Kind::Busy | Kind::Cancelled => b"sip:bob@home.example",
         }
     }
 
     /// The user that she reaches.
-    fn reached(self) -> &'static [u8]
-        ensures reached { result.now ≡ reached self.kind }
+    fn reached_party(self) -> &'static [u8]
+        ensures reached { result.now ≡ reached_party self.kind }
     {
         match self.kind {
             Kind::Diverted => b"sip:vm@far.example",
-            Kind::Answered | Kind::Busy | Kind::GivenUp => b"sip:bob@home.example",
+            Kind::Answered | Kind::Busy | Kind::Cancelled => b"sip:bob@home.example",
         }
     }
 
     /// The Request-URI of a request.
-    fn request_uri(self, way: Way) -> &'static [u8]
-        ensures uri { result.now ≡ request_uri self way }
+    fn request_uri(self, scope: RequestScope) -> &'static [u8]
+        ensures uri { result.now ≡ request_uri self scope }
     {
-        match way {
-            Way::Dialog => b"sip:127.0.0.1:5060",
-            Way::Opening | Way::Tagged => self.callee(),
+        match scope {
+            RequestScope::InDialog => b"sip:127.0.0.1:5060",
+            RequestScope::Initial | RequestScope::WithToTag => self.callee(),
         }
     }
 
     /// Adds a text and the identifier of the call of that number, from 1, as the server draws it.
-    fn add_drawn(
+    fn add_identifier(
         self,
         alloc: Global,
         text: &mut Text,
@@ -77,7 +77,7 @@ impl Call {
         number: u8,
     ) -> Result<(), NoMemory>
         requires few { self.drawn < 2 ^ 63 }
-        ensures added { OnOk result (text.new ≡ text.old ++ front.now ++ drawn_text self number) }
+        ensures added { OnOk result (text.new ≡ text.old ++ front.now ++ identifier_text self number) }
     {
         text.push(alloc, front)?;
         let number = self.drawn + u64::from(number);
@@ -97,16 +97,16 @@ impl Call {
     }
 
     /// Adds To of a request.
-    fn add_to(self, alloc: Global, text: &mut Text, way: Way) -> Result<(), NoMemory>
+    fn add_to(self, alloc: Global, text: &mut Text, scope: RequestScope) -> Result<(), NoMemory>
         requires few { self.drawn < 2 ^ 63 }
-        ensures added { OnOk result (text.new ≡ text.old ++ to_line self way) }
+        ensures added { OnOk result (text.new ≡ text.old ++ to_line self scope) }
     {
         text.push(alloc, b"To: <")?;
         text.push(alloc, self.callee())?;
-        match way {
-            Way::Opening => text.push(alloc, b">\r\n"),
-            Way::Tagged | Way::Dialog => {
-                self.add_drawn(alloc, text, b">;tag=", 1)?;
+        match scope {
+            RequestScope::Initial => text.push(alloc, b">\r\n"),
+            RequestScope::WithToTag | RequestScope::InDialog => {
+                self.add_identifier(alloc, text, b">;tag=", 1)?;
                 text.push(alloc, b"\r\n")
             }
         }
@@ -136,18 +136,18 @@ impl Call {
         method: &[u8],
         letter: &[u8],
         sequence: u8,
-        way: Way,
+        scope: RequestScope,
         more: &[u8],
     ) -> Result<Text, NoMemory>
         requires few { self.drawn < 2 ^ 63 }
-        ensures text { IfOk result (λ text. text ≡ request_text self method.now letter.now sequence way more.now) }
+        ensures text { IfOk result (λ text. text ≡ request_text self method.now letter.now sequence scope more.now) }
     {
         let mut text = Text::of(alloc, method)?;
         text.push(alloc, b" ")?;
-        text.push(alloc, self.request_uri(way))?;
+        text.push(alloc, self.request_uri(scope))?;
         text.push(alloc, b" SIP/2.0\r\n")?;
         self.add_from(alloc, &mut text, letter)?;
-        self.add_to(alloc, &mut text, way)?;
+        self.add_to(alloc, &mut text, scope)?;
         self.add_call(alloc, &mut text, method, sequence)?;
         text.push(alloc, more)?;
         text.push(alloc, b"Content-Length: 0\r\n\r\n")?;
@@ -155,25 +155,25 @@ impl Call {
     }
 
     /// Adds Via and From of a response: those of the request that the server sends.
-    fn add_asked(self, alloc: Global, text: &mut Text, branch: u8) -> Result<(), NoMemory>
+    fn add_via_and_from(self, alloc: Global, text: &mut Text, branch: u8) -> Result<(), NoMemory>
         requires few { self.drawn < 2 ^ 63 }
-        ensures added { OnOk result (text.new ≡ text.old ++ asked_lines self branch) }
+        ensures added { OnOk result (text.new ≡ text.old ++ via_and_from_lines self branch) }
     {
         let via = b"Via: SIP/2.0/UDP 127.0.0.1:5060;branch=z9hG4bK";
-        self.add_drawn(alloc, text, via, branch)?;
-        self.add_drawn(alloc, text, b"\r\nFrom: <sip:alice@home.example>;tag=", 3)?;
+        self.add_identifier(alloc, text, via, branch)?;
+        self.add_identifier(alloc, text, b"\r\nFrom: <sip:alice@home.example>;tag=", 3)?;
         text.push(alloc, b"\r\n")
     }
 
     /// Adds To and Call-ID of a response.
-    fn add_reached(self, alloc: Global, text: &mut Text) -> Result<(), NoMemory>
+    fn add_to_and_call_id(self, alloc: Global, text: &mut Text) -> Result<(), NoMemory>
         requires few { self.drawn < 2 ^ 63 }
-        ensures added { OnOk result (text.new ≡ text.old ++ reached_lines self) }
+        ensures added { OnOk result (text.new ≡ text.old ++ to_and_call_id_lines self) }
     {
         text.push(alloc, b"To: <")?;
-        text.push(alloc, self.reached())?;
+        text.push(alloc, self.reached_party())?;
         add_numbered(alloc, text, b">;tag=b", u64::from(self.number))?;
-        self.add_drawn(alloc, text, b"\r\nCall-ID: ", 2)?;
+        self.add_identifier(alloc, text, b"\r\nCall-ID: ", 2)?;
         text.push(alloc, b"\r\n")
     }
 
@@ -191,8 +191,8 @@ impl Call {
         let mut text = Text::of(alloc, b"SIP/2.0 ")?;
         text.push(alloc, status)?;
         text.push(alloc, b"\r\n")?;
-        self.add_asked(alloc, &mut text, branch)?;
-        self.add_reached(alloc, &mut text)?;
+        self.add_via_and_from(alloc, &mut text, branch)?;
+        self.add_to_and_call_id(alloc, &mut text)?;
         text.push(alloc, b"CSeq: ")?;
         text.push(alloc, sequence)?;
         text.push(
@@ -203,26 +203,52 @@ impl Call {
     }
 
     /// The message of an action, which the server receives.
-    pub fn heard(self, alloc: Global, act: Act) -> Result<Text, NoMemory>
+    pub fn message_text(self, alloc: Global, message: CallMessage) -> Result<Text, NoMemory>
         requires few { self.drawn < 2 ^ 63 }
-        ensures text { IfOk result (λ text. text ≡ heard_text self act) }
+        ensures text { IfOk result (λ text. text ≡ message_text self message) }
     {
-        match act {
-            Act::Invite => {
+        match message {
+            CallMessage::Invite => {
                 let more =
                     b"Contact: <sip:alice@127.0.0.1:5071>\r\nP-Asserted-Identity: <sip:alice@home.example>\r\n";
-                self.request(alloc, b"INVITE", b"i", 1, Way::Opening, more)
+                self.request(alloc, b"INVITE", b"i", 1, RequestScope::Initial, more)
             }
-            Act::Confirm => self.request(alloc, b"ACK", b"k", 1, Way::Dialog, b""),
-            Act::Bye => self.request(alloc, b"BYE", b"y", 2, Way::Dialog, b""),
-            Act::Accept => self.request(alloc, b"ACK", b"i", 1, Way::Tagged, b""),
-            Act::Cancel => self.request(alloc, b"CANCEL", b"i", 1, Way::Opening, b""),
-            Act::Ring => self.response(alloc, b"180 Ringing", 4, b"1 INVITE"),
-            Act::Answer => self.response(alloc, b"200 OK", 4, b"1 INVITE"),
-            Act::Busy => self.response(alloc, b"486 Busy Here", 4, b"1 INVITE"),
-            Act::Terminated => self.response(alloc, b"487 Request Terminated", 4, b"1 INVITE"),
-            Act::Stopped => self.response(alloc, b"200 OK", 4, b"1 CANCEL"),
-            Act::Ended => self.response(alloc, b"200 OK", 6, b"2 BYE"),
+            CallMessage::AckOfOk => self.request(
+                alloc,
+                b"ACK",
+                b"k",
+                1,
+                RequestScope::InDialog,
+                b"",
+            ),
+            CallMessage::Bye => self.request(alloc, b"BYE", b"y", 2, RequestScope::InDialog, b""),
+            CallMessage::AckOfRefusal => self.request(
+                alloc,
+                b"ACK",
+                b"i",
+                1,
+                RequestScope::WithToTag,
+                b"",
+            ),
+            CallMessage::Cancel => self.request(
+                alloc,
+                b"CANCEL",
+                b"i",
+                1,
+                RequestScope::Initial,
+                b"",
+            ),
+            CallMessage::Ringing => self.response(alloc, b"180 Ringing", 4, b"1 INVITE"),
+            CallMessage::OkToInvite => self.response(alloc, b"200 OK", 4, b"1 INVITE"),
+            CallMessage::BusyHere => self.response(alloc, b"486 Busy Here", 4, b"1 INVITE"),
+            CallMessage::RequestTerminated => self.response(
+                alloc,
+                b"487 Request Terminated",
+                4,
+                b"1 INVITE",
+            ),
+            CallMessage::OkToCancel => self.response(alloc, b"200 OK", 4, b"1 CANCEL"),
+            CallMessage::OkToBye => self.response(alloc, b"200 OK", 6, b"2 BYE"),
         }
     }
 }

@@ -1,9 +1,9 @@
 //! The keeper of a workload.
 ghost use Rattle.std.specs.Prelude.{◌≡◌, [], None, Some};
 
+use mmtel_base::{List, Text};
 use mmtel_charging::Row;
 use mmtel_keeper::{KeepFault, Keeper, MemoryKeeper};
-use mmtel_scan::{List, Text};
 use mmtel_types::Account;
 use std::alloc::Global;
 use std::marker::Model;
@@ -16,11 +16,11 @@ pub struct WorkKeeper {
 
 impl Model for WorkKeeper {
     ghost use Rattle.std.specs.Prelude.{◌≡◌, []};
-    ghost use Rattle.mmtel_keeper.specs.Kept.{Held};
+    ghost use Rattle.mmtel_keeper.specs.Contents.{KeeperContents};
 
-    ghost Value = { Held };
+    ghost Value = { KeeperContents };
 
-    ghost view = { λ work. work.keeper.held };
+    ghost view = { λ work. work.keeper.contents };
 
     ghost invariant = { λ work. work.keeper.calls.failing ≡ [] };
 }
@@ -37,7 +37,7 @@ impl WorkKeeper {
 }
 
 impl Keeper for WorkKeeper {
-    ghost held = { λ work. Some work };
+    ghost contents = { λ work. Some work };
 
     ghost calls = { λ _. None };
 

@@ -1,6 +1,6 @@
 //! Which calls are made, and the actions in each of them.
 ghost use Rattle.std.specs.Prelude.{◌≡◌, ◌≤◌};
-ghost use Rattle.mmtel_workload.specs.Kinds.{acts_of, drawn_in, kind_by, next_value};
+ghost use Rattle.mmtel_workload.specs.Kinds.{drawn_in, kind_by, messages_of, next_value};
 
 /// The kind of a call.
 #[derive(Clone, Copy, Debug, PartialEq, Eq)]
@@ -12,57 +12,61 @@ pub enum Kind {
     /// Bob is busy.
     Busy,
     /// Alice abandons the call while bob's phone rings.
-    GivenUp,
+    Cancelled,
 }
 
 /// An action of a party.
 #[derive(Clone, Copy, Debug, PartialEq, Eq)]
-pub enum Act {
+pub enum CallMessage {
     /// Alice's INVITE.
     Invite,
     /// 180 of the party that she reaches.
-    Ring,
+    Ringing,
     /// 200 to the INVITE.
-    Answer,
+    OkToInvite,
     /// Her ACK of the 200.
-    Confirm,
+    AckOfOk,
     /// Her BYE.
     Bye,
     /// 200 to the BYE.
-    Ended,
+    OkToBye,
     /// 486 to the INVITE.
-    Busy,
+    BusyHere,
     /// Her ACK of a refusal.
-    Accept,
+    AckOfRefusal,
     /// Her CANCEL.
     Cancel,
     /// 200 to the CANCEL.
-    Stopped,
+    OkToCancel,
     /// 487 to the INVITE.
-    Terminated,
+    RequestTerminated,
 }
 
 /// A call that is answered.
-const ANSWERED: &[(u16, Act)] = &[
-    (0, Act::Invite),
-    (100, Act::Ring),
-    (200, Act::Answer),
-    (300, Act::Confirm),
-    (400, Act::Bye),
-    (500, Act::Ended),
+const ANSWERED: &[(u16, CallMessage)] = &[
+    (0, CallMessage::Invite),
+    (100, CallMessage::Ringing),
+    (200, CallMessage::OkToInvite),
+    (300, CallMessage::AckOfOk),
+    (400, CallMessage::Bye),
+    (500, CallMessage::OkToBye),
 ];
 
 /// A call to one who is busy.
-const BUSY: &[(u16, Act)] = &[(0, Act::Invite), (100, Act::Busy), (200, Act::Accept)];
+const BUSY: &[(u16, CallMessage)] = &[
+    (0, CallMessage::Invite),
+    (100, CallMessage::BusyHere),
+    (200, CallMessage::AckOfRefusal),
+];
 
 /// A call that is abandoned.
-const GIVEN_UP: &[(u16, Act)] = &[
-    (0, Act::Invite),
-    (100, Act::Ring),
-    (200, Act::Cancel),
-    (300, Act::Stopped),
-    (300, Act::Terminated),
-    (300, Act::Accept),
+const CANCELLED: &[(u16, CallMessage)] = &[
+    (0, CallMessage::Invite),
+    (100, CallMessage::Ringing),
+    (200, CallMessage::Cancel),
+    (300, CallMessage::OkToCancel),
+    (300, CallMessage::RequestTerminated),
+    (300, CallMessage::AckOfRefusal),
 ];
 
 impl Kind {
@@ -74,18 +78,18 @@ impl Kind {
             0 => Kind::Answered,
             1 => Kind::Diverted,
             2 => Kind::Busy,
-            _ => Kind::GivenUp,
+            _ => Kind::Cancelled,
         }
     }
 
     /// The actions in such a call, each so many milliseconds after its beginning.
-    pub fn acts(self) -> &'static [(u16, Act)]
-        ensures acts { result.now ≡ acts_of self }
+    pub fn messages(self) -> &'static [(u16, CallMessage)]
+        ensures acts { result.now ≡ messages_of self }
     {
         match self {
             Kind::Answered | Kind::Diverted => ANSWERED,
             Kind::Busy => BUSY,
-            Kind::GivenUp => GIVEN_UP,
+            Kind::Cancelled => CANCELLED,
         }
     }
 
@@ -96,7 +100,7 @@ impl Kind {
     {
         match self {
             Kind::Answered | Kind::Diverted => 6,
-            Kind::Busy | Kind::GivenUp => 4,
+            Kind::Busy | Kind::Cancelled => 4,
         }
     }
 }

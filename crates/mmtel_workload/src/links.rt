@@ -1,19 +1,19 @@
 //! The calls of a workload as a link.
 ghost use Rattle.std.specs.Prelude.{◌≡◌, ◌<◌, ◌^◌, ◌++◌, None, Some, IfOk, OnOk, length};
-ghost use Rattle.mmtel_script.specs.Script.{unheard};
-ghost use Rattle.mmtel_workload.specs.Events.{answers_from, event_of, events_of, heard_from, work_events};
+ghost use Rattle.mmtel_script.specs.Script.{initial_input};
+ghost use Rattle.mmtel_workload.specs.Events.{event_of, events_of, responses_from, source_of, work_events};
 
 use crate::calls::Call;
-use crate::kinds::{Act, Kind, next_value};
+use crate::kinds::{CallMessage, Kind, next_value};
+use mmtel_base::{List, NoMemory};
+use mmtel_environment::Event;
 use mmtel_link::{Arrival, Link, MemoryLink, SendFault};
-use mmtel_outside::Event;
-use mmtel_scan::{List, NoMemory};
 use mmtel_types::{Addr, Failed, Moment};
 use std::alloc::Global;
 use std::marker::Model;
 
 /// The time from the beginning of a call to that of the next, in milliseconds.
-const APART: u64 = 10_000;
+const CALL_INTERVAL: u64 = 10_000;
 
 /// The address of the core, from which alice's requests come.
 const CORE: Addr = Addr {
@@ -28,35 +28,43 @@ const FAR: Addr = Addr {
 };
 
 /// Where the responses in a call of this kind come from.
-fn answers_from(kind: Kind) -> Addr
-    ensures addr { result ≡ answers_from kind }
+fn responses_from(kind: Kind) -> Addr
+    ensures addr { result ≡ responses_from kind }
 {
     match kind {
         Kind::Diverted => FAR,
-        Kind::Answered | Kind::Busy | Kind::GivenUp => CORE,
+        Kind::Answered | Kind::Busy | Kind::Cancelled => CORE,
     }
 }
 
 /// Where the message of an action comes from.
-fn heard_from(kind: Kind, act: Act) -> Addr
-    ensures addr { result ≡ heard_from kind act }
+fn source_of(kind: Kind, message: CallMessage) -> Addr
+    ensures addr { result ≡ source_of kind message }
 {
-    match act {
-        Act::Invite | Act::Confirm | Act::Bye | Act::Accept | Act::Cancel => CORE,
-        Act::Ring | Act::Answer | Act::Ended | Act::Busy | Act::Stopped | Act::Terminated =>
-            answers_from(kind),
+    match message {
+        CallMessage::Invite
+        | CallMessage::AckOfOk
+        | CallMessage::Bye
+        | CallMessage::AckOfRefusal
+        | CallMessage::Cancel => CORE,
+        CallMessage::Ringing
+        | CallMessage::OkToInvite
+        | CallMessage::OkToBye
+        | CallMessage::BusyHere
+        | CallMessage::OkToCancel
+        | CallMessage::RequestTerminated => responses_from(kind),
     }
 }
 
 /// The input for an action, so many milliseconds after the beginning of its call.
-fn event_of(alloc: Global, call: Call, after: u16, act: Act) -> Result<Event, NoMemory>
+fn event_of(alloc: Global, call: Call, delay: u16, message: CallMessage) -> Result<Event, NoMemory>
     requires few { call.drawn < 2 ^ 63 }
-    ensures event { IfOk result (λ event. event ≡ event_of call (after, act)) }
+    ensures event { IfOk result (λ event. event ≡ event_of call (delay, message)) }
 {
-    match Moment::new(u64::from(call.number) * APART + u64::from(after)) {
+    match Moment::new(u64::from(call.number) * CALL_INTERVAL + u64::from(delay)) {
         Some(at) => {
-            let bytes = call.heard(alloc, act)?;
-            let from = heard_from(call.kind, act);
+            let bytes = call.message_text(alloc, message)?;
+            let from = source_of(call.kind, message);
             Ok(Event::Datagram { from, at, bytes })
         }
         None => unreachable!(),
@@ -68,7 +76,7 @@ fn add_call(alloc: Global, events: &mut List<Event>, call: Call) -> Result<(), N
     requires few { call.drawn < 2 ^ 63 }
     ensures added { OnOk result (events.new ≡ events.old ++ events_of call) }
 {
-    for (after, act) in call.kind.acts() {
+    for (after, act) in call.kind.messages() {
         let event = event_of(alloc, call, *after, *act)?;
         events.push(alloc, event)?;
     }
@@ -107,11 +115,11 @@ pub struct WorkLink {
 
 impl Model for WorkLink {
     ghost use Rattle.std.specs.Prelude.{◌≡◌, []};
-    ghost use Rattle.mmtel_link.specs.Told.{Ear};
+    ghost use Rattle.mmtel_link.specs.LinkStates.{LinkInput};
 
-    ghost Value = { Ear };
+    ghost Value = { LinkInput };
 
-    ghost view = { λ work. work.link.ear };
+    ghost view = { λ work. work.link.input };
 
     ghost invariant = { λ work. work.link.calls.failing ≡ [] };
 }
@@ -123,7 +131,7 @@ impl WorkLink {
     ///
     /// Out of memory only.
     pub fn new(alloc: Global, calls: u32, salt: u32) -> Result<WorkLink, NoMemory>
-        ensures unheard { IfOk result (λ work. work ≡ unheard (work_events calls salt)) }
+        ensures unheard { IfOk result (λ work. work ≡ initial_input (work_events calls salt)) }
     {
         let events = events_by(alloc, calls, salt)?;
         Ok(WorkLink {
@@ -147,15 +155,15 @@ impl WorkLink {
 }
 
 impl Link for WorkLink {
-    ghost ear = { λ work. Some work };
+    ghost input = { λ work. Some work };
 
     ghost given = { λ _. None };
 
     ghost calls = { λ _. None };
 
-    ghost taking = { λ _. 0 };
+    ghost arrival_faults = { λ _. 0 };
 
-    ghost giving = { λ _. 0 };
+    ghost delivery_faults = { λ _. 0 };
 
     fn bind(&mut self, _sip: Addr, _web: Addr) -> Result<(), Failed> {
         Ok(())

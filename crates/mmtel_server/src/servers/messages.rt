@@ -1,30 +1,33 @@
 //! The processing of messages.
 ghost use Rattle.std.specs.Prelude.{◌≡◌, None, OnErr, OnOk, Some, false, true};
-ghost use Rattle.mmtel_answers.specs.Said.{said};
-ghost use Rattle.mmtel_intake.specs.Courses.{answer_in, course_in};
-ghost use Rattle.mmtel_intake.specs.Told.{digest_in};
+ghost use Rattle.mmtel_compose.specs.ReceivedMessages.{message_view};
+ghost use Rattle.mmtel_admission.specs.Dispositions.{disposition_in, response_in};
+ghost use Rattle.mmtel_admission.specs.ParsedDatagrams.{parsed_event_in};
 ghost use Rattle.mmtel_message.specs.Message.{Message};
 ghost use Rattle.mmtel_message.specs.declared.messages.Start.{Start};
-ghost use Rattle.mmtel_run.specs.Audio.{is_for_room};
-ghost use Rattle.mmtel_run.specs.Calls.{are_full};
-ghost use Rattle.mmtel_run.specs.Records.{until_of};
-ghost use Rattle.mmtel_run.specs.Refusals.{Open};
-ghost use Rattle.mmtel_run.specs.World.{answering, met, refusing, registered, repeating, replying, replying_plainly, taking, taking_fresh, told};
+ghost use Rattle.mmtel_run_definitions.specs.Audio.{is_for_conference};
+ghost use Rattle.mmtel_run_definitions.specs.Calls.{are_full};
+ghost use Rattle.mmtel_run_definitions.specs.Records.{until_of};
+ghost use Rattle.mmtel_run_definitions.specs.Refusals.{OpenCall};
+ghost use Rattle.mmtel_run_definitions.specs.Transitions.{after_classified_message, after_disposition, after_message, after_new_request, after_parsed_event, after_register, with_refusal_of_bytes, with_response, with_retransmission, with_stateless_response};
 ghost use Rattle.mmtel_sdp.specs.Offers.{offers_audio};
-ghost use Rattle.mmtel_server.specs.Follows.{Breaks, Follows, IsTaken};
+ghost use Rattle.mmtel_server.specs.Follows.{AddsOfferPrefix, Follows, IsMessageOf};
 
-use crate::laws::numbers_are_drawn_on;
-use crate::servers::deeds::drawn_tag;
-use crate::servers::rooms::RoomSeat;
+use crate::servers::conferences::ConferenceParticipant;
+use crate::servers::operations::draw_tag;
 use crate::servers::{Context, Server};
-use mmtel_answers::Hearing;
+use crate::theorems::numbers_never_fall;
+use mmtel_admission::{
+    Disposition, ParsedDatagram, RequestContext, StatusResponse, completed_reply, disposition,
+    plain_response, response_to,
+};
 use mmtel_b2bua::Signal;
-use mmtel_intake::{Answer, Course, Standing, Told, completed_reply, course, plainly, response_to};
+use mmtel_base::{List, NoMemory, Text};
+use mmtel_compose::ReceivedMessage;
+use mmtel_environment::Offer;
 use mmtel_message::Msg;
-use mmtel_outside::Offer;
-use mmtel_scan::{List, NoMemory, Text};
 use mmtel_timers::Steps;
-use mmtel_transaction::laws::numbers_are_distinct;
+use mmtel_transaction::theorems::numbers_are_distinct;
 use mmtel_transaction::{HearFault, Heard, TKey};
 use mmtel_types::limits::LAST_MOMENT;
 use mmtel_types::{Account, Addr, Moment, Peer};
@@ -44,18 +47,18 @@ pub(super) fn until(now: Moment, seconds: u64) -> Moment
 
 /// The source of a received message.
 #[derive(Clone, Copy)]
-struct Whence {
+struct MessageSource {
     peer: Peer,
     source: Addr,
     trusted: bool,
 }
 
-impl Whence {
+impl MessageSource {
     /// A message that was received from there.
-    fn hearing(self, message: Msg) -> Hearing
-        ensures { result ≡ said self.peer self.source self.trusted message }
+    fn received_message(self, message: Msg) -> ReceivedMessage
+        ensures { result ≡ message_view self.peer self.source self.trusted message }
     {
-        Hearing {
+        ReceivedMessage {
             peer: self.peer,
             source: self.source,
             trusted: self.trusted,
@@ -67,64 +70,64 @@ impl Whence {
 /// Responses of the server's own.
 impl Server {
     /// Sends a response to a request in its transaction, with a tag of the server where To has none (RFC 3261 §8.2.6).
-    pub(super) fn replying<L: Ledger>(
+    pub(super) fn respond<L: Ledger>(
         &mut self,
         context: &Context,
         key: TKey,
-        request: &Hearing,
-        answer: &Answer,
+        request: &ReceivedMessage,
+        status_response: &StatusResponse,
         out: &mut List<Offer>,
         steps: &mut Steps<L>,
     ) -> Result<(), NoMemory>
         ensures done { OnOk result (Follows self.old out.old self.new out.new
-            (λ d token. replying d token context.now.at key request.now (answer_in answer.now))) }
+            (λ d token. with_response d token context.now.at key request.now (response_in status_response.now))) }
         ensures err { OnErr result (out.new ≡ out.old) }
     {
-        let tag = drawn_tag(context.alloc, &mut self.tokens, &request.message)?;
+        let tag = draw_tag(context.alloc, &mut self.tokens, &request.message)?;
         let made = response_to(
             context.alloc,
             self.directory.sip,
             tag.bytes(),
             request,
-            answer,
+            status_response,
         );
         drop(tag);
         let response = made?;
-        let done = self.reply(context, key, &response, out, steps);
+        let done = self.send_response(context, key, &response, out, steps);
         drop(response);
         done
     }
 
     /// Sends a response to a request without a transaction, with a tag of the server where To has none (RFC 3261 §8.2.7).
-    fn replying_plainly(
+    fn respond_statelessly(
         &mut self,
         context: &Context,
-        request: &Hearing,
-        answer: &Answer,
+        request: &ReceivedMessage,
+        status_response: &StatusResponse,
         out: &mut List<Offer>,
     ) -> Result<(), NoMemory>
         ensures done { OnOk result (Follows self.old out.old self.new out.new
-            (λ d token. replying_plainly d token context.now.at request.now (answer_in answer.now))) }
+            (λ d token. with_stateless_response d token context.now.at request.now (response_in status_response.now))) }
         ensures err { OnErr result (out.new ≡ out.old) }
     {
-        let tag = drawn_tag(context.alloc, &mut self.tokens, &request.message)?;
+        let tag = draw_tag(context.alloc, &mut self.tokens, &request.message)?;
         let made = response_to(
             context.alloc,
             self.directory.sip,
             tag.bytes(),
             request,
-            answer,
+            status_response,
         );
         drop(tag);
         let response = made?;
         let written = response.text(context.alloc);
         drop(response);
         let text = written?;
-        self.send(context, request.peer, text.bytes(), out)
+        self.send_text(context, request.peer, text.bytes(), out)
     }
 
     /// Replies to bytes of a peer that were refused as they were read.
-    fn refusing(
+    fn respond_to_unreadable(
         &mut self,
         context: &Context,
         peer: Peer,
@@ -133,17 +136,17 @@ impl Server {
         out: &mut List<Offer>,
     ) -> Result<(), NoMemory>
         ensures done { OnOk result (Follows self.old out.old self.new out.new
-            (λ d token. refusing token context.now.at peer source reply.now)) }
+            (λ d token. with_refusal_of_bytes token context.now.at peer source reply.now)) }
         ensures err { OnErr result (out.new ≡ out.old) }
     {
-        let tag = drawn_tag(context.alloc, &mut self.tokens, reply)?;
+        let tag = draw_tag(context.alloc, &mut self.tokens, reply)?;
         let made = completed_reply(context.alloc, tag.bytes(), source, reply);
         drop(tag);
         let response = made?;
         let written = response.text(context.alloc);
         drop(response);
         let text = written?;
-        self.send(context, peer, text.bytes(), out)
+        self.send_text(context, peer, text.bytes(), out)
     }
 }
 
@@ -154,81 +157,81 @@ impl Server {
         &mut self,
         context: &Context,
         key: TKey,
-        request: &Hearing,
+        request: &ReceivedMessage,
         account: Account,
         seconds: u64,
         out: &mut List<Offer>,
         steps: &mut Steps<L>,
     ) -> Result<(), NoMemory>
         ensures done { OnOk result (Follows self.old out.old self.new out.new
-            (λ d token. registered d token context.now.at key request.now account seconds)) }
+            (λ d token. after_register d token context.now.at key request.now account seconds)) }
         ensures err { OnErr result (out.new ≡ out.old) }
     {
         self.records.register(account, until(context.at, seconds))?;
-        self.replying(context, key, request, &plainly(200), out, steps)
+        self.respond(context, key, request, &plain_response(200), out, steps)
     }
 
     /// Executes the disposition of a request; a call is opened only where fewer live than may, and a conference is opened or joined only by an INVITE that offers audio.
-    fn take<L: Ledger>(
+    fn perform_disposition<L: Ledger>(
         &mut self,
         context: &Context,
         key: TKey,
-        request: Hearing,
-        course: Course,
+        request: ReceivedMessage,
+        disposition: Disposition,
         out: &mut List<Offer>,
         steps: &mut Steps<L>,
     ) -> Result<(), NoMemory>
-        requires below { course_in course ≡ Open → are_full self.old.calls.table.entries ≡ false }
-        requires audio { is_for_room (course_in course) ≡ true → offers_audio request.heard.body ≡ true }
+        requires below { disposition_in disposition ≡ OpenCall → are_full self.old.calls.table.entries ≡ false }
+        requires audio { is_for_conference (disposition_in disposition) ≡ true → offers_audio request.parsed.body ≡ true }
         ensures done { OnOk result (Follows self.old out.old self.new out.new
-            (λ d token. taking d token context.now.at key request (course_in course))) }
-        ensures err { OnErr result (Breaks self.old out.old out.new
-            (λ d token. taking d token context.now.at key request (course_in course))) }
+            (λ d token. after_disposition d token context.now.at key request (disposition_in disposition))) }
+        ensures err { OnErr result (AddsOfferPrefix self.old out.old out.new
+            (λ d token. after_disposition d token context.now.at key request (disposition_in disposition))) }
     {
-        numbers_are_drawn_on();
-        match course {
-            Course::Refuse(answer) => {
-                let done = self.replying(context, key, &request, &answer, out, steps);
+        numbers_never_fall();
+        match disposition {
+            Disposition::Respond(answer) => {
+                let done = self.respond(context, key, &request, &answer, out, steps);
                 drop(answer);
                 drop(request);
                 done
             }
-            Course::Enter { call, side } => {
+            Disposition::Enter { call, side } => {
                 let signal = Signal::Request {
                     call,
                     side,
                     key,
                     request,
                 };
-                self.signal(context, signal, out, steps)
+                self.signal_calls(context, signal, out, steps)
             }
-            Course::EnterRoom { room, seat } => {
-                let seat = RoomSeat { room, number: seat };
-                self.enter_room(context, key, request, seat, out, steps)
+            Disposition::EnterConference { room, seat } => {
+                let seat = ConferenceParticipant { room, number: seat };
+                self.enter_conference(context, key, request, seat, out, steps)
             }
-            Course::Open => self.open(context, key, request, out, steps),
-            Course::OpenRoom => {
-                let done = self.open_room(context, key, &request, out, steps);
+            Disposition::OpenCall => self.open_call(context, key, request, out, steps),
+            Disposition::OpenConference => {
+                let done = self.open_conference(context, key, &request, out, steps);
                 drop(request);
                 done
             }
-            Course::JoinRoom { room } => {
-                let done = self.join_room(context, key, &request, room, out, steps);
+            Disposition::JoinConference { room } => {
+                let done = self.join_conference(context, key, &request, room, out, steps);
                 drop(request);
                 done
             }
-            Course::Register { account, seconds } => {
+            Disposition::Register { account, seconds } => {
                 let done = self.register(context, key, &request, account, seconds, out, steps);
                 drop(request);
                 done
             }
-            Course::Subscribe => {
+            Disposition::Subscribe => {
                 let done = self.subscribe(context, key, &request, out, steps);
                 drop(request);
                 done
             }
-            Course::EnterBox(sub) => {
-                let done = self.enter_box(context, key, &request, sub, out, steps);
+            Disposition::EnterSubscription(sub) => {
+                let done = self.enter_subscription(context, key, &request, sub, out, steps);
                 drop(request);
                 done
             }
@@ -236,139 +239,157 @@ impl Server {
     }
 
     /// Processes a request that opened a transaction.
-    fn take_fresh<L: Ledger>(
+    fn receive_new_request<L: Ledger>(
         &mut self,
         context: &Context,
         key: TKey,
-        request: Hearing,
+        request: ReceivedMessage,
         out: &mut List<Offer>,
         steps: &mut Steps<L>,
     ) -> Result<(), NoMemory>
         ensures done { OnOk result (Follows self.old out.old self.new out.new
-            (λ d token. taking_fresh d token context.now.at key request)) }
-        ensures err { OnErr result (Breaks self.old out.old out.new
-            (λ d token. taking_fresh d token context.now.at key request)) }
+            (λ d token. after_new_request d token context.now.at key request)) }
+        ensures err { OnErr result (AddsOfferPrefix self.old out.old out.new
+            (λ d token. after_new_request d token context.now.at key request)) }
     {
-        numbers_are_drawn_on();
-        let merged = self.transactions.merged(key, steps);
-        let full = self.calls.is_full();
-        let named = match self.named(context.alloc, &request) {
-            Ok(named) => named,
+        numbers_never_fall();
+        let is_merged = self.transactions.merged(key, steps);
+        let is_full = self.calls.is_full();
+        let owner = match self.owner_of_message(context.alloc, &request) {
+            Ok(owner) => owner,
             Err(error) => {
                 drop(request);
                 return Err(error);
             }
         };
-        let standing = Standing {
-            merged,
-            full,
-            named,
+        let request_context = RequestContext {
+            is_merged,
+            is_full,
+            owner,
         };
-        let course = match course(context.alloc, &self.directory, &standing, &request) {
-            Ok(course) => course,
+        let chosen = match disposition(context.alloc, &self.directory, &request_context, &request) {
+            Ok(chosen) => chosen,
             Err(error) => {
                 drop(request);
                 return Err(error);
             }
         };
-        self.take(context, key, request, course, out, steps)
+        self.perform_disposition(context, key, request, chosen, out, steps)
     }
 }
 
 /// The processing of any message of a peer.
 impl Server {
     /// Sends the retransmission that is due for a retransmitted message.
-    fn repeat(
+    fn retransmit(
         &mut self,
         context: &Context,
         sent: Option<(Peer, Text)>,
         out: &mut List<Offer>,
     ) -> Result<(), NoMemory>
         ensures done { OnOk result (Follows self.old out.old self.new out.new
-            (λ d token. repeating context.now.at sent)) }
+            (λ d token. with_retransmission context.now.at sent)) }
         ensures err { OnErr result (out.new ≡ out.old) }
     {
         match sent {
             None => Ok(()),
-            Some((peer, text)) => self.send(context, peer, text.bytes(), out),
+            Some((peer, text)) => self.send_text(context, peer, text.bytes(), out),
         }
     }
 
     /// Processes a message of a peer, by how the transactions classify it.
-    fn answer<L: Ledger>(
+    fn receive_by_transaction<L: Ledger>(
         &mut self,
         context: &Context,
-        whence: Whence,
-        taken: Heard,
+        message_source: MessageSource,
+        heard: Heard,
         out: &mut List<Offer>,
         steps: &mut Steps<L>,
     ) -> Result<(), NoMemory>
-        ensures done { OnOk result ((message : Message Start) → IsTaken message taken →
+        ensures done { OnOk result ((message : Message Start) → IsMessageOf message heard →
             Follows self.old out.old self.new out.new
-            (λ d token. answering d token context.now.at (said whence.peer whence.source whence.trusted message)
-            (Some taken))) }
-        ensures err { OnErr result ((message : Message Start) → IsTaken message taken →
-            Breaks self.old out.old out.new
-            (λ d token. answering d token context.now.at (said whence.peer whence.source whence.trusted message)
-            (Some taken))) }
+            (λ d token. after_classified_message d token context.now.at (message_view message_source.peer message_source.source message_source.trusted message)
+            (Some heard))) }
+        ensures err { OnErr result ((message : Message Start) → IsMessageOf message heard →
+            AddsOfferPrefix self.old out.old out.new
+            (λ d token. after_classified_message d token context.now.at (message_view message_source.peer message_source.source message_source.trusted message)
+            (Some heard))) }
     {
-        numbers_are_drawn_on();
-        match taken {
-            Heard::Fresh(key, message) => self.take_fresh(
+        numbers_never_fall();
+        match heard {
+            Heard::Fresh(key, message) => self.receive_new_request(
                 context,
                 key,
-                whence.hearing(message),
+                message_source.received_message(message),
                 out,
                 steps,
             ),
             Heard::Answer(key, message) => {
-                self.hear_answer(context, key, whence.hearing(message), out, steps)
+                self.receive_response(
+                    context,
+                    key,
+                    message_source.received_message(message),
+                    out,
+                    steps,
+                )
             }
-            Heard::Repeat(sent) => self.repeat(context, sent, out),
+            Heard::Repeat(sent) => self.retransmit(context, sent, out),
             Heard::Acked(_) => Ok(()),
             Heard::Cancel(key, invite, message) => {
-                self.hear_cancel(context, key, invite, whence.hearing(message), out, steps)
+                self.receive_cancel(
+                    context,
+                    key,
+                    invite,
+                    message_source.received_message(message),
+                    out,
+                    steps,
+                )
             }
-            Heard::AckOf2xx(message) => self.hear_ack(context, whence.hearing(message), out, steps),
+            Heard::AckOf2xx(message) => self.receive_ack(
+                context,
+                message_source.received_message(message),
+                out,
+                steps,
+            ),
             Heard::Stray => Ok(()),
         }
     }
 
     /// Responds to a message beyond the capacity (RFC 3261 §21.5.4).
-    fn turn_away(
+    fn respond_too_many(
         &mut self,
         context: &Context,
-        request: &Hearing,
+        request: &ReceivedMessage,
         out: &mut List<Offer>,
     ) -> Result<(), NoMemory>
         ensures done { OnOk result (Follows self.old out.old self.new out.new
-            (λ d token. answering d token context.now.at request.now None)) }
+            (λ d token. after_classified_message d token context.now.at request.now None)) }
         ensures err { OnErr result (out.new ≡ out.old) }
     {
-        self.replying_plainly(context, request, &plainly(503), out)
+        self.respond_statelessly(context, request, &plain_response(503), out)
     }
 
     /// Processes a received message of a peer.
-    fn hear<L: Ledger>(
+    fn receive_message<L: Ledger>(
         &mut self,
         context: &Context,
-        heard: Hearing,
+        received: ReceivedMessage,
         out: &mut List<Offer>,
         steps: &mut Steps<L>,
     ) -> Result<(), NoMemory>
         ensures done { OnOk result (Follows self.old out.old self.new out.new
-            (λ d token. told d token context.now.at heard)) }
-        ensures err { OnErr result (Breaks self.old out.old out.new (λ d token. told d token context.now.at heard)) }
+            (λ d token. after_message d token context.now.at received)) }
+        ensures err { OnErr result (AddsOfferPrefix self.old out.old out.new (λ d token. after_message d token context.now.at received)) }
     {
         numbers_are_distinct();
-        numbers_are_drawn_on();
-        let Hearing {
+        numbers_never_fall();
+        let ReceivedMessage {
             peer,
             source,
             trusted,
             message,
-        } = heard;
-        let whence = Whence {
+        } = received;
+        let message_source = MessageSource {
             peer,
             source,
             trusted,
@@ -377,10 +398,16 @@ impl Server {
             .transactions
             .hear(context.alloc, peer, message, context.at, steps)
         {
-            Ok(taken) => self.answer(context, whence, taken, out, steps),
+            Ok(heard_by_transactions) => self.receive_by_transaction(
+                context,
+                message_source,
+                heard_by_transactions,
+                out,
+                steps,
+            ),
             Err(HearFault::Full(message)) => {
-                let request = whence.hearing(message);
-                let done = self.turn_away(context, &request, out);
+                let request = message_source.received_message(message);
+                let done = self.respond_too_many(context, &request, out);
                 drop(request);
                 done
             }
@@ -393,32 +420,32 @@ impl Server {
     /// # Errors
     ///
     /// Out of memory only: a prefix of its outputs has then been added, and the server has failed.
-    pub(crate) fn meet<L: Ledger>(
+    pub(crate) fn receive_parsed<L: Ledger>(
         &mut self,
         alloc: Global,
-        told: Told,
+        parsed: ParsedDatagram,
         at: Moment,
         out: &mut List<Offer>,
         steps: &mut Steps<L>,
     ) -> Result<(), NoMemory>
         ensures done { OnOk result (Follows self.old out.old self.new out.new
-            (λ d token. met d token at (digest_in told))) }
-        ensures err { OnErr result (Breaks self.old out.old out.new (λ d token. met d token at (digest_in told))) }
+            (λ d token. after_parsed_event d token at (parsed_event_in parsed))) }
+        ensures err { OnErr result (AddsOfferPrefix self.old out.old out.new (λ d token. after_parsed_event d token at (parsed_event_in parsed))) }
     {
-        numbers_are_drawn_on();
+        numbers_never_fall();
         let context = Context { alloc, at };
-        match told {
-            Told::Nothing => Ok(()),
-            Told::Refused {
+        match parsed {
+            ParsedDatagram::Nothing => Ok(()),
+            ParsedDatagram::Refused {
                 peer,
                 source,
                 reply,
             } => {
-                let done = self.refusing(&context, peer, source, &reply, out);
+                let done = self.respond_to_unreadable(&context, peer, source, &reply, out);
                 drop(reply);
                 done
             }
-            Told::Heard(heard) => self.hear(&context, heard, out, steps),
+            ParsedDatagram::Received(heard) => self.receive_message(&context, heard, out, steps),
         }
     }
 }

@@ -1,28 +1,28 @@
 //! A request of a participant; a REFER with Replaces that was accepted moves the other leg of a call into the conference in the place of a dialog (RFC 3891 §3, RFC 4579 §5.6).
 ghost use Rattle.std.specs.Prelude.{◌≡◌, ◌<◌, ℕ, List, Err, IfOk, None, OnErr, OnOk, Some, codes, false, if◌then◌else◌, true};
-ghost use Rattle.mmtel_b2bua.specs.Lending.{entry_of, is_away, leg_out, takes_back};
+ghost use Rattle.mmtel_b2bua.specs.Detaching.{can_restore, entry_of, has_detached_leg, released_leg_of};
 ghost use Rattle.mmtel_directory.specs.declared.directories.Directory.{Directory};
 ghost use Rattle.mmtel_focus.specs.Referrals.{referral_in};
 ghost use Rattle.mmtel_focus.specs.Table.{access};
 ghost use Rattle.mmtel_leg.specs.Releases.{released_leg};
 ghost use Rattle.mmtel_message.specs.Faults.{is_method};
-ghost use Rattle.mmtel_run.specs.Rooms.{account_at, account_of_side, is_accepted, replaces_by, side_replaced};
-ghost use Rattle.mmtel_run.specs.World.{World, adopting, calls_in, entering_room, replaced, replaced_by, replacing};
-ghost use Rattle.mmtel_run.specs.World.{rooms_in, taken_out};
-ghost use Rattle.mmtel_server.specs.Follows.{Breaks, Follows};
-ghost use Rattle.mmtel_server.specs.Stands.{Stands};
+ghost use Rattle.mmtel_run_definitions.specs.Ownership.{account_at, account_of_side, is_accepted, replaced_side, replaces_by};
+ghost use Rattle.mmtel_run_definitions.specs.Transitions.{RunState, after_adoption_if, after_participant_request, after_replaces, after_replacing, after_replacing_named, calls_in};
+ghost use Rattle.mmtel_run_definitions.specs.Transitions.{after_detach, conferences_in};
+ghost use Rattle.mmtel_server.specs.Follows.{AddsOfferPrefix, Follows};
+ghost use Rattle.mmtel_server.specs.Representation.{Represents};
 
-use super::rooms::RoomSeat;
+use super::conferences::ConferenceParticipant;
 use super::{Context, Server};
-use crate::laws::numbers_are_drawn_on;
-use mmtel_answers::{Hearing, status_of};
+use crate::theorems::numbers_never_fall;
+use mmtel_base::{List, NoMemory};
 use mmtel_call::NotTalking;
+use mmtel_compose::{ReceivedMessage, status_of};
+use mmtel_environment::Offer;
 use mmtel_focus::{Joining, Referral, Replaces, RoomSignal, referral_of};
 use mmtel_leg::Released;
 use mmtel_message::is_method;
-use mmtel_outside::Offer;
-use mmtel_scan::{List, NoMemory};
-use mmtel_server_decisions::is_with;
+use mmtel_server_timers::is_of_peer;
 use mmtel_timers::Steps;
 use mmtel_transaction::{Emit, TKey};
 use mmtel_types::{Account, CallNo, Peer, Side};
@@ -40,21 +40,24 @@ fn is_accepted(emits: &[Emit]) -> bool
 }
 
 /// The requested replacement, where it was accepted.
-fn where_accepted(asked: Option<Replaces>, emits: &[Emit]) -> Option<Replaces>
-    ensures { result ≡ if is_accepted emits.now then asked else None }
+fn if_accepted(replaces: Option<Replaces>, emits: &[Emit]) -> Option<Replaces>
+    ensures { result ≡ if is_accepted emits.now then replaces else None }
 {
     if is_accepted(emits) {
-        asked
+        replaces
     } else {
-        drop(asked);
+        drop(replaces);
         None
     }
 }
 
 /// The dialog that a request asks to replace, where it is a REFER with Replaces (RFC 3891 §3).
-fn replaces_asked(alloc: Global, request: &Hearing) -> Result<Option<Replaces>, NoMemory>
-    ensures { IfOk result (λ asked. asked ≡ if is_method (codes "REFER") request.now.heard.start
-        then replaces_by (referral_in request.now.heard.refer_to) else None) }
+fn requested_replaces(
+    alloc: Global,
+    request: &ReceivedMessage,
+) -> Result<Option<Replaces>, NoMemory>
+    ensures { IfOk result (λ asked. asked ≡ if is_method (codes "REFER") request.now.parsed.start
+        then replaces_by (referral_in request.now.parsed.refer_to) else None) }
 {
     if !is_method(b"REFER", request.message.start()) {
         return Ok(None);
@@ -87,53 +90,53 @@ impl Server {
     /// # Errors
     ///
     /// Out of memory only; a prefix of the outputs has then been added.
-    pub(super) fn enter_room<L: Ledger>(
+    pub(super) fn enter_conference<L: Ledger>(
         &mut self,
         context: &Context,
         key: TKey,
-        request: Hearing,
-        seat: RoomSeat,
+        request: ReceivedMessage,
+        participant: ConferenceParticipant,
         out: &mut List<Offer>,
         steps: &mut Steps<L>,
     ) -> Result<(), NoMemory>
         ensures done { OnOk result (Follows self.old out.old self.new out.new
-            (λ d token. entering_room d token context.now.at key request seat.room seat.number)) }
-        ensures err { OnErr result (Breaks self.old out.old out.new
-            (λ d token. entering_room d token context.now.at key request seat.room seat.number)) }
+            (λ d token. after_participant_request d token context.now.at key request participant.room participant.number)) }
+        ensures err { OnErr result (AddsOfferPrefix self.old out.old out.new
+            (λ d token. after_participant_request d token context.now.at key request participant.room participant.number)) }
     {
-        numbers_are_drawn_on();
+        numbers_never_fall();
         let peer = request.peer;
-        let asked = match replaces_asked(context.alloc, &request) {
-            Ok(asked) => asked,
+        let replaces = match requested_replaces(context.alloc, &request) {
+            Ok(replaces) => replaces,
             Err(error) => {
                 drop(request);
                 return Err(error);
             }
         };
         let signal = RoomSignal::Request {
-            room: seat.room,
-            seat: seat.number,
+            room: participant.room,
+            seat: participant.number,
             key,
             request,
         };
-        let emits = match self.tell_rooms(context, signal) {
+        let emits = match self.step_conferences(context, signal) {
             Ok(emits) => emits,
             Err(error) => {
-                drop(asked);
+                drop(replaces);
                 return Err(error);
             }
         };
-        let accepted = where_accepted(asked, emits.items());
+        let accepted = if_accepted(replaces, emits.items());
         let emitted = self.emit_all(context, emits.items(), out, steps);
         drop(emits);
         emitted?;
-        self.replace(context, peer, seat, accepted, out, steps)
+        self.replace_if_requested(context, peer, participant, accepted, out, steps)
     }
 
     /// The live call and the side whose dialog is to be replaced; a Replaces without one of the tags names none.
-    fn side_replaced(&self, replaces: &Replaces) -> Option<(CallNo, Side)>
-        ensures { (directory : Directory) (token : List ℕ) (world : World) → Stands directory token self.now world →
-            result ≡ side_replaced replaces.now (calls_in directory world).entries }
+    fn replaced_side(&self, replaces: &Replaces) -> Option<(CallNo, Side)>
+        ensures { (directory : Directory) (token : List ℕ) (world : RunState) → Represents directory token self.now world →
+            result ≡ replaced_side replaces.now (calls_in directory world).entries }
     {
         match &replaces.to_tag {
             None => None,
@@ -148,24 +151,24 @@ impl Server {
     }
 
     /// Notifies the participant of 100 (Trying), and then of the outcome, where a replacement was requested.
-    fn replace<L: Ledger>(
+    fn replace_if_requested<L: Ledger>(
         &mut self,
         context: &Context,
         peer: Peer,
-        seat: RoomSeat,
+        participant: ConferenceParticipant,
         replaces: Option<Replaces>,
         out: &mut List<Offer>,
         steps: &mut Steps<L>,
     ) -> Result<(), NoMemory>
         ensures done { OnOk result (Follows self.old out.old self.new out.new
-            (λ d token. replacing d token context.now.at peer seat.room seat.number replaces)) }
-        ensures err { OnErr result (Breaks self.old out.old out.new
-            (λ d token. replacing d token context.now.at peer seat.room seat.number replaces)) }
+            (λ d token. after_replaces d token context.now.at peer participant.room participant.number replaces)) }
+        ensures err { OnErr result (AddsOfferPrefix self.old out.old out.new
+            (λ d token. after_replaces d token context.now.at peer participant.room participant.number replaces)) }
     {
         match replaces {
             None => Ok(()),
             Some(replaces) => {
-                let done = self.replace_by(context, peer, seat, &replaces, out, steps);
+                let done = self.replace_by(context, peer, participant, &replaces, out, steps);
                 drop(replaces);
                 done
             }
@@ -177,19 +180,19 @@ impl Server {
         &mut self,
         context: &Context,
         peer: Peer,
-        seat: RoomSeat,
+        participant: ConferenceParticipant,
         replaces: &Replaces,
         out: &mut List<Offer>,
         steps: &mut Steps<L>,
     ) -> Result<(), NoMemory>
         ensures done { OnOk result (Follows self.old out.old self.new out.new
-            (λ d token. replacing d token context.now.at peer seat.room seat.number (Some replaces.now))) }
-        ensures err { OnErr result (Breaks self.old out.old out.new
-            (λ d token. replacing d token context.now.at peer seat.room seat.number (Some replaces.now))) }
+            (λ d token. after_replaces d token context.now.at peer participant.room participant.number (Some replaces.now))) }
+        ensures err { OnErr result (AddsOfferPrefix self.old out.old out.new
+            (λ d token. after_replaces d token context.now.at peer participant.room participant.number (Some replaces.now))) }
     {
-        numbers_are_drawn_on();
-        self.notice(context, seat, 100, out, steps)?;
-        self.replace_dialog(context, peer, seat, replaces, out, steps)
+        numbers_never_fall();
+        self.send_refer_notify(context, participant, 100, out, steps)?;
+        self.replace_dialog(context, peer, participant, replaces, out, steps)
     }
 
     /// The dialog has to be that of a live call.
@@ -197,20 +200,27 @@ impl Server {
         &mut self,
         context: &Context,
         peer: Peer,
-        seat: RoomSeat,
+        participant: ConferenceParticipant,
         replaces: &Replaces,
         out: &mut List<Offer>,
         steps: &mut Steps<L>,
     ) -> Result<(), NoMemory>
         ensures done { OnOk result (Follows self.old out.old self.new out.new
-            (λ d token. replaced d token context.now.at peer seat.room seat.number replaces.now)) }
-        ensures err { OnErr result (Breaks self.old out.old out.new
-            (λ d token. replaced d token context.now.at peer seat.room seat.number replaces.now)) }
+            (λ d token. after_replacing d token context.now.at peer participant.room participant.number replaces.now)) }
+        ensures err { OnErr result (AddsOfferPrefix self.old out.old out.new
+            (λ d token. after_replacing d token context.now.at peer participant.room participant.number replaces.now)) }
     {
-        numbers_are_drawn_on();
-        match self.side_replaced(replaces) {
-            None => self.notice(context, seat, 481, out, steps),
-            Some(named) => self.replace_side(context, peer, seat, named, out, steps),
+        numbers_never_fall();
+        match self.replaced_side(replaces) {
+            None => self.send_refer_notify(context, participant, 481, out, steps),
+            Some(named_side) => self.replace_side(
+                context,
+                peer,
+                participant,
+                named_side,
+                out,
+                steps,
+            ),
         }
     }
 
@@ -219,49 +229,49 @@ impl Server {
         &mut self,
         context: &Context,
         peer: Peer,
-        seat: RoomSeat,
-        named: (CallNo, Side),
+        participant: ConferenceParticipant,
+        named_side: (CallNo, Side),
         out: &mut List<Offer>,
         steps: &mut Steps<L>,
     ) -> Result<(), NoMemory>
         ensures done { OnOk result (Follows self.old out.old self.new out.new
-            (λ d token. replaced_by d token context.now.at peer seat.room seat.number (Some named))) }
-        ensures err { OnErr result (Breaks self.old out.old out.new
-            (λ d token. replaced_by d token context.now.at peer seat.room seat.number (Some named))) }
+            (λ d token. after_replacing_named d token context.now.at peer participant.room participant.number (Some named_side))) }
+        ensures err { OnErr result (AddsOfferPrefix self.old out.old out.new
+            (λ d token. after_replacing_named d token context.now.at peer participant.room participant.number (Some named_side))) }
     {
-        numbers_are_drawn_on();
-        let (call, side) = named;
-        if is_with(peer, self.calls.party(call, side)) {
-            self.take_out(context, seat, call, side.other(), out, steps)
+        numbers_never_fall();
+        let (call, side) = named_side;
+        if is_of_peer(peer, self.calls.party(call, side)) {
+            self.detach_and_adopt(context, participant, call, side.other(), out, steps)
         } else {
-            self.notice(context, seat, 481, out, steps)
+            self.send_refer_notify(context, participant, 481, out, steps)
         }
     }
 
     /// Takes the leg of this side out of its call, where that is stable.
-    fn take_out<L: Ledger>(
+    fn detach_and_adopt<L: Ledger>(
         &mut self,
         context: &Context,
-        seat: RoomSeat,
+        participant: ConferenceParticipant,
         call: CallNo,
         side: Side,
         out: &mut List<Offer>,
         steps: &mut Steps<L>,
     ) -> Result<(), NoMemory>
         ensures done { OnOk result (Follows self.old out.old self.new out.new
-            (λ d token world. taken_out d token context.now.at seat.room seat.number call side
+            (λ d token world. after_detach d token context.now.at participant.room participant.number call side
             (account_of_side call side (calls_in d world).entries)
-            (leg_out call.0 side (calls_in d world).entries) world)) }
-        ensures err { OnErr result (Breaks self.old out.old out.new
-            (λ d token world. taken_out d token context.now.at seat.room seat.number call side
+            (released_leg_of call.0 side (calls_in d world).entries) world)) }
+        ensures err { OnErr result (AddsOfferPrefix self.old out.old out.new
+            (λ d token world. after_detach d token context.now.at participant.room participant.number call side
             (account_of_side call side (calls_in d world).entries)
-            (leg_out call.0 side (calls_in d world).entries) world)) }
+            (released_leg_of call.0 side (calls_in d world).entries) world)) }
     {
-        numbers_are_drawn_on();
+        numbers_never_fall();
         let account = account_at(self.calls.party(call, side));
         match self.calls.release(call, side) {
-            Ok(leg) => self.adopt(context, seat, call, leg, account, out, steps),
-            Err(NotTalking) => self.notice(context, seat, 491, out, steps),
+            Ok(leg) => self.adopt(context, participant, call, leg, account, out, steps),
+            Err(NotTalking) => self.send_refer_notify(context, participant, 491, out, steps),
         }
     }
 
@@ -269,7 +279,7 @@ impl Server {
     fn adopt<L: Ledger>(
         &mut self,
         context: &Context,
-        seat: RoomSeat,
+        participant: ConferenceParticipant,
         call: CallNo,
         leg: Released,
         account: Option<Account>,
@@ -277,28 +287,30 @@ impl Server {
         steps: &mut Steps<L>,
     ) -> Result<(), NoMemory>
         requires unmetered { (released_leg leg).meter ≡ None }
-        requires fits { takes_back leg (entry_of call.0 self.old.calls.table.entries) ≡ true }
-        requires away { is_away (entry_of call.0 self.old.calls.table.entries) ≡ true }
+        requires fits { can_restore leg (entry_of call.0 self.old.calls.table.entries) ≡ true }
+        requires away { has_detached_leg (entry_of call.0 self.old.calls.table.entries) ≡ true }
         ensures done { OnOk result (Follows self.old out.old self.new out.new
-            (λ d token world. adopting d token context.now.at seat.room seat.number call leg account
-            (access seat.room.0 (rooms_in d world).live) world)) }
-        ensures err { OnErr result (Breaks self.old out.old out.new
-            (λ d token world. adopting d token context.now.at seat.room seat.number call leg account
-            (access seat.room.0 (rooms_in d world).live) world)) }
+            (λ d token world. after_adoption_if d token context.now.at participant.room participant.number call leg account
+            (access participant.room.0 (conferences_in d world).live) world)) }
+        ensures err { OnErr result (AddsOfferPrefix self.old out.old out.new
+            (λ d token world. after_adoption_if d token context.now.at participant.room participant.number call leg account
+            (access participant.room.0 (conferences_in d world).live) world)) }
     {
-        numbers_are_drawn_on();
-        let how = Joining::Referred { by: seat.number };
-        let seated = self.seat_leg(context, seat.room, leg, account, how)?;
-        match seated {
+        numbers_never_fall();
+        let joining = Joining::Referred {
+            by: participant.number,
+        };
+        let joined = self.add_participant(context, participant.room, leg, account, joining)?;
+        match joined {
             Ok(emits) => {
                 let emitted = self.emit_all(context, emits.items(), out, steps);
                 drop(emits);
                 emitted?;
-                self.finish(context, call, out, steps)
+                self.finish_call(context, call, out, steps)
             }
             Err((leg, _)) => {
                 self.calls.restore(call, leg);
-                self.notice(context, seat, 503, out, steps)
+                self.send_refer_notify(context, participant, 503, out, steps)
             }
         }
     }

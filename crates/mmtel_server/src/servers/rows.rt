@@ -1,12 +1,12 @@
 //! The CDRs that wait.
 ghost use Rattle.std.specs.Prelude.{◌≡◌, ◌++◌, ◌∷◌, List, OnOk, length};
-ghost use Rattle.mmtel_b2bua.specs.Histories.{Deed, Drops, Stands, site_of};
+ghost use Rattle.mmtel_b2bua.specs.Operations.{Drops, Represents, TableOp, config_of};
 ghost use Rattle.mmtel_trust.specs.Peers.{Peers};
 ghost use Rattle.mmtel_trust.specs.declared.accounts.AccountIdentity.{AccountIdentity};
 
 use mmtel_b2bua::Calls;
+use mmtel_base::{List, NoMemory};
 use mmtel_charging::Row;
-use mmtel_scan::{List, NoMemory};
 use std::alloc::Global;
 
 /// Adds CDRs at the end.
@@ -28,17 +28,17 @@ pub(super) fn add_rows(alloc: Global, rows: &[Row], waiting: &mut List<Row>) -> 
 /// # Errors
 ///
 /// Out of memory only.
-pub(super) fn take_rows_of_calls(
+pub(super) fn collect_rows_of_calls(
     alloc: Global,
     calls: &mut Calls,
     waiting: &mut List<Row>,
 ) -> Result<(), NoMemory>
     ensures waiting { OnOk result (waiting.new ≡ waiting.old ++ calls.old.table.rows) }
-    ensures done { OnOk result ((peers : Peers) (accounts : List AccountIdentity) (deeds : List Deed) →
-        Stands peers accounts calls.old deeds →
-        Stands peers accounts calls.new (Drops (length calls.old.table.rows) ∷ deeds)) }
-    ensures site { OnOk result ((peers : Peers) (accounts : List AccountIdentity) →
-        site_of calls.new peers accounts ≡ site_of calls.old peers accounts) }
+    ensures done { OnOk result ((peers : Peers) (accounts : List AccountIdentity) (deeds : List TableOp) →
+        Represents peers accounts calls.old deeds →
+        Represents peers accounts calls.new (Drops (length calls.old.table.rows) ∷ deeds)) }
+    ensures config { OnOk result ((peers : Peers) (accounts : List AccountIdentity) →
+        config_of calls.new peers accounts ≡ config_of calls.old peers accounts) }
 {
     add_rows(alloc, calls.rows_waiting(), waiting)?;
     let count = calls.rows_waiting().len();

@@ -3,37 +3,37 @@ ghost use Rattle.std.specs.Prelude.{◌≡◌, ◌≤◌, ℕ, Bool, List, IfOk,
 ghost use Rattle.mmtel_charging.specs.declared.rows.Row.{Row};
 ghost use Rattle.mmtel_b2bua.specs.Tables.{no_calls};
 ghost use Rattle.mmtel_directory.specs.declared.directories.Directory.{Directory};
-ghost use Rattle.mmtel_focus.specs.Table.{no_rooms};
-ghost use Rattle.mmtel_in_force.specs.Texts.{Texts};
-ghost use Rattle.mmtel_outside.specs.declared.events.Offer.{Offer};
-ghost use Rattle.mmtel_run.specs.Answers.{further_methods};
-ghost use Rattle.mmtel_run.specs.Events.{Happened, digest_datagram, digest_event};
-ghost use Rattle.mmtel_run.specs.Run.{world_after};
-ghost use Rattle.mmtel_run.specs.World.{came, ended, met};
-ghost use Rattle.mmtel_server.specs.Follows.{Breaks, BreaksTo, Follows, FollowsTo, IsReady, going};
-ghost use Rattle.mmtel_server_decisions.specs.Handed.{Handed, HandedCounted, StoppedHanding};
-ghost use Rattle.mmtel_server.specs.Seen.{keeper_seen, step_state};
-ghost use Rattle.mmtel_server.specs.Stands.{Serves, Went};
-ghost use Rattle.mmtel_server.specs.Stepped.{AskedAfter, Came, KeeperWent, Stepped, Stopped, StoppedAt, call_of, happened_in};
-ghost use Rattle.mmtel_serving.specs.Calls.{Answers, Counted};
-ghost use Rattle.mmtel_serving.specs.Outcomes.{kept_in};
+ghost use Rattle.mmtel_focus.specs.Table.{empty_table};
+ghost use Rattle.mmtel_records_in_force.specs.Texts.{Texts};
+ghost use Rattle.mmtel_environment.specs.declared.events.Offer.{Offer};
+ghost use Rattle.mmtel_run_definitions.specs.OwnResponses.{further_methods};
+ghost use Rattle.mmtel_run_definitions.specs.Events.{EventRecord, parsed_datagram, parsed_event};
+ghost use Rattle.mmtel_run_definitions.specs.Run.{state_after};
+ghost use Rattle.mmtel_run_definitions.specs.Transitions.{after_event, after_event_end, after_parsed_event};
+ghost use Rattle.mmtel_server.specs.Follows.{AddsOfferPrefix, AddsOfferPrefixWhere, Follows, FollowsWhere, IsSettledBefore, state_after_event};
+ghost use Rattle.mmtel_server_timers.specs.Handover.{HandoverAborted, HandoverFaults, HandsOver};
+ghost use Rattle.mmtel_server.specs.States.{keeper_state, step_state};
+ghost use Rattle.mmtel_server.specs.Representation.{RanFromStart, RepresentsRun};
+ghost use Rattle.mmtel_server.specs.StepEffects.{AbortedKeeperCalls, ArrivalEffect, AsksKeeperAfter, KeeperEffect, StepAborted, StepEffect, call_of, event_record};
+ghost use Rattle.mmtel_web_service.specs.KeeperCalls.{CountsFaults, IsKeeperResult};
+ghost use Rattle.mmtel_web_service.specs.KeeperOutcomes.{keeper_outcome_view};
 
 use super::Server;
-use super::requests::{Answered, unasked};
-use crate::laws::numbers_are_drawn_on;
+use super::web_requests::{KeeperResult, no_keeper_call};
+use crate::theorems::numbers_never_fall;
+use mmtel_admission::{further_methods, moment, parse_datagram};
 use mmtel_b2bua::Calls;
+use mmtel_base::{List, NoMemory, Text};
 use mmtel_charging::Row;
 use mmtel_directory::Directory;
+use mmtel_environment::{Event, Offer};
 use mmtel_focus::Rooms;
-use mmtel_in_force::Records;
-use mmtel_intake::{digest, further_methods, moment};
 use mmtel_keeper::Keeper;
 use mmtel_mwi::Boxes;
-use mmtel_outside::{Event, Offer};
-use mmtel_run::{enough_comes, rows_are_filed};
-use mmtel_run_laws::offers_are_added;
-use mmtel_scan::{List, NoMemory, Text};
-use mmtel_server_decisions::{Alarms, hand_rows};
+use mmtel_records_in_force::Records;
+use mmtel_run_definitions::{enough_firings_exist, rows_are_filed};
+use mmtel_run_theorems::offers_are_added;
+use mmtel_server_timers::{Timers, hand_rows};
 use mmtel_timers::Steps;
 use mmtel_transaction::{Tokens, Transactions};
 use mmtel_trust::PeerTable;
@@ -52,7 +52,7 @@ fn first_moment() -> Moment
 }
 
 /// The later of two moments.
-fn later(clock: Moment, moment: Moment) -> Moment
+fn later_moment(clock: Moment, moment: Moment) -> Moment
     ensures { result ≡ max clock moment }
 {
     if clock.ms() < moment.ms() {
@@ -63,7 +63,7 @@ fn later(clock: Moment, moment: Moment) -> Moment
 }
 
 /// A copy of the digits of the home country.
-fn country_copied(alloc: Global, country: &Option<Text>) -> Result<Option<Text>, NoMemory>
+fn copy_country(alloc: Global, country: &Option<Text>) -> Result<Option<Text>, NoMemory>
     ensures { IfOk result (λ digits. digits ≡ country.now) }
 {
     match country {
@@ -73,7 +73,7 @@ fn country_copied(alloc: Global, country: &Option<Text>) -> Result<Option<Text>,
 }
 
 /// Empty tables of calls and conferences, of a server of this configuration.
-fn none_yet(alloc: Global, directory: &Directory) -> Result<(Calls, Rooms), NoMemory>
+fn empty_tables(alloc: Global, directory: &Directory) -> Result<(Calls, Rooms), NoMemory>
     requires { directory.now.bound ≤ 16 }
     ensures calls { IfOk result (λ made. made.0
         ≡ record {
@@ -92,12 +92,12 @@ fn none_yet(alloc: Global, directory: &Directory) -> Result<(Calls, Rooms), NoMe
           sip = directory.now.sip;
           mixer = directory.now.mixer;
           methods = further_methods directory.now;
-          table = no_rooms;
+          table = empty_table;
           has_failed = false;
         }) }
 {
     let home = directory.home.copied(alloc)?;
-    let country = country_copied(alloc, &directory.country)?;
+    let country = copy_country(alloc, &directory.country)?;
     let calls = Calls::new(
         alloc,
         home,
@@ -132,7 +132,7 @@ impl Server {
     ) -> Result<Server, NoMemory>
         requires { directory.bound ≤ 16 }
         ensures begins { IfOk result (λ server. (before : List Offer) →
-            Went directory token loaded.now [] before server before) }
+            RanFromStart directory token loaded.now [] before server before) }
         ensures whole { IfOk result (λ server. server.failed ≡ false) }
     {
         let records = match Records::load(alloc, loaded) {
@@ -143,7 +143,7 @@ impl Server {
                 return Err(error);
             }
         };
-        let (calls, rooms) = match none_yet(alloc, &directory) {
+        let (calls, rooms) = match empty_tables(alloc, &directory) {
             Ok(made) => made,
             Err(error) => {
                 drop(records);
@@ -160,7 +160,7 @@ impl Server {
             calls,
             rooms,
             boxes,
-            armed: Alarms::new(alloc),
+            pending_timers: Timers::new(alloc),
             waiting: List::new(),
             records,
             clock: first_moment(),
@@ -184,10 +184,10 @@ impl Server {
         out: &mut List<Offer>,
         steps: &mut Steps<L>,
     ) -> Result<(), NoMemory>
-        ensures done { OnOk result (Stepped event.now (step_state self.old out.old K.Keeper keeper.old)
+        ensures done { OnOk result (StepEffect event.now (step_state self.old out.old K.Keeper keeper.old)
             (step_state self.new out.new K.Keeper keeper.new)) }
-        ensures met { OnErr result (Stopped event.now (step_state self.old out.old K.Keeper keeper.old)
-            out.new (keeper_seen K.Keeper keeper.new)) }
+        ensures met { OnErr result (StepAborted event.now (step_state self.old out.old K.Keeper keeper.old)
+            out.new (keeper_state K.Keeper keeper.new)) }
         ensures fails { OnErr result (self.new.failed ≡ true) }
         ensures keeps { OnOk result (self.new.failed ≡ false) }
         ensures over { self.old.failed ≡ true →
@@ -196,10 +196,10 @@ impl Server {
         if self.failed {
             return Err(NoMemory);
         }
-        enough_comes();
+        enough_firings_exist();
         rows_are_filed();
         offers_are_added();
-        let done = self.step_on(alloc, event, keeper, out, steps);
+        let done = self.step_unfailed(alloc, event, keeper, out, steps);
         self.failed = done.is_err();
         match done {
             Ok(_) => Ok(()),
@@ -209,17 +209,17 @@ impl Server {
 
     /// The peers of its configuration, and the routes to them.
     pub fn peers(&self) -> &PeerTable
-        ensures peers { (directory : Directory) (token : List ℕ) (loaded : Texts) (happened : List Happened) →
-            Serves directory token loaded happened self.now → result.now ≡ directory.peers }
+        ensures peers { (directory : Directory) (token : List ℕ) (loaded : Texts) (happened : List EventRecord) →
+            RepresentsRun directory token loaded happened self.now → result.now ≡ directory.peers }
     {
         &self.directory.peers
     }
 
     /// The CDRs of calls that ended and of participants that left which the keeper has not accepted, in the order in which they were closed.
     pub fn rows_waiting(&self) -> &[Row]
-        ensures waiting { (directory : Directory) (token : List ℕ) (loaded : Texts) (happened : List Happened)
-            (serves : Serves directory token loaded happened self.now) →
-            result.now ≡ (world_after directory token loaded serves.fuel happened).waiting }
+        ensures waiting { (directory : Directory) (token : List ℕ) (loaded : Texts) (happened : List EventRecord)
+            (serves : RepresentsRun directory token loaded happened self.now) →
+            result.now ≡ (state_after directory token loaded serves.fuel happened).waiting }
     {
         self.waiting.items()
     }
@@ -233,7 +233,7 @@ impl Server {
             calls,
             rooms,
             boxes,
-            armed,
+            pending_timers: armed,
             waiting,
             records,
             clock: _,
@@ -252,7 +252,7 @@ impl Server {
     }
 
     /// Processes a datagram.
-    fn meet_datagram<L: Ledger>(
+    fn receive_datagram<L: Ledger>(
         &mut self,
         alloc: Global,
         at: Moment,
@@ -262,17 +262,17 @@ impl Server {
         steps: &mut Steps<L>,
     ) -> Result<(), NoMemory>
         ensures done { OnOk result (Follows self.old out.old self.new out.new
-            (λ d token. met d token at (digest_datagram d from bytes.now))) }
-        ensures err { OnErr result (Breaks self.old out.old out.new
-            (λ d token. met d token at (digest_datagram d from bytes.now))) }
+            (λ d token. after_parsed_event d token at (parsed_datagram d from bytes.now))) }
+        ensures err { OnErr result (AddsOfferPrefix self.old out.old out.new
+            (λ d token. after_parsed_event d token at (parsed_datagram d from bytes.now))) }
     {
-        numbers_are_drawn_on();
-        let told = digest(alloc, &self.directory, from, bytes)?;
-        self.meet(alloc, told, at, out, steps)
+        numbers_never_fall();
+        let parsed = parse_datagram(alloc, &self.directory, from, bytes)?;
+        self.receive_parsed(alloc, parsed, at, out, steps)
     }
 
     /// Processes an event at a moment of the clock: its outputs are added, and the keeper's results are returned.
-    fn meet_event<K: Keeper, L: Ledger>(
+    fn perform_event<K: Keeper, L: Ledger>(
         &mut self,
         alloc: Global,
         at: Moment,
@@ -280,26 +280,33 @@ impl Server {
         keeper: &mut K,
         out: &mut List<Offer>,
         steps: &mut Steps<L>,
-    ) -> Result<Answered, NoMemory>
+    ) -> Result<KeeperResult, NoMemory>
         ensures done { IfOk result (λ a. Follows self.old out.old self.new out.new
-            (λ d token. met d token at (digest_event d event.now (kept_in a.kept) a.rows))) }
-        ensures asked { IfOk result (λ a. Answers (call_of self.old.directory.names event.now) (kept_in a.kept) a.rows
-            (K.held keeper.old) (K.held keeper.new) (K.calls keeper.old) (K.calls keeper.new)) }
-        ensures counted { IfOk result (λ a. Counted (kept_in a.kept) (K.faults keeper.old) (K.faults keeper.new)) }
-        ensures met { OnErr result (StoppedAt
-            (λ kept rows. Breaks self.old out.old out.new (λ d token. met d token at (digest_event d event.now kept rows)))
-            (λ kept rows between. Answers (call_of self.old.directory.names event.now) kept rows
-            (K.held keeper.old) between.held (K.calls keeper.old) between.calls)
-            (keeper_seen K.Keeper keeper.old) (keeper_seen K.Keeper keeper.new)) }
+            (λ d token. after_parsed_event d token at (parsed_event d event.now (keeper_outcome_view a.outcome) a.rows))) }
+        ensures asked { IfOk result (λ a. IsKeeperResult (call_of self.old.directory.names event.now) (keeper_outcome_view a.outcome) a.rows
+            (K.contents keeper.old) (K.contents keeper.new) (K.calls keeper.old) (K.calls keeper.new)) }
+        ensures counted { IfOk result (λ a. CountsFaults (keeper_outcome_view a.outcome) (K.faults keeper.old) (K.faults keeper.new)) }
+        ensures met { OnErr result (AbortedKeeperCalls
+            (λ kept rows. AddsOfferPrefix self.old out.old out.new (λ d token. after_parsed_event d token at (parsed_event d event.now kept rows)))
+            (λ kept rows between. IsKeeperResult (call_of self.old.directory.names event.now) kept rows
+            (K.contents keeper.old) between.contents (K.calls keeper.old) between.calls)
+            (keeper_state K.Keeper keeper.old) (keeper_state K.Keeper keeper.new)) }
     {
-        numbers_are_drawn_on();
+        numbers_never_fall();
         match event {
             Event::Datagram { from, bytes, .. } => {
-                self.meet_datagram(alloc, at, *from, bytes.bytes(), out, steps)?;
-                Ok(unasked())
+                self.receive_datagram(alloc, at, *from, bytes.bytes(), out, steps)?;
+                Ok(no_keeper_call())
             }
-            Event::Web { bytes, .. } => self.serve(alloc, bytes.bytes(), at, keeper, out, steps),
-            Event::Quiet { .. } => Ok(unasked()),
+            Event::Web { bytes, .. } => self.serve_web(
+                alloc,
+                bytes.bytes(),
+                at,
+                keeper,
+                out,
+                steps,
+            ),
+            Event::Quiet { .. } => Ok(no_keeper_call()),
         }
     }
 
@@ -309,18 +316,18 @@ impl Server {
     ///
     /// Out of memory only; all of them still wait then.
     fn hand_rows<K: Keeper>(&mut self, alloc: Global, keeper: &mut K) -> Result<bool, NoMemory>
-        ensures done { IfOk result (λ took. (out : List Offer) → Follows self.old out self.new out (λ d token. ended took)) }
-        ensures handed { IfOk result (λ took. Handed took self.old.waiting (K.held keeper.old) (K.held keeper.new)
+        ensures done { IfOk result (λ took. (out : List Offer) → Follows self.old out self.new out (λ d token. after_event_end took)) }
+        ensures handed { IfOk result (λ took. HandsOver took self.old.waiting (K.contents keeper.old) (K.contents keeper.new)
             (K.calls keeper.old) (K.calls keeper.new)) }
-        ensures counted { IfOk result (λ took. HandedCounted took (K.faults keeper.old) (K.faults keeper.new)) }
-        ensures met { OnErr result (StoppedHanding (K.held keeper.old) (K.held keeper.new)
+        ensures counted { IfOk result (λ took. HandoverFaults took (K.faults keeper.old) (K.faults keeper.new)) }
+        ensures met { OnErr result (HandoverAborted (K.contents keeper.old) (K.contents keeper.new)
             (K.calls keeper.old) (K.calls keeper.new) (K.faults keeper.old) (K.faults keeper.new)) }
     {
         hand_rows(alloc, &mut self.waiting, keeper)
     }
 
     /// Processes an event at this moment of the clock: its outputs are added, and the keeper's results in it are returned.
-    fn come_at<K: Keeper, L: Ledger>(
+    fn step_at<K: Keeper, L: Ledger>(
         &mut self,
         alloc: Global,
         at: Moment,
@@ -328,47 +335,47 @@ impl Server {
         keeper: &mut K,
         out: &mut List<Offer>,
         steps: &mut Steps<L>,
-    ) -> Result<(Answered, bool), NoMemory>
-        ensures done { IfOk result (λ a. Came at (happened_in event.now (kept_in a.0.kept) a.0.rows a.1)
+    ) -> Result<(KeeperResult, bool), NoMemory>
+        ensures done { IfOk result (λ a. ArrivalEffect at (event_record event.now (keeper_outcome_view a.0.outcome) a.0.rows a.1)
             (step_state self.old out.old K.Keeper keeper.old) (step_state self.new out.new K.Keeper keeper.new)) }
-        ensures met { OnErr result (StoppedAt
-            (λ kept rows. (took : Bool) → Breaks self.old out.old out.new (λ d token. came d token at (digest_event d event.now kept rows) took))
-            (λ kept rows between. Answers (call_of self.old.directory.names event.now) kept rows
-            (K.held keeper.old) between.held (K.calls keeper.old) between.calls)
-            (keeper_seen K.Keeper keeper.old) (keeper_seen K.Keeper keeper.new)) }
+        ensures met { OnErr result (AbortedKeeperCalls
+            (λ kept rows. (took : Bool) → AddsOfferPrefix self.old out.old out.new (λ d token. after_event d token at (parsed_event d event.now kept rows) took))
+            (λ kept rows between. IsKeeperResult (call_of self.old.directory.names event.now) kept rows
+            (K.contents keeper.old) between.contents (K.calls keeper.old) between.calls)
+            (keeper_state K.Keeper keeper.old) (keeper_state K.Keeper keeper.new)) }
     {
-        numbers_are_drawn_on();
-        self.begin();
+        numbers_never_fall();
+        self.begin_step();
         self.clock = at;
-        let answered = self.meet_event(alloc, at, event, keeper, out, steps)?;
+        let answered = self.perform_event(alloc, at, event, keeper, out, steps)?;
         let took = self.hand_rows(alloc, keeper)?;
         Ok((answered, took))
     }
 
     /// One event, where no step has failed.
-    fn step_on<K: Keeper, L: Ledger>(
+    fn step_unfailed<K: Keeper, L: Ledger>(
         &mut self,
         alloc: Global,
         event: &Event,
         keeper: &mut K,
         out: &mut List<Offer>,
         steps: &mut Steps<L>,
-    ) -> Result<(Answered, bool), NoMemory>
+    ) -> Result<(KeeperResult, bool), NoMemory>
         ensures done { IfOk result (λ a. (fuel : ℕ) →
-            FollowsTo self.old out.old self.new out.new (IsReady fuel (happened_in event.now (kept_in a.0.kept) a.0.rows a.1))
-            (going fuel (happened_in event.now (kept_in a.0.kept) a.0.rows a.1))) }
-        ensures keeper { IfOk result (λ a. KeeperWent (happened_in event.now (kept_in a.0.kept) a.0.rows a.1)
-            (step_state self.old out.old K.Keeper keeper.old) (keeper_seen K.Keeper keeper.new)) }
-        ensures met { OnErr result (StoppedAt
-            (λ kept rows. (took : Bool) (fuel : ℕ) → BreaksTo self.old out.old out.new
-            (IsReady fuel (happened_in event.now kept rows took)) (going fuel (happened_in event.now kept rows took)))
+            FollowsWhere self.old out.old self.new out.new (IsSettledBefore fuel (event_record event.now (keeper_outcome_view a.0.outcome) a.0.rows a.1))
+            (state_after_event fuel (event_record event.now (keeper_outcome_view a.0.outcome) a.0.rows a.1))) }
+        ensures keeper { IfOk result (λ a. KeeperEffect (event_record event.now (keeper_outcome_view a.0.outcome) a.0.rows a.1)
+            (step_state self.old out.old K.Keeper keeper.old) (keeper_state K.Keeper keeper.new)) }
+        ensures met { OnErr result (AbortedKeeperCalls
+            (λ kept rows. (took : Bool) (fuel : ℕ) → AddsOfferPrefixWhere self.old out.old out.new
+            (IsSettledBefore fuel (event_record event.now kept rows took)) (state_after_event fuel (event_record event.now kept rows took)))
             (λ kept rows between. (took : Bool) →
-            AskedAfter (step_state self.old out.old K.Keeper keeper.old) (happened_in event.now kept rows took) between)
-            (keeper_seen K.Keeper keeper.old) (keeper_seen K.Keeper keeper.new)) }
+            AsksKeeperAfter (step_state self.old out.old K.Keeper keeper.old) (event_record event.now kept rows took) between)
+            (keeper_state K.Keeper keeper.old) (keeper_state K.Keeper keeper.new)) }
     {
-        numbers_are_drawn_on();
-        let clock = later(self.clock, moment(event));
-        self.settle(alloc, clock, out, steps)?;
-        self.come_at(alloc, clock, event, keeper, out, steps)
+        numbers_never_fall();
+        let clock = later_moment(self.clock, moment(event));
+        self.fire_all_due(alloc, clock, out, steps)?;
+        self.step_at(alloc, clock, event, keeper, out, steps)
     }
 }

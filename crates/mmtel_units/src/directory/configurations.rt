@@ -2,10 +2,10 @@
 
 use crate::asserting::assert_right;
 use crate::directory::tables::{Grammar, wrong_row};
+use mmtel_base::{Text, number_up_to};
 use mmtel_directory::{Directory, DirectoryFault, read_directory};
 use mmtel_lex::{Uri, print_uri, read_uri};
-use mmtel_scan::{Text, number_up_to};
-use mmtel_told::{Rows, Told, cut, wrong_line};
+use mmtel_test_tables::{RowRunner, Transcript, split_or_all, wrong_line};
 use mmtel_types::{Account, Addr, Peer};
 use std::alloc::Global;
 
@@ -41,101 +41,106 @@ pub fn peer_addr(port: u16) -> Addr {
 }
 
 /// The server of two peers.
-pub fn home(told: &mut Told) -> Option<Directory> {
-    let directory = read_directory(told.alloc, HOME);
-    told.noted(directory)
+pub fn home(transcript: &mut Transcript) -> Option<Directory> {
+    let directory = read_directory(transcript.alloc, HOME);
+    transcript.value_or_fail(directory)
 }
 
 /// Writes an address.
-fn tell_addr(told: &mut Told, word: &[u8], ip: [u8; 4], port: u16) {
-    told.add(word);
+fn write_addr(transcript: &mut Transcript, word: &[u8], ip: [u8; 4], port: u16) {
+    transcript.add(word);
     for number in ip {
-        told.add_spaced_number(u64::from(number));
+        transcript.add_spaced_number(u64::from(number));
     }
-    told.add_spaced_number(u64::from(port));
-    told.add(b"\n");
+    transcript.add_spaced_number(u64::from(port));
+    transcript.add(b"\n");
 }
 
 /// Writes a URI, or `none`.
-fn tell_uri(told: &mut Told, word: &[u8], uri: &Option<Uri>) {
-    told.add(word);
+fn write_uri(transcript: &mut Transcript, word: &[u8], uri: &Option<Uri>) {
+    transcript.add(word);
     match uri {
-        None => told.add(b"none\n"),
+        None => transcript.add(b"none\n"),
         Some(uri) => {
-            let text = print_uri(told.alloc, uri);
-            told.add_made(text);
+            let text = print_uri(transcript.alloc, uri);
+            transcript.add_text_or_fail(text);
         }
     }
 }
 
 /// Writes a text.
-fn tell_text(told: &mut Told, word: &[u8], text: &[u8]) {
-    told.add(word);
-    told.add_line(text);
+fn write_text(transcript: &mut Transcript, word: &[u8], text: &[u8]) {
+    transcript.add(word);
+    transcript.add_line(text);
 }
 
 /// Writes a number.
-fn tell_number(told: &mut Told, word: &[u8], number: u64) {
-    told.add(word);
-    told.add_number(number);
-    told.add(b"\n");
+fn write_number(transcript: &mut Transcript, word: &[u8], number: u64) {
+    transcript.add(word);
+    transcript.add_number(number);
+    transcript.add(b"\n");
 }
 
 /// Writes the digits of the home country, where they are known.
-fn tell_digits(told: &mut Told, country: &Option<Text>) {
+fn write_digits(transcript: &mut Transcript, country: &Option<Text>) {
     match country {
-        None => tell_text(told, b"country ", b"none"),
-        Some(digits) => tell_text(told, b"country ", digits.bytes()),
+        None => write_text(transcript, b"country ", b"none"),
+        Some(digits) => write_text(transcript, b"country ", digits.bytes()),
     }
 }
 
 /// Writes what a configuration sets except peers, routes and identities.
-fn tell_settings(told: &mut Told, directory: &Directory) {
-    tell_addr(told, b"sip", directory.sip.ip, directory.sip.port);
-    tell_addr(told, b"web", directory.web.ip, directory.web.port);
-    tell_addr(told, b"mixer", directory.mixer.ip, directory.mixer.port);
-    tell_text(told, b"home ", directory.home.bytes());
-    tell_number(told, b"bound ", u64::from(directory.bound));
-    tell_digits(told, &directory.country);
-    told.add_if(directory.timer, b"timer on\n", b"timer off\n");
-    tell_text(told, b"store ", directory.store.bytes());
-    tell_uri(told, b"operator ", &directory.names.operator);
-    tell_uri(told, b"factory ", &directory.factory);
+fn write_settings(transcript: &mut Transcript, directory: &Directory) {
+    write_addr(transcript, b"sip", directory.sip.ip, directory.sip.port);
+    write_addr(transcript, b"web", directory.web.ip, directory.web.port);
+    write_addr(
+        transcript,
+        b"mixer",
+        directory.mixer.ip,
+        directory.mixer.port,
+    );
+    write_text(transcript, b"home ", directory.home.bytes());
+    write_number(transcript, b"bound ", u64::from(directory.bound));
+    write_digits(transcript, &directory.country);
+    transcript.add_if(directory.timer, b"timer on\n", b"timer off\n");
+    write_text(transcript, b"store ", directory.store.bytes());
+    write_uri(transcript, b"operator ", &directory.names.operator);
+    write_uri(transcript, b"factory ", &directory.factory);
     let identities = directory.names.accounts.identities().len();
-    tell_number(told, b"identities ", identities as u64);
+    write_number(transcript, b"identities ", identities as u64);
 }
 
 /// Writes the number of the peer that is the route to a URI, 0 for none.
-fn tell_route(told: &mut Told, directory: &Directory, uri: &[u8]) {
-    match read_uri(told.alloc, uri) {
-        Err(_) => told.fail(),
+fn write_route(transcript: &mut Transcript, directory: &Directory, uri: &[u8]) {
+    match read_uri(transcript.alloc, uri) {
+        Err(_) => transcript.fail(),
         Ok(uri) => {
             let peer = directory.peers.route(&uri).unwrap_or(Peer(0));
             drop(uri);
-            tell_number(told, b"", u64::from(peer.0));
+            write_number(transcript, b"", u64::from(peer.0));
         }
     }
 }
 
 /// Writes the number of the account of a URI, 0 for none.
-fn tell_name(told: &mut Told, directory: &Directory, uri: &[u8]) {
-    match read_uri(told.alloc, uri) {
-        Err(_) => told.fail(),
+fn write_name(transcript: &mut Transcript, directory: &Directory, uri: &[u8]) {
+    match read_uri(transcript.alloc, uri) {
+        Err(_) => transcript.fail(),
         Ok(uri) => {
             let account = directory.names.accounts.find(&uri).unwrap_or(Account(0));
             drop(uri);
-            tell_number(told, b"", u64::from(account.0));
+            write_number(transcript, b"", u64::from(account.0));
         }
     }
 }
 
 /// Writes the number of the peer at this port, and whether it is trusted; `none` where there is none.
-fn tell_peer(told: &mut Told, directory: &Directory, port: u16) {
+fn write_peer(transcript: &mut Transcript, directory: &Directory, port: u16) {
     match directory.peers.find(peer_addr(port)) {
-        None => told.add_line(b"none"),
+        None => transcript.add_line(b"none"),
         Some(peer) => {
-            told.add_number(u64::from(peer.0));
-            told.add_if(
+            transcript.add_number(u64::from(peer.0));
+            transcript.add_if(
                 directory.peers.trusted(peer),
                 b" trusted\n",
                 b" untrusted\n",
@@ -150,17 +155,17 @@ struct Known<'a> {
     directory: &'a Directory,
 }
 
-impl Rows for Known<'_> {
-    fn tell(&mut self, told: &mut Told, asked: &[u8]) {
-        let (word, rest) = cut(b' ', asked);
+impl RowRunner for Known<'_> {
+    fn run_row(&mut self, transcript: &mut Transcript, asked: &[u8]) {
+        let (word, rest) = split_or_all(b' ', asked);
         match word {
-            b"route" => tell_route(told, self.directory, rest),
-            b"name" => tell_name(told, self.directory, rest),
+            b"route" => write_route(transcript, self.directory, rest),
+            b"name" => write_name(transcript, self.directory, rest),
             b"peer" => {
                 let port = number_up_to(65_535, rest).unwrap_or(0);
-                tell_peer(told, self.directory, u16::try_from(port).unwrap_or(0));
+                write_peer(transcript, self.directory, u16::try_from(port).unwrap_or(0));
             }
-            _ => tell_settings(told, self.directory),
+            _ => write_settings(transcript, self.directory),
         }
     }
 }

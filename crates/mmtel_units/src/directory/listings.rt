@@ -1,51 +1,51 @@
 //! The listing.
 
 use crate::asserting::assert_right;
-use mmtel_outside::Offer;
-use mmtel_scan::List;
+use mmtel_base::List;
+use mmtel_environment::Offer;
 use mmtel_script::listing;
-use mmtel_told::Told;
+use mmtel_test_tables::Transcript;
 use mmtel_types::Peer;
 use std::alloc::Global;
 
 /// Adds an output to a list.
-pub fn push(told: &mut Told, offers: &mut List<Offer>, offer: Offer) {
-    let done = offers.push(told.alloc, offer);
-    told.keep(done.is_ok());
+pub fn push(transcript: &mut Transcript, offers: &mut List<Offer>, offer: Offer) {
+    let done = offers.push(transcript.alloc, offer);
+    transcript.fail_unless(done.is_ok());
 }
 
 /// Writes the listing of outputs, and a line `.`.
-fn tell_listed(told: &mut Told, offers: &List<Offer>) {
-    let text = listing(told.alloc, offers);
-    if let Some(text) = told.noted(text) {
-        told.add(text.bytes());
+fn write_listed(transcript: &mut Transcript, offers: &List<Offer>) {
+    let text = listing(transcript.alloc, offers);
+    if let Some(text) = transcript.value_or_fail(text) {
+        transcript.add(text.bytes());
     }
-    told.add_line(b".");
+    transcript.add_line(b".");
 }
 
 /// Writes the listing of a datagram to the peer of number 2, sent at 7.
-fn tell_sent(told: &mut Told, bytes: &[u8]) {
-    let text = told.copy(bytes);
+fn write_sent(transcript: &mut Transcript, bytes: &[u8]) {
+    let text = transcript.copy(bytes);
     let mut offers = List::new();
     let offer = Offer::To {
         peer: Peer(2),
         at: 7,
         text,
     };
-    push(told, &mut offers, offer);
-    tell_listed(told, &offers);
+    push(transcript, &mut offers, offer);
+    write_listed(transcript, &offers);
     drop(offers);
 }
 
 /// Writes the listing of a reply at 10, and of one without bytes at the last moment.
-fn tell_replies(told: &mut Told) {
+fn write_replies(transcript: &mut Transcript) {
     let mut offers = List::new();
-    let text = told.copy(b"HTTP/1.1 200 OK\r\n\r\nok");
-    push(told, &mut offers, Offer::Web { at: 10, text });
-    let text = told.copy(b"");
+    let text = transcript.copy(b"HTTP/1.1 200 OK\r\n\r\nok");
+    push(transcript, &mut offers, Offer::Web { at: 10, text });
+    let text = transcript.copy(b"");
     let at = u64::MAX;
-    push(told, &mut offers, Offer::Web { at, text });
-    tell_listed(told, &offers);
+    push(transcript, &mut offers, Offer::Web { at, text });
+    write_listed(transcript, &offers);
     drop(offers);
 }
 
@@ -86,17 +86,17 @@ at 18446744073709551615 web
 ";
 
 fn wrong_listed(alloc: Global) -> usize {
-    let mut told = Told::new(alloc);
-    tell_sent(&mut told, b"");
-    tell_sent(&mut told, b"a\r\n\r\n");
-    tell_sent(&mut told, b"a\r\nb");
-    tell_sent(&mut told, b"a\nb\r\nc");
-    tell_sent(&mut told, b"\r\r\n");
-    tell_sent(&mut told, b"\r");
-    tell_sent(&mut told, b" ~\r\n");
-    tell_sent(&mut told, b"\x1f\r\n\x7f\xff");
-    tell_replies(&mut told);
-    told.wrong_line(LISTED)
+    let mut transcript = Transcript::new(alloc);
+    write_sent(&mut transcript, b"");
+    write_sent(&mut transcript, b"a\r\n\r\n");
+    write_sent(&mut transcript, b"a\r\nb");
+    write_sent(&mut transcript, b"a\nb\r\nc");
+    write_sent(&mut transcript, b"\r\r\n");
+    write_sent(&mut transcript, b"\r");
+    write_sent(&mut transcript, b" ~\r\n");
+    write_sent(&mut transcript, b"\x1f\r\n\x7f\xff");
+    write_replies(&mut transcript);
+    transcript.wrong_line(LISTED)
 }
 
 #[test]

@@ -5,82 +5,84 @@ use crate::directory::configurations::{home, peer_addr};
 use mmtel_directory::Directory;
 use mmtel_link::{Arrival, Link};
 use mmtel_script::ScriptLink;
-use mmtel_told::Told;
+use mmtel_test_tables::Transcript;
 use std::alloc::Global;
 
 /// Adds the event that was returned.
-fn add_arrival(told: &mut Told, arrival: &Arrival) {
+fn add_arrival(transcript: &mut Transcript, arrival: &Arrival) {
     match arrival {
-        Arrival::Datagram { bytes, .. } => told.add(bytes.bytes()),
-        Arrival::Web { .. } => told.add(b"web "),
-        Arrival::Quiet { .. } => told.add(b"quiet"),
-        Arrival::Closed => told.add(b"closed"),
-        Arrival::NoMemory => told.fail(),
+        Arrival::Datagram { bytes, .. } => transcript.add(bytes.bytes()),
+        Arrival::Web { .. } => transcript.add(b"web "),
+        Arrival::Quiet { .. } => transcript.add(b"quiet"),
+        Arrival::Closed => transcript.add(b"closed"),
+        Arrival::NoMemory => transcript.fail(),
     }
 }
 
 /// Adds the next event.
-fn add_next<L: Link>(told: &mut Told, link: &mut L) {
-    match link.next(told.alloc) {
+fn add_next<L: Link>(transcript: &mut Transcript, link: &mut L) {
+    match link.next(transcript.alloc) {
         Ok(arrival) => {
-            add_arrival(told, &arrival);
+            add_arrival(transcript, &arrival);
             drop(arrival);
         }
-        Err(_) => told.fail(),
+        Err(_) => transcript.fail(),
     }
 }
 
 /// Adds the next bytes of the web request that was received last, four at most.
-fn add_read<L: Link>(told: &mut Told, link: &mut L) {
+fn add_read<L: Link>(transcript: &mut Transcript, link: &mut L) {
     let mut buf = [0; 4];
     match link.web_read(&mut buf) {
-        Ok(count) => told.add(&buf[..count]),
-        Err(_) => told.fail(),
+        Ok(count) => transcript.add(&buf[..count]),
+        Err(_) => transcript.fail(),
     }
 }
 
 /// Notes whether the link binds, and passes it a datagram and a reply.
-fn take<L: Link>(told: &mut Told, link: &mut L) {
+fn take<L: Link>(transcript: &mut Transcript, link: &mut L) {
     let bound = link.bind(peer_addr(5060), peer_addr(8080)).is_ok();
-    told.keep(bound);
-    let sent = link.send(told.alloc, peer_addr(5072), b"sent").is_ok();
-    told.keep(sent);
-    let replied = link.web_reply(told.alloc, b"replied").is_ok();
-    told.keep(replied);
+    transcript.fail_unless(bound);
+    let sent = link
+        .send(transcript.alloc, peer_addr(5072), b"sent")
+        .is_ok();
+    transcript.fail_unless(sent);
+    let replied = link.web_reply(transcript.alloc, b"replied").is_ok();
+    transcript.fail_unless(replied);
 }
 
 /// Adds the results of five calls of `next`, with the first eight bytes of a web request.
-fn add_heard<L: Link>(told: &mut Told, link: &mut L) {
+fn add_received<L: Link>(transcript: &mut Transcript, link: &mut L) {
     for _ in 0..5 {
-        add_next(told, link);
-        add_read(told, link);
-        add_read(told, link);
-        take(told, link);
-        told.add(b"\n");
+        add_next(transcript, link);
+        add_read(transcript, link);
+        add_read(transcript, link);
+        take(transcript, link);
+        transcript.add(b"\n");
     }
 }
 
 const SCRIPT: &[u8] = b"at 0 peer 1\n+one\nat 5 web\n+GET abc\nat 4 quiet";
 
 /// Adds the events received of the script above, and how many events it has then, as before.
-fn add_script(told: &mut Told, directory: &Directory) {
-    match ScriptLink::read(told.alloc, SCRIPT, &directory.peers) {
-        Err(_) => told.fail(),
+fn add_script(transcript: &mut Transcript, directory: &Directory) {
+    match ScriptLink::read(transcript.alloc, SCRIPT, &directory.peers) {
+        Err(_) => transcript.fail(),
         Ok(mut script) => {
-            add_heard(told, &mut script);
-            told.add_number(script.len() as u64);
+            add_received(transcript, &mut script);
+            transcript.add_number(script.len() as u64);
             drop(script);
         }
     }
 }
 
 fn wrong_heard(alloc: Global) -> usize {
-    let mut told = Told::new(alloc);
-    if let Some(directory) = home(&mut told) {
-        add_script(&mut told, &directory);
+    let mut transcript = Transcript::new(alloc);
+    if let Some(directory) = home(&mut transcript) {
+        add_script(&mut transcript, &directory);
         drop(directory);
     }
-    told.wrong_line(b"one\nweb GET abc\nquiet\nclosed\nclosed\n3")
+    transcript.wrong_line(b"one\nweb GET abc\nquiet\nclosed\nclosed\n3")
 }
 
 #[test]

@@ -4,9 +4,9 @@ use crate::asserting::assert_right;
 use crate::directory::configurations::{home, peer_addr};
 use crate::directory::tables::{Grammar, wrong_row};
 use mmtel_directory::Directory;
-use mmtel_outside::Event;
+use mmtel_environment::Event;
 use mmtel_script::{ScriptFault, ScriptLink};
-use mmtel_told::Told;
+use mmtel_test_tables::Transcript;
 use mmtel_types::Addr;
 use std::alloc::Global;
 
@@ -15,44 +15,44 @@ const SCRIPT: &[u8] =
     b"# One of each kind.\nat 0 peer 1\n|OPTIONS sip:a@h SIP/2.0\n#|\n\n|\n+a \\|+\nx000d0aff\nat 5 web\n+GE\n+T\nat 4 quiet\nat 250000000000000 peer 2\nx\nx7cf0\n+";
 
 /// Writes the port of the source of a datagram, of an address of the host itself.
-fn tell_port(told: &mut Told, from: Addr) {
-    told.keep(from.is_same(peer_addr(from.port)));
-    told.add(b"datagram");
-    told.add_spaced_number(u64::from(from.port));
+fn write_port(transcript: &mut Transcript, from: Addr) {
+    transcript.fail_unless(from.is_same(peer_addr(from.port)));
+    transcript.add(b"datagram");
+    transcript.add_spaced_number(u64::from(from.port));
 }
 
 /// Writes an event: a datagram with its port, a web request or a tick; its moment, and its bytes.
-fn tell_event(told: &mut Told, event: &Event) {
+fn write_event(transcript: &mut Transcript, event: &Event) {
     match event {
         Event::Datagram { from, at, bytes } => {
-            tell_port(told, *from);
-            told.add_spaced_number(at.ms());
-            told.add(b" ");
-            told.add(bytes.bytes());
+            write_port(transcript, *from);
+            transcript.add_spaced_number(at.ms());
+            transcript.add(b" ");
+            transcript.add(bytes.bytes());
         }
         Event::Web { at, bytes } => {
-            told.add(b"web");
-            told.add_spaced_number(at.ms());
-            told.add(b" ");
-            told.add(bytes.bytes());
+            transcript.add(b"web");
+            transcript.add_spaced_number(at.ms());
+            transcript.add(b" ");
+            transcript.add(bytes.bytes());
         }
         Event::Quiet { at } => {
-            told.add(b"quiet");
-            told.add_spaced_number(at.ms());
+            transcript.add(b"quiet");
+            transcript.add_spaced_number(at.ms());
         }
     }
-    told.add(b"\n");
+    transcript.add(b"\n");
 }
 
 /// Writes the events of the script above, and how many there are.
-fn tell_script(told: &mut Told, directory: &Directory) {
-    match ScriptLink::read(told.alloc, SCRIPT, &directory.peers) {
-        Err(_) => told.fail(),
+fn write_script(transcript: &mut Transcript, directory: &Directory) {
+    match ScriptLink::read(transcript.alloc, SCRIPT, &directory.peers) {
+        Err(_) => transcript.fail(),
         Ok(script) => {
             for event in script.events() {
-                tell_event(told, event);
+                write_event(transcript, event);
             }
-            told.add_number(script.len() as u64);
+            transcript.add_number(script.len() as u64);
             drop(script);
         }
     }
@@ -66,12 +66,12 @@ datagram 5072 250000000000000 |\xf0
 4";
 
 fn wrong_script(alloc: Global) -> usize {
-    let mut told = Told::new(alloc);
-    if let Some(directory) = home(&mut told) {
-        tell_script(&mut told, &directory);
+    let mut transcript = Transcript::new(alloc);
+    if let Some(directory) = home(&mut transcript) {
+        write_script(&mut transcript, &directory);
         drop(directory);
     }
-    told.wrong_line(SCRIPT_TOLD)
+    transcript.wrong_line(SCRIPT_TOLD)
 }
 
 /// The number of the line in which a script breaks the grammar; 0 where it is read.
@@ -149,9 +149,9 @@ impl Grammar for Scripts<'_> {
 
 /// The number of the first row that is wrong; 0 where none is.
 fn wrong_rows(alloc: Global, table: &[u8]) -> usize {
-    let mut told = Told::new(alloc);
-    let directory = home(&mut told);
-    drop(told);
+    let mut transcript = Transcript::new(alloc);
+    let directory = home(&mut transcript);
+    drop(transcript);
     match directory {
         None => 1,
         Some(directory) => {

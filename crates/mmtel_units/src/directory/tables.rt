@@ -1,6 +1,6 @@
 //! Tables of texts that break a grammar: one text each, a row a line.
 
-use mmtel_told::{Told, cut, next_line};
+use mmtel_test_tables::{Transcript, next_line, split_or_all};
 use std::alloc::Global;
 
 /// The test of a table.
@@ -10,27 +10,27 @@ pub trait Grammar {
 }
 
 /// Writes a row with its result: the number of the line that breaks the grammar, `|`, and the lines, each ended by `;`, which are preceded by others.
-fn tell_row<G: Grammar>(told: &mut Told, grammar: &G, before: &[u8], row: &[u8]) {
-    let (_number, lines) = cut(b'|', row);
-    let mut text = Told::new(told.alloc);
+fn write_row<G: Grammar>(transcript: &mut Transcript, grammar: &G, before: &[u8], row: &[u8]) {
+    let (_number, lines) = split_or_all(b'|', row);
+    let mut text = Transcript::new(transcript.alloc);
     text.add(before);
     text.add_ended(b';', lines, b"\n");
-    told.keep(!text.has_failed());
-    told.add_number(grammar.broken(told.alloc, text.bytes()));
-    told.add(b"|");
-    told.add_line(lines);
+    transcript.fail_unless(!text.has_failed());
+    transcript.add_number(grammar.broken(transcript.alloc, text.bytes()));
+    transcript.add(b"|");
+    transcript.add_line(lines);
 }
 
 /// The number of the first row that is wrong, from 1; 0 where none is.
 pub fn wrong_row<G: Grammar>(alloc: Global, grammar: &G, before: &[u8], table: &[u8]) -> usize {
-    let mut told = Told::new(alloc);
+    let mut transcript = Transcript::new(alloc);
     let mut rest = table;
     for _ in 0..100 {
         if !rest.is_empty() {
             let (row, later) = next_line(rest);
             rest = later;
-            tell_row(&mut told, grammar, before, row);
+            write_row(&mut transcript, grammar, before, row);
         }
     }
-    told.wrong_line(table)
+    transcript.wrong_line(table)
 }

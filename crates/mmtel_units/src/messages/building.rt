@@ -1,13 +1,13 @@
 //! Header fields that the server builds, and how it identifies itself in them.
 
 use crate::asserting::assert_right;
-use crate::messages::drafts::{request, tell_lines};
+use crate::messages::drafts::{request, write_lines_to};
 use mmtel_lex::{List, NoMemory, Text};
 use mmtel_message::{
     Line, Msg, add_bytes, add_decimal, add_line, add_named, add_passed, addr_text, contact_text,
-    ip_text, tagged, via_text,
+    ip_text, tagged_value, via_text,
 };
-use mmtel_told::Told;
+use mmtel_test_tables::Transcript;
 use mmtel_types::Addr;
 use std::alloc::Global;
 
@@ -24,45 +24,50 @@ const SIP: Addr = Addr {
 };
 
 /// Adds a header field whose value was built.
-fn add_made(told: &mut Told, lines: &mut List<Line>, name: &[u8], value: Result<Text, NoMemory>) {
-    let value = told.made(value);
-    let done = add_line(told.alloc, lines, name, value);
-    told.keep(done.is_ok());
+fn add_made(
+    transcript: &mut Transcript,
+    lines: &mut List<Line>,
+    name: &[u8],
+    value: Result<Text, NoMemory>,
+) {
+    let value = transcript.text_or_fail(value);
+    let done = add_line(transcript.alloc, lines, name, value);
+    transcript.fail_unless(done.is_ok());
 }
 
 /// A header field whose bytes are these.
-fn add(told: &mut Told, lines: &mut List<Line>, name: &[u8], value: &[u8]) {
-    let done = add_bytes(told.alloc, lines, name, value);
-    told.keep(done.is_ok());
+fn add(transcript: &mut Transcript, lines: &mut List<Line>, name: &[u8], value: &[u8]) {
+    let done = add_bytes(transcript.alloc, lines, name, value);
+    transcript.fail_unless(done.is_ok());
 }
 
 /// Header fields of each kind, as the server builds them.
-fn build(told: &mut Told, lines: &mut List<Line>) {
-    let alloc = told.alloc;
-    add_made(told, lines, b"X-Ip", ip_text(alloc, FAR.ip));
-    add_made(told, lines, b"X-Addr", addr_text(alloc, FAR));
-    add_made(told, lines, b"Via", via_text(alloc, SIP, b"T-4"));
-    add_made(told, lines, b"Contact", contact_text(alloc, SIP));
-    let bare = told.copy(b"<sip:b@h>;x");
-    add_made(told, lines, b"To", tagged(alloc, bare, b"t-1"));
-    add(told, lines, b"CSeq", b"1 INVITE");
+fn build(transcript: &mut Transcript, lines: &mut List<Line>) {
+    let alloc = transcript.alloc;
+    add_made(transcript, lines, b"X-Ip", ip_text(alloc, FAR.ip));
+    add_made(transcript, lines, b"X-Addr", addr_text(alloc, FAR));
+    add_made(transcript, lines, b"Via", via_text(alloc, SIP, b"T-4"));
+    add_made(transcript, lines, b"Contact", contact_text(alloc, SIP));
+    let bare = transcript.copy(b"<sip:b@h>;x");
+    add_made(transcript, lines, b"To", tagged_value(alloc, bare, b"t-1"));
+    add(transcript, lines, b"CSeq", b"1 INVITE");
     let done = add_decimal(alloc, lines, b"Max-Forwards", 69);
-    told.keep(done.is_ok());
+    transcript.fail_unless(done.is_ok());
 }
 
 /// What was received: all header fields of it, and those of a name.
-fn pass(told: &mut Told, lines: &mut List<Line>) {
+fn pass(transcript: &mut Transcript, lines: &mut List<Line>) {
     let mut received = List::new();
-    add(told, &mut received, b"supported", b"histinfo");
-    add(told, &mut received, b"Subject", b"lunch");
-    add(told, &mut received, b"Supported", b"timer");
-    let done = add_passed(told.alloc, lines, received.items());
-    told.keep(done.is_ok());
-    let start = request(told, b"X");
+    add(transcript, &mut received, b"supported", b"histinfo");
+    add(transcript, &mut received, b"Subject", b"lunch");
+    add(transcript, &mut received, b"Supported", b"timer");
+    let done = add_passed(transcript.alloc, lines, received.items());
+    transcript.fail_unless(done.is_ok());
+    let start = request(transcript, b"X");
     let message = Msg::of(start, received, Text::new());
-    let done = add_named(told.alloc, lines, b"SUPPORTED", &message.lines());
+    let done = add_named(transcript.alloc, lines, b"SUPPORTED", &message.lines());
     drop(message);
-    told.keep(done.is_ok());
+    transcript.fail_unless(done.is_ok());
 }
 
 /// Via and Contact by RFC 3261 §8.1.1.7 and §8.1.1.8, and a tag after a To value (§19.3); then all that was received, and what of it has a name, which is compared without case
@@ -84,13 +89,13 @@ Supported: timer
 
 /// The number of the first line that differs; 0 where none does.
 fn wrong_built(alloc: Global) -> usize {
-    let mut told = Told::new(alloc);
+    let mut transcript = Transcript::new(alloc);
     let mut lines = List::new();
-    build(&mut told, &mut lines);
-    pass(&mut told, &mut lines);
-    tell_lines(&mut told, lines.items());
+    build(&mut transcript, &mut lines);
+    pass(&mut transcript, &mut lines);
+    write_lines_to(&mut transcript, lines.items());
     drop(lines);
-    told.wrong_line(BUILT)
+    transcript.wrong_line(BUILT)
 }
 
 #[test]

@@ -1,12 +1,12 @@
 //! History-Info: reading, diversions, marks and masks.
 
 use crate::asserting::assert_right;
+use mmtel_base::number_up_to;
 use mmtel_history::{
     Entry, History, HistoryFault, read_values, with_cause, without_cause, write_entry,
 };
 use mmtel_lex::{List, Text};
-use mmtel_scan::number_up_to;
-use mmtel_told::{Rows, Told, cut, wrong_line};
+use mmtel_test_tables::{RowRunner, Transcript, split_or_all, wrong_line};
 use std::alloc::Global;
 use std::mem;
 
@@ -16,46 +16,52 @@ fn number(digits: &[u8]) -> u16 {
 }
 
 /// Writes an entry as `URI|index|cause|hidden or shown|rest`.
-fn tell_parts(told: &mut Told, entry: &Entry) {
-    told.add(entry.uri.bytes());
-    told.add(b"|");
-    told.add(entry.index.bytes());
-    told.add(b"|");
+fn write_parts(transcript: &mut Transcript, entry: &Entry) {
+    transcript.add(entry.uri.bytes());
+    transcript.add(b"|");
+    transcript.add(entry.index.bytes());
+    transcript.add(b"|");
     if let Some(cause) = entry.cause {
-        told.add_number(u64::from(cause));
+        transcript.add_number(u64::from(cause));
     }
-    told.add_if(entry.hidden, b"|hidden|", b"|shown|");
-    told.add_line(entry.rest.bytes());
+    transcript.add_if(entry.hidden, b"|hidden|", b"|shown|");
+    transcript.add_line(entry.rest.bytes());
 }
 
 /// Writes a copy of an entry in the same way.
-fn tell_copy(told: &mut Told, entry: &Entry) {
-    match entry.copied(told.alloc) {
+fn write_copy(transcript: &mut Transcript, entry: &Entry) {
+    match entry.copied(transcript.alloc) {
         Ok(copy) => {
-            tell_parts(told, &copy);
+            write_parts(transcript, &copy);
             drop(copy);
         }
-        Err(_) => told.fail(),
+        Err(_) => transcript.fail(),
     }
 }
 
 /// Writes the values of a history, one a line.
-fn tell_history(told: &mut Told, history: &History) {
+fn write_history(transcript: &mut Transcript, history: &History) {
     for entry in history.entries() {
-        let value = write_entry(told.alloc, entry);
-        told.add_made(value);
+        let value = write_entry(transcript.alloc, entry);
+        transcript.add_text_or_fail(value);
     }
 }
 
 /// One more diversion by bob.
-pub fn divert(told: &mut Told, history: &mut History, target: &[u8], cause: u16, hide_last: bool) {
-    let from = told.copy(b"sip:bob@home.example");
-    let target = told.copy(target);
+pub fn divert(
+    transcript: &mut Transcript,
+    history: &mut History,
+    target: &[u8],
+    cause: u16,
+    hide_last: bool,
+) {
+    let from = transcript.copy(b"sip:bob@home.example");
+    let target = transcript.copy(target);
     if history.entries().len() > 47 {
-        told.fail();
+        transcript.fail();
     } else {
-        let done = history.append(told.alloc, &from, &target, cause, hide_last);
-        told.keep(done.is_ok());
+        let done = history.append(transcript.alloc, &from, &target, cause, hide_last);
+        transcript.fail_unless(done.is_ok());
     }
 }
 
@@ -68,28 +74,28 @@ struct Histories {
 
 impl Histories {
     /// Adds a value.
-    fn push(&mut self, told: &mut Told, value: &[u8]) {
-        let value = told.copy(value);
-        let done = self.values.push(told.alloc, value);
-        told.keep(done.is_ok());
+    fn push(&mut self, transcript: &mut Transcript, value: &[u8]) {
+        let value = transcript.copy(value);
+        let done = self.values.push(transcript.alloc, value);
+        transcript.fail_unless(done.is_ok());
     }
 
     /// Reads the values; else writes the index of the first that cannot be read.
-    fn read(&mut self, told: &mut Told) {
-        match read_values(told.alloc, &self.values) {
+    fn read(&mut self, transcript: &mut Transcript) {
+        match read_values(transcript.alloc, &self.values) {
             Ok(history) => drop(mem::replace(&mut self.history, history)),
             Err(HistoryFault::Malformed { at }) => {
-                told.add(b"malformed ");
-                told.add_number(at as u64);
-                told.add(b"\n");
+                transcript.add(b"malformed ");
+                transcript.add_number(at as u64);
+                transcript.add(b"\n");
             }
-            Err(HistoryFault::NoMemory) => told.fail(),
+            Err(HistoryFault::NoMemory) => transcript.fail(),
         }
     }
 
-    fn tell_count(&self, told: &mut Told) {
-        told.add_number(u64::from(self.history.diversions()));
-        told.add(b"\n");
+    fn write_count(&self, transcript: &mut Transcript) {
+        transcript.add_number(u64::from(self.history.diversions()));
+        transcript.add(b"\n");
     }
 
     /// Removes all values.
@@ -98,25 +104,25 @@ impl Histories {
     }
 
     /// Reads this value alone, and writes the parts of its entry.
-    fn tell_entry(&mut self, told: &mut Told, value: &[u8]) {
+    fn write_entry(&mut self, transcript: &mut Transcript, value: &[u8]) {
         self.forget();
-        self.push(told, value);
-        self.read(told);
+        self.push(transcript, value);
+        self.read(transcript);
         for entry in self.history.entries() {
-            tell_parts(told, entry);
+            write_parts(transcript, entry);
         }
     }
 
     /// The entry of a diversion to a voice mail by a cause, and how many there are.
-    fn tell_caused(&mut self, told: &mut Told, cause: u16) {
-        let mut value = Told::new(told.alloc);
-        let uri = with_cause(told.alloc, b"sip:vm@example.com?Subject=x", cause);
-        let uri = value.made(uri);
+    fn write_caused(&mut self, transcript: &mut Transcript, cause: u16) {
+        let mut value = Transcript::new(transcript.alloc);
+        let uri = with_cause(transcript.alloc, b"sip:vm@example.com?Subject=x", cause);
+        let uri = value.text_or_fail(uri);
         value.add(b"<");
         value.add(uri.bytes());
         value.add(b">;index=1");
-        self.tell_entry(told, value.whole());
-        self.tell_count(told);
+        self.write_entry(transcript, value.whole());
+        self.write_count(transcript);
     }
 
     /// Hides the entry at this index, where there is one.
@@ -127,102 +133,102 @@ impl Histories {
     }
 
     /// The list for a 181, with these entries hidden.
-    fn tell_told(&self, told: &mut Told, hide_diverting: bool, hide_target: bool) {
+    fn write_reported(&self, transcript: &mut Transcript, hide_diverting: bool, hide_target: bool) {
         match self
             .history
-            .told_to_caller(told.alloc, hide_diverting, hide_target)
+            .history_for_caller(transcript.alloc, hide_diverting, hide_target)
         {
             Ok(list) => {
-                tell_history(told, &list);
+                write_history(transcript, &list);
                 drop(list);
             }
-            Err(_) => told.fail(),
+            Err(_) => transcript.fail(),
         }
     }
 
     /// The list masked: each hidden entry, or each entry.
-    fn tell_masked(&self, told: &mut Told, all: bool) {
-        match self.history.masked(told.alloc, all) {
+    fn write_masked(&self, transcript: &mut Transcript, all: bool) {
+        match self.history.masked(transcript.alloc, all) {
             Ok(masked) => {
-                tell_history(told, &masked);
+                write_history(transcript, &masked);
                 drop(masked);
             }
-            Err(_) => told.fail(),
+            Err(_) => transcript.fail(),
         }
     }
 
     /// A copy of the list, and one of each entry.
-    fn tell_copies(&self, told: &mut Told) {
-        match self.history.copied(told.alloc) {
+    fn write_copies(&self, transcript: &mut Transcript) {
+        match self.history.copied(transcript.alloc) {
             Ok(copy) => {
-                tell_history(told, &copy);
+                write_history(transcript, &copy);
                 drop(copy);
             }
-            Err(_) => told.fail(),
+            Err(_) => transcript.fail(),
         }
         for entry in self.history.entries() {
-            tell_copy(told, entry);
+            write_copy(transcript, entry);
         }
     }
 
     /// The list that values give.
-    fn tell_values(&mut self, told: &mut Told, word: &[u8], rest: &[u8]) {
+    fn write_values(&mut self, transcript: &mut Transcript, word: &[u8], rest: &[u8]) {
         match word {
             b"new" => {
                 self.forget();
-                drop(mem::replace(&mut self.history, History::new(told.alloc)));
+                drop(mem::replace(&mut self.history, History::new(transcript.alloc)));
             }
-            b"value" => self.push(told, rest),
+            b"value" => self.push(transcript, rest),
             b"many" => {
                 for _ in 0..32 {
-                    self.push(told, rest);
+                    self.push(transcript, rest);
                 }
             }
             b"second" => {
                 self.forget();
-                self.push(told, b"<sip:a@b>;index=1");
-                self.push(told, rest);
-                self.read(told);
+                self.push(transcript, b"<sip:a@b>;index=1");
+                self.push(transcript, rest);
+                self.read(transcript);
             }
-            b"read" => self.read(told),
-            b"entry" => self.tell_entry(told, rest),
-            b"caused" => self.tell_caused(told, number(rest)),
-            _ => self.tell_list(told, word, rest),
+            b"read" => self.read(transcript),
+            b"entry" => self.write_entry(transcript, rest),
+            b"caused" => self.write_caused(transcript, number(rest)),
+            _ => self.write_list(transcript, word, rest),
         }
     }
 
     /// The list after each operation.
-    fn tell_list(&mut self, told: &mut Told, word: &[u8], rest: &[u8]) {
-        let (first, second) = cut(b' ', rest);
+    fn write_list(&mut self, transcript: &mut Transcript, word: &[u8], rest: &[u8]) {
+        let (first, second) = split_or_all(b' ', rest);
         match word {
-            b"divert" => divert(told, &mut self.history, second, number(first), false),
-            b"hiding" => divert(told, &mut self.history, second, number(first), true),
+            b"divert" => divert(transcript, &mut self.history, second, number(first), false),
+            b"hiding" => divert(transcript, &mut self.history, second, number(first), true),
             b"hide" => self.hide(usize::from(number(rest))),
-            b"list" => tell_history(told, &self.history),
-            b"count" => self.tell_count(told),
-            b"told" => self.tell_told(
-                told,
+            b"list" => write_history(transcript, &self.history),
+            b"count" => self.write_count(transcript),
+            b"told" => self.write_reported(
+                transcript,
                 rest.first() == Some(&b'y'),
                 rest.last() == Some(&b'y'),
             ),
-            b"mask" => self.tell_masked(told, rest == b"all".as_slice()),
-            b"copy" => self.tell_copies(told),
+            b"mask" => self.write_masked(transcript, rest == b"all".as_slice()),
+            b"copy" => self.write_copies(transcript),
             b"without" => {
-                let uri = without_cause(told.alloc, rest);
-                told.add_made(uri);
+                let uri = without_cause(transcript.alloc, rest);
+                transcript.add_text_or_fail(uri);
             }
             _ => {
-                let uri = with_cause(told.alloc, second, number(first));
-                told.add_made(uri);
+                let uri = with_cause(transcript.alloc, second, number(first));
+                transcript.add_text_or_fail(uri);
             }
         }
     }
 }
 
-impl Rows for Histories {
-    fn tell(&mut self, told: &mut Told, asked: &[u8]) {
-        let (word, rest) = cut(b' ', asked);
-        self.tell_values(told, word, rest);
+impl RowRunner for Histories {
+    fn run_row(&mut self, transcript: &mut Transcript, asked: &[u8]) {
+        let (word, rest) = split_or_all(b' ', asked);
+        self.write_values(transcript, word, rest);
     }
 }
 

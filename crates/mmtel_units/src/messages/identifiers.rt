@@ -4,7 +4,7 @@ use crate::asserting::assert_right;
 use crate::messages::drafts::{message_of_lines, request};
 use mmtel_lex::Text;
 use mmtel_message::Msg;
-use mmtel_told::Told;
+use mmtel_test_tables::Transcript;
 use std::alloc::Global;
 
 /// A request whose fields are header fields in the compact form, one of them folded.
@@ -27,56 +27,56 @@ nothing
 ";
 
 /// Writes a part and a space after it.
-fn tell_part(told: &mut Told, part: &[u8]) {
-    told.add(part);
-    told.add(b" ");
+fn write_part(transcript: &mut Transcript, part: &[u8]) {
+    transcript.add(part);
+    transcript.add(b" ");
 }
 
 /// Writes what the five fields give.
-fn tell_identifiers(told: &mut Told, message: &Msg) {
+fn write_identifiers(transcript: &mut Transcript, message: &Msg) {
     match message.identifiers() {
-        None => told.add(b"nothing"),
+        None => transcript.add(b"nothing"),
         Some(said) => {
-            tell_part(told, said.branch);
-            tell_part(told, said.sent_by);
-            tell_part(told, said.from_tag);
-            tell_part(told, said.to_tag);
-            tell_part(told, said.call_id);
-            told.add_number(u64::from(said.number));
-            told.add(b" ");
-            told.add(said.method);
+            write_part(transcript, said.branch);
+            write_part(transcript, said.sent_by);
+            write_part(transcript, said.from_tag);
+            write_part(transcript, said.to_tag);
+            write_part(transcript, said.call_id);
+            transcript.add_number(u64::from(said.number));
+            transcript.add(b" ");
+            transcript.add(said.method);
         }
     }
-    told.add(b"\n");
+    transcript.add(b"\n");
 }
 
 /// Writes the same of a message that was read, and of it with edits.
-fn tell_edited(told: &mut Told, message: &mut Msg) {
-    tell_identifiers(told, message);
-    let to = told.copy(b"<sip:bob@far.example>;tag");
-    let done = message.set(told.alloc, b"To", to);
-    told.keep(done.is_ok());
-    tell_identifiers(told, message);
+fn write_edited(transcript: &mut Transcript, message: &mut Msg) {
+    write_identifiers(transcript, message);
+    let to = transcript.copy(b"<sip:bob@far.example>;tag");
+    let done = message.set(transcript.alloc, b"To", to);
+    transcript.fail_unless(done.is_ok());
+    write_identifiers(transcript, message);
     message.drop_all(b"Call-ID");
-    tell_identifiers(told, message);
+    write_identifiers(transcript, message);
 }
 
 /// The number of the first line that differs from the actual one; 0 where none does.
 fn wrong_identifiers(alloc: Global) -> usize {
-    let mut told = Told::new(alloc);
-    match message_of_lines(&mut told, BYE) {
+    let mut transcript = Transcript::new(alloc);
+    match message_of_lines(&mut transcript, BYE) {
         None => {}
         Some(message) => {
             let mut message = message;
-            tell_edited(&mut told, &mut message);
+            write_edited(&mut transcript, &mut message);
             drop(message);
         }
     }
-    let start = request(&mut told, b"BYE");
+    let start = request(&mut transcript, b"BYE");
     let built = Msg::new(start, Text::new());
-    tell_identifiers(&mut told, &built);
+    write_identifiers(&mut transcript, &built);
     drop(built);
-    told.wrong_line(SAID)
+    transcript.wrong_line(SAID)
 }
 
 #[test]

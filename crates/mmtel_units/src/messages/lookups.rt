@@ -1,7 +1,7 @@
 //! Look-ups of accounts, peers and routes in tables of some hundred entries, each compared with a linear search of the whole list.
 
 use mmtel_lex::{List, Uri, read_uri, same_identity};
-use mmtel_told::Told;
+use mmtel_test_tables::Transcript;
 use mmtel_trust::{AccountIdentity, Accounts, KnownPeer, PeerTable, Route, TableFault};
 use mmtel_types::{Account, Addr, Peer};
 use std::alloc::Global;
@@ -35,50 +35,50 @@ impl Dice {
 }
 
 /// Adds up to four digits, of which there are three, with visual separators among them or not.
-fn add_digits(told: &mut Told, dice: &mut Dice, marks: &[&[u8]]) {
+fn add_digits(transcript: &mut Transcript, dice: &mut Dice, marks: &[&[u8]]) {
     let digits = dice.below(4);
     for _ in 0..digits {
-        told.add(dice.one_of(&[b"1", b"2", b"3"]));
-        told.add(dice.one_of(marks));
+        transcript.add(dice.one_of(&[b"1", b"2", b"3"]));
+        transcript.add(dice.one_of(marks));
     }
-    told.add(dice.one_of(&[b"1", b"2"]));
+    transcript.add(dice.one_of(&[b"1", b"2"]));
 }
 
 /// Adds a host, of which there are five, in whichever case.
-fn add_host(told: &mut Told, dice: &mut Dice) {
-    told.add(dice.one_of(&[b"h", b"H"]));
-    told.add(dice.one_of(&[b"1", b"2", b"3", b"4", b"5"]));
-    told.add(dice.one_of(&[b".example", b".EXAMPLE"]));
+fn add_host(transcript: &mut Transcript, dice: &mut Dice) {
+    transcript.add(dice.one_of(&[b"h", b"H"]));
+    transcript.add(dice.one_of(&[b"1", b"2", b"3", b"4", b"5"]));
+    transcript.add(dice.one_of(&[b".example", b".EXAMPLE"]));
 }
 
 /// Adds a sip URI: without a user, of a user, or of a number that it may represent.
-fn add_sip(told: &mut Told, dice: &mut Dice) {
-    told.add(b"sip:");
+fn add_sip(transcript: &mut Transcript, dice: &mut Dice) {
+    transcript.add(b"sip:");
     match dice.below(4) {
         0 => {}
-        1 => told.add(dice.one_of(&[b"a@", b"A@", b"b@", b"1@", b"a+1@"])),
+        1 => transcript.add(dice.one_of(&[b"a@", b"A@", b"b@", b"1@", b"a+1@"])),
         _ => {
-            told.add(b"+");
-            add_digits(told, dice, &[b"", b"", b"-"]);
-            told.add(b"@");
+            transcript.add(b"+");
+            add_digits(transcript, dice, &[b"", b"", b"-"]);
+            transcript.add(b"@");
         }
     }
-    add_host(told, dice);
-    told.add(dice.one_of(&[b"", b";user=phone", b";user=ip"]));
+    add_host(transcript, dice);
+    transcript.add(dice.one_of(&[b"", b";user=phone", b";user=ip"]));
 }
 
 /// A URI that is drawn.
 fn drawn_uri(alloc: Global, dice: &mut Dice) -> Option<Uri> {
-    let mut told = Told::new(alloc);
+    let mut transcript = Transcript::new(alloc);
     if dice.below(2) == 0 {
-        add_sip(&mut told, dice);
+        add_sip(&mut transcript, dice);
     } else {
-        told.add(b"tel:");
-        told.add(dice.one_of(&[b"+", b"+(", b""]));
-        add_digits(&mut told, dice, &[b"", b"-", b".", b")"]);
+        transcript.add(b"tel:");
+        transcript.add(dice.one_of(&[b"+", b"+(", b""]));
+        add_digits(&mut transcript, dice, &[b"", b"-", b".", b")"]);
     }
-    let read = read_uri(alloc, told.bytes());
-    drop(told);
+    let read = read_uri(alloc, transcript.bytes());
+    drop(transcript);
     match read {
         Ok(uri) => Some(uri),
         Err(_) => None,
@@ -182,12 +182,12 @@ fn of(peers: &[KnownPeer], number: u16) -> Option<KnownPeer> {
 }
 
 /// The name of a route that is drawn: a host, or a prefix of numbers.
-fn add_name(told: &mut Told, dice: &mut Dice) {
+fn add_name(transcript: &mut Transcript, dice: &mut Dice) {
     if dice.below(4) == 0 {
-        add_host(told, dice);
+        add_host(transcript, dice);
     } else {
-        told.add(b"+");
-        add_digits(told, dice, &[b""]);
+        transcript.add(b"+");
+        add_digits(transcript, dice, &[b""]);
     }
 }
 
@@ -288,11 +288,11 @@ impl Tables {
         }
     }
 
-    fn add_route(&mut self, told: &mut Told, name: &[u8], number: u16) {
+    fn add_route(&mut self, transcript: &mut Transcript, name: &[u8], number: u16) {
         let is_taken = of_host(self.routes.items(), name) != 0;
         let is_there = of(self.peers.items(), number).is_some();
-        let named = told.copy(name);
-        let done = self.table.add_route(told.alloc, named, Peer(number));
+        let named = transcript.copy(name);
+        let done = self.table.add_route(transcript.alloc, named, Peer(number));
         let due = if is_taken {
             Err(TableFault::Taken)
         } else if is_there {
@@ -303,10 +303,10 @@ impl Tables {
         self.note(done == due);
         if done.is_ok() {
             let route = Route {
-                name: told.copy(name),
+                name: transcript.copy(name),
                 peer: Peer(number),
             };
-            let kept = self.routes.push(told.alloc, route).is_ok();
+            let kept = self.routes.push(transcript.alloc, route).is_ok();
             self.note(kept);
         }
     }
@@ -342,20 +342,20 @@ impl Tables {
 /// How many of the results of a table of peers and routes are wrong.
 fn wrong_peers(alloc: Global) -> u32 {
     let mut dice = Dice(11);
-    let mut told = Told::new(alloc);
+    let mut transcript = Transcript::new(alloc);
     let mut tables = Tables::new();
     for _ in 0..300 {
         let one = drawn_peer(&mut dice);
         tables.add_peer(alloc, one);
     }
     for _ in 0..400 {
-        let mut name = Told::new(alloc);
+        let mut name = Transcript::new(alloc);
         add_name(&mut name, &mut dice);
         let number = drawn_peer(&mut dice).peer.0;
-        tables.add_route(&mut told, name.bytes(), number);
+        tables.add_route(&mut transcript, name.bytes(), number);
         drop(name);
     }
-    tables.add_route(&mut told, b"*", 1);
+    tables.add_route(&mut transcript, b"*", 1);
     for _ in 0..10_000 {
         let one = drawn_peer(&mut dice);
         let is_right = tables.is_right_of(one.peer.0) && tables.is_right_at(one.addr);
@@ -366,8 +366,8 @@ fn wrong_peers(alloc: Global) -> u32 {
             tables.note(is_right);
         }
     }
-    let failed = told.has_failed();
-    drop(told);
+    let failed = transcript.has_failed();
+    drop(transcript);
     tables.note(!failed);
     let wrong = tables.wrong;
     drop(tables);

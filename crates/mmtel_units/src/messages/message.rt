@@ -2,13 +2,13 @@
 
 use crate::asserting::assert_right;
 use crate::messages::drafts::{of_lines, request};
-use crate::messages::places::are_right;
+use crate::messages::spans::are_right;
 use mmtel_lex::{List, NoMemory, Text};
 use mmtel_message::{
     Mode, Msg, ReadFault, Start, is_readable, joined_by, line_texts, param_value, read, read_cseq,
     read_five, read_via, reply_with, values_in, values_named,
 };
-use mmtel_told::{Told, next_line};
+use mmtel_test_tables::{Transcript, next_line};
 use std::alloc::Global;
 
 /// The code of a response; 0 of a request.
@@ -20,80 +20,80 @@ fn code_of(message: &Msg) -> u16 {
 }
 
 /// Writes the code of a reply, or `none`.
-fn tell_code(told: &mut Told, reply: &Option<Msg>) {
+fn write_code(transcript: &mut Transcript, reply: &Option<Msg>) {
     match reply {
-        Some(reply) => told.add_number(u64::from(code_of(reply))),
-        None => told.add(b"none"),
+        Some(reply) => transcript.add_number(u64::from(code_of(reply))),
+        None => transcript.add(b"none"),
     }
 }
 
 /// Writes a refusal and the code of its reply.
-fn tell_fault(told: &mut Told, fault: &ReadFault) {
+fn write_fault(transcript: &mut Transcript, fault: &ReadFault) {
     match fault {
         ReadFault::TooLarge { reply } => {
-            told.add(b"too large, ");
-            tell_code(told, reply);
+            transcript.add(b"too large, ");
+            write_code(transcript, reply);
         }
-        ReadFault::NotSip => told.add(b"not sip"),
+        ReadFault::NotSip => transcript.add(b"not sip"),
         ReadFault::TooMany { reply } => {
-            told.add(b"too many, ");
-            tell_code(told, reply);
+            transcript.add(b"too many, ");
+            write_code(transcript, reply);
         }
         ReadFault::Bad { at, reply } => {
-            told.add(b"bad ");
-            told.add_number(*at as u64);
-            told.add(b", ");
-            tell_code(told, reply);
+            transcript.add(b"bad ");
+            transcript.add_number(*at as u64);
+            transcript.add(b", ");
+            write_code(transcript, reply);
         }
-        ReadFault::NoMemory => told.fail(),
+        ReadFault::NoMemory => transcript.fail(),
     }
 }
 
 /// Writes the result for the bytes: `read`, or the refusal and the code of its reply.
-fn tell_outcome(told: &mut Told, bytes: &[u8]) {
-    match read(told.alloc, bytes) {
+fn write_outcome(transcript: &mut Transcript, bytes: &[u8]) {
+    match read(transcript.alloc, bytes) {
         Ok(message) => {
-            told.keep(are_right(&message));
+            transcript.fail_unless(are_right(&message));
             drop(message);
-            told.add(b"read");
+            transcript.add(b"read");
         }
         Err(fault) => {
-            tell_fault(told, &fault);
+            write_fault(transcript, &fault);
             drop(fault);
         }
     }
 }
 
 /// Writes the text of a message.
-fn tell_message(told: &mut Told, message: &Msg) {
-    let text = message.text(told.alloc);
-    let text = told.made(text);
-    told.add(text.bytes());
+fn write_message(transcript: &mut Transcript, message: &Msg) {
+    let text = message.text(transcript.alloc);
+    let text = transcript.text_or_fail(text);
+    transcript.add(text.bytes());
 }
 
 /// Writes the text of the reply that a refusal carries, where it carries one.
-fn tell_refusal(told: &mut Told, fault: &ReadFault) {
+fn write_refusal(transcript: &mut Transcript, fault: &ReadFault) {
     match fault {
-        ReadFault::TooLarge { reply: Some(reply) } => tell_message(told, reply),
-        ReadFault::TooMany { reply: Some(reply) } => tell_message(told, reply),
+        ReadFault::TooLarge { reply: Some(reply) } => write_message(transcript, reply),
+        ReadFault::TooMany { reply: Some(reply) } => write_message(transcript, reply),
         ReadFault::Bad {
             at: _,
             reply: Some(reply),
-        } => tell_message(told, reply),
+        } => write_message(transcript, reply),
         _ => {}
     }
 }
 
 /// Writes the text of the message that is read, or of the reply.
-fn tell_answer(told: &mut Told, bytes: &[u8]) {
-    match read(told.alloc, bytes) {
+fn write_own_response(transcript: &mut Transcript, bytes: &[u8]) {
+    match read(transcript.alloc, bytes) {
         Ok(message) => {
-            tell_message(told, &message);
-            told.keep(are_right(&message));
+            write_message(transcript, &message);
+            transcript.fail_unless(are_right(&message));
             drop(message);
         }
         Err(fault) => {
-            tell_refusal(told, &fault);
+            write_refusal(transcript, &fault);
             drop(fault);
         }
     }
@@ -104,24 +104,24 @@ const USUAL: &[u8] =
     b"Via: SIP/2.0/UDP a.example;branch=z9hG4bKa1\r\nFrom: <sip:a@h>;tag=a\r\nTo:\r\n\t<sip:b@h>\t\r\nCall-ID: c1\r\n";
 
 /// Adds a header field of a message, or the usual ones.
-fn add_header(told: &mut Told, line: &[u8]) {
+fn add_header(transcript: &mut Transcript, line: &[u8]) {
     if line == b"&".as_slice() {
-        told.add(USUAL);
+        transcript.add(USUAL);
     } else {
-        told.add(line);
-        told.add(b"\r\n");
+        transcript.add(line);
+        transcript.add(b"\r\n");
     }
 }
 
 /// Adds the lines of a table up to one that begins with `mark`, each ended by CRLF; returns that line without the mark, and what follows it.
-fn add_block<'a>(told: &mut Told, mark: u8, table: &'a [u8]) -> (&'a [u8], &'a [u8]) {
+fn add_block<'a>(transcript: &mut Transcript, mark: u8, table: &'a [u8]) -> (&'a [u8], &'a [u8]) {
     let mut rest = table;
     for _ in 0..200 {
         let (line, after) = next_line(rest);
         rest = after;
         match line {
             [first, end @ ..] if *first == mark => return (end, rest),
-            _ => add_header(told, line),
+            _ => add_header(transcript, line),
         }
     }
     (b"", rest)
@@ -244,11 +244,11 @@ Content-Length: 0
 "##;
 
 /// Adds the result for the first message of a table, and the expected text; returns what follows them.
-fn add_read<'a>(came: &mut Told, wanted: &mut Told, table: &'a [u8]) -> &'a [u8] {
-    let mut text = Told::new(came.alloc);
+fn add_read<'a>(came: &mut Transcript, wanted: &mut Transcript, table: &'a [u8]) -> &'a [u8] {
+    let mut text = Transcript::new(came.alloc);
     let (end, rest) = add_block(&mut text, b'#', table);
     text.add(end);
-    tell_answer(came, text.whole());
+    write_own_response(came, text.whole());
     let (end, rest) = add_block(wanted, b'#', rest);
     wanted.add(end);
     rest
@@ -256,8 +256,8 @@ fn add_read<'a>(came: &mut Told, wanted: &mut Told, table: &'a [u8]) -> &'a [u8]
 
 /// The number of the first line in which the messages of a table are read otherwise; 0 where there is none.
 fn wrong_read(alloc: Global, table: &[u8]) -> usize {
-    let mut came = Told::new(alloc);
-    let mut wanted = Told::new(alloc);
+    let mut came = Transcript::new(alloc);
+    let mut wanted = Transcript::new(alloc);
     let mut rows = table;
     for _ in 0..10 {
         if !rows.is_empty() {
@@ -652,13 +652,13 @@ No colon
 "##;
 
 /// Adds the result for the first message of a table, and the expected one, each after its first line; returns what follows them.
-fn add_verdict<'a>(came: &mut Told, wanted: &mut Told, table: &'a [u8]) -> &'a [u8] {
-    let mut text = Told::new(came.alloc);
+fn add_verdict<'a>(came: &mut Transcript, wanted: &mut Transcript, table: &'a [u8]) -> &'a [u8] {
+    let mut text = Transcript::new(came.alloc);
     let (verdict, rest) = add_block(&mut text, b'=', table);
     let (start, _) = next_line(table);
     came.add(start);
     came.add(b"= ");
-    tell_outcome(came, text.whole());
+    write_outcome(came, text.whole());
     came.add(b"\n");
     wanted.add(start);
     wanted.add(b"=");
@@ -668,8 +668,8 @@ fn add_verdict<'a>(came: &mut Told, wanted: &mut Told, table: &'a [u8]) -> &'a [
 
 /// The number of the first message of a table, from 1, with another result; 0 where there is none.
 fn wrong_verdict(alloc: Global, table: &[u8]) -> usize {
-    let mut came = Told::new(alloc);
-    let mut wanted = Told::new(alloc);
+    let mut came = Transcript::new(alloc);
+    let mut wanted = Transcript::new(alloc);
     let mut rows = table;
     for _ in 0..40 {
         if !rows.is_empty() {
@@ -680,50 +680,50 @@ fn wrong_verdict(alloc: Global, table: &[u8]) -> usize {
 }
 
 /// The head of a message up to where more header fields may follow.
-fn add_head(told: &mut Told) {
-    told.add(b"OPTIONS sip:b@h SIP/2.0\r\n");
-    told.add(USUAL);
-    told.add(b"CSeq: 1 OPTIONS\r\n");
+fn add_head(transcript: &mut Transcript) {
+    transcript.add(b"OPTIONS sip:b@h SIP/2.0\r\n");
+    transcript.add(USUAL);
+    transcript.add(b"CSeq: 1 OPTIONS\r\n");
 }
 
 /// Adds this many copies of a piece.
-fn add_many(told: &mut Told, piece: &[u8], number: usize) {
+fn add_many(transcript: &mut Transcript, piece: &[u8], number: usize) {
     for _ in 0..number {
-        told.add(piece);
+        transcript.add(piece);
     }
 }
 
 /// Writes the result for a datagram of 16,384 bytes, and for one of a byte more.
-fn tell_large(told: &mut Told) {
-    let mut text = Told::new(told.alloc);
+fn write_large(transcript: &mut Transcript) {
+    let mut text = Transcript::new(transcript.alloc);
     add_head(&mut text);
     text.add(b"\r\n");
     let room = 16384_usize.saturating_sub(text.bytes().len());
     add_many(&mut text, b"x", room);
-    tell_outcome(told, text.whole());
-    told.add(b"\n");
+    write_outcome(transcript, text.whole());
+    transcript.add(b"\n");
     text.add(b"x");
-    tell_outcome(told, text.whole());
-    told.add(b"\n");
+    write_outcome(transcript, text.whole());
+    transcript.add(b"\n");
 }
 
 /// Writes the result for 123 header fields after the five of the head, and for this end.
-fn tell_long(told: &mut Told, end: &[u8]) {
-    let mut text = Told::new(told.alloc);
+fn write_long(transcript: &mut Transcript, end: &[u8]) {
+    let mut text = Transcript::new(transcript.alloc);
     add_head(&mut text);
     add_many(&mut text, b"X: y\r\n", 123);
     text.add(end);
-    tell_outcome(told, text.whole());
-    told.add(b"\n");
+    write_outcome(transcript, text.whole());
+    transcript.add(b"\n");
 }
 
 /// A datagram of 16,384 bytes is read, and one of a byte more is too large. A datagram of 128 header fields is read, and one of a header field more has too many, whatever that is.
 fn wrong_limit(alloc: Global) -> usize {
-    let mut told = Told::new(alloc);
-    tell_large(&mut told);
-    tell_long(&mut told, b"\r\n");
-    tell_long(&mut told, b"No colon\r\n\r\n");
-    told.wrong_line(b"read\ntoo large, 513\nread\ntoo many, 513\n")
+    let mut transcript = Transcript::new(alloc);
+    write_large(&mut transcript);
+    write_long(&mut transcript, b"\r\n");
+    write_long(&mut transcript, b"No colon\r\n\r\n");
+    transcript.wrong_line(b"read\ntoo large, 513\nread\ntoo many, 513\n")
 }
 
 /// Messages that are read and printed, those with their results, and the limits.
@@ -736,65 +736,72 @@ fn reads_messages(rt: HostRuntime) {
 }
 
 /// Writes the parts of a Via value.
-fn tell_via(told: &mut Told, value: &[u8]) {
-    match read_via(told.alloc, value) {
+fn write_via(transcript: &mut Transcript, value: &[u8]) {
+    match read_via(transcript.alloc, value) {
         Ok(via) => {
-            told.add(via.sent_by.bytes());
-            told.add(b"|");
-            told.add_number(u64::from(via.port.unwrap_or(0)));
-            told.add(b"|");
+            transcript.add(via.sent_by.bytes());
+            transcript.add(b"|");
+            transcript.add_number(u64::from(via.port.unwrap_or(0)));
+            transcript.add(b"|");
             let branch = param_value(via.params.items(), b"Branch");
-            told.add_line(branch.unwrap_or(b""));
+            transcript.add_line(branch.unwrap_or(b""));
             drop(via);
         }
-        Err(_) => told.fail(),
+        Err(_) => transcript.fail(),
     }
 }
 
 /// Writes the parts of a CSeq value.
-fn tell_cseq(told: &mut Told, value: &[u8]) {
-    match read_cseq(told.alloc, value) {
+fn write_cseq(transcript: &mut Transcript, value: &[u8]) {
+    match read_cseq(transcript.alloc, value) {
         Ok(cseq) => {
-            told.add_number(u64::from(cseq.number));
-            told.add(b"|");
-            told.add_line(cseq.method.bytes());
+            transcript.add_number(u64::from(cseq.number));
+            transcript.add(b"|");
+            transcript.add_line(cseq.method.bytes());
             drop(cseq);
         }
-        Err(_) => told.fail(),
+        Err(_) => transcript.fail(),
     }
 }
 
 /// Writes whether a value can be read as a name-addr.
-fn tell_readable(told: &mut Told, value: &[u8]) {
-    match is_readable(told.alloc, value) {
-        Ok(readable) => told.add_if(readable, b"readable\n", b"unreadable\n"),
-        Err(_) => told.fail(),
+fn write_readable(transcript: &mut Transcript, value: &[u8]) {
+    match is_readable(transcript.alloc, value) {
+        Ok(readable) => transcript.add_if(readable, b"readable\n", b"unreadable\n"),
+        Err(_) => transcript.fail(),
     }
 }
 
 /// Writes texts, joined.
-fn tell_joined(told: &mut Told, texts: Result<List<Text>, NoMemory>) {
+fn write_joined(transcript: &mut Transcript, texts: Result<List<Text>, NoMemory>) {
     match texts {
         Ok(texts) => {
-            let joined = joined_by(told.alloc, b"|", texts.items());
+            let joined = joined_by(transcript.alloc, b"|", texts.items());
             drop(texts);
-            told.add_made(joined);
+            transcript.add_text_or_fail(joined);
         }
-        Err(_) => told.fail(),
+        Err(_) => transcript.fail(),
     }
 }
 
 /// The values of RFC 3261 §20.42 with a branch, and of §20.16; a name-addr after §20.10, and one whose quotes are not closed; the values of a text, split and joined.
-fn tell_values(told: &mut Told) {
-    tell_via(
-        told,
+fn write_values(transcript: &mut Transcript) {
+    write_via(
+        transcript,
         b"SIP/2.0/UDP erlang.bell-telephone.com:5060;branch=z9hG4bK87asdks7",
     );
-    tell_cseq(told, b"4711 INVITE");
-    tell_readable(told, b"\"Mr. Watson\" <sip:watson@bell-telephone.com>");
-    tell_readable(told, b"\"Mr. Watson <sip:watson@bell-telephone.com>");
-    let values = values_in(told.alloc, Mode::Plain, b"<sip:a@h,x> , \"b,c\" <sip:d@h>");
-    tell_joined(told, values);
+    write_cseq(transcript, b"4711 INVITE");
+    write_readable(
+        transcript,
+        b"\"Mr. Watson\" <sip:watson@bell-telephone.com>",
+    );
+    write_readable(transcript, b"\"Mr. Watson <sip:watson@bell-telephone.com>");
+    let values = values_in(
+        transcript.alloc,
+        Mode::Plain,
+        b"<sip:a@h,x> , \"b,c\" <sip:d@h>",
+    );
+    write_joined(transcript, values);
 }
 
 /// The header fields that each request has.
@@ -806,26 +813,26 @@ CSeq: 1 OPTIONS
 ";
 
 /// Writes two of the five fields of a message.
-fn tell_five(told: &mut Told, message: &Msg) {
-    match read_five(told.alloc, &message.lines()) {
+fn write_five(transcript: &mut Transcript, message: &Msg) {
+    match read_five(transcript.alloc, &message.lines()) {
         Ok(five) => {
-            told.add(five.call_id.bytes());
-            told.add(b"|");
-            told.add_line(five.to.uri.bytes());
+            transcript.add(five.call_id.bytes());
+            transcript.add(b"|");
+            transcript.add_line(five.to.uri.bytes());
             drop(five);
         }
-        Err(_) => told.fail(),
+        Err(_) => transcript.fail(),
     }
 }
 
 /// Writes the text of the response to a request, which repeats header fields of the request.
-fn tell_busy(told: &mut Told, message: &Msg) {
-    match reply_with(told.alloc, 486, b"Busy Here", &message.lines()) {
+fn write_busy(transcript: &mut Transcript, message: &Msg) {
+    match reply_with(transcript.alloc, 486, b"Busy Here", &message.lines()) {
         Ok(reply) => {
-            tell_message(told, &reply);
+            write_message(transcript, &reply);
             drop(reply);
         }
-        Err(_) => told.fail(),
+        Err(_) => transcript.fail(),
     }
 }
 
@@ -837,33 +844,33 @@ subject: two
 ";
 
 /// Writes what is found by a name: the values of its header fields, by two functions; their texts; and the first of these.
-fn tell_found(told: &mut Told, message: &Msg) {
-    let alloc = told.alloc;
-    tell_joined(
-        told,
+fn write_found(transcript: &mut Transcript, message: &Msg) {
+    let alloc = transcript.alloc;
+    write_joined(
+        transcript,
         values_named(alloc, Mode::Plain, &message.lines(), b"ROUTE"),
     );
-    tell_joined(told, message.values(alloc, b"ROUTE"));
-    tell_joined(told, line_texts(alloc, &message.lines(), b"ROUTE"));
-    told.add_line(message.first(b"ROUTE").unwrap_or(b""));
+    write_joined(transcript, message.values(alloc, b"ROUTE"));
+    write_joined(transcript, line_texts(alloc, &message.lines(), b"ROUTE"));
+    transcript.add_line(message.first(b"ROUTE").unwrap_or(b""));
 }
 
 /// Sets the first header field of the name to this value.
-fn set(told: &mut Told, message: &mut Msg, name: &[u8], value: &[u8]) {
-    let value = told.copy(value);
-    let done = message.set(told.alloc, name, value);
-    told.keep(done.is_ok());
+fn set(transcript: &mut Transcript, message: &mut Msg, name: &[u8], value: &[u8]) {
+    let value = transcript.copy(value);
+    let done = message.set(transcript.alloc, name, value);
+    transcript.fail_unless(done.is_ok());
 }
 
 /// Edits a message of the header fields above, and writes its text.
-fn edit(told: &mut Told, message: &mut Msg) {
-    set(told, message, b"Subject", b"three");
-    set(told, message, b"Event", b"refer");
+fn edit(transcript: &mut Transcript, message: &mut Msg) {
+    set(transcript, message, b"Subject", b"three");
+    set(transcript, message, b"Event", b"refer");
     message.drop_all(b"Route");
-    let via = told.copy(b"SIP/2.0/UDP a");
-    let done = message.push_front(told.alloc, b"Via", via);
-    told.keep(done.is_ok());
-    tell_message(told, message);
+    let via = transcript.copy(b"SIP/2.0/UDP a");
+    let done = message.push_front(transcript.alloc, b"Via", via);
+    transcript.fail_unless(done.is_ok());
+    write_message(transcript, message);
 }
 
 /// What is written of the values, of a request of five header fields and of the one that has routes, which is edited last.
@@ -893,19 +900,19 @@ Event: refer\r
 ";
 
 fn wrong_part(alloc: Global) -> usize {
-    let mut told = Told::new(alloc);
-    tell_values(&mut told);
-    let start = request(&mut told, b"OPTIONS");
-    let message = of_lines(&mut told, start, FIVE);
-    tell_five(&mut told, &message);
-    tell_busy(&mut told, &message);
+    let mut transcript = Transcript::new(alloc);
+    write_values(&mut transcript);
+    let start = request(&mut transcript, b"OPTIONS");
+    let message = of_lines(&mut transcript, start, FIVE);
+    write_five(&mut transcript, &message);
+    write_busy(&mut transcript, &message);
     drop(message);
-    let start = request(&mut told, b"OPTIONS");
-    let mut message = of_lines(&mut told, start, ROUTED);
-    tell_found(&mut told, &message);
-    edit(&mut told, &mut message);
+    let start = request(&mut transcript, b"OPTIONS");
+    let mut message = of_lines(&mut transcript, start, ROUTED);
+    write_found(&mut transcript, &message);
+    edit(&mut transcript, &mut message);
     drop(message);
-    told.wrong_line(PARTS)
+    transcript.wrong_line(PARTS)
 }
 
 #[test]

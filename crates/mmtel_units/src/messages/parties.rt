@@ -2,60 +2,65 @@
 
 use crate::asserting::assert_right;
 use crate::messages::drafts::{add, message_of};
+use mmtel_call_parties::{Parties, RegistrationState, ServedSides, next_hop, remaining_routes};
 use mmtel_lex::{List, NoMemory, Text, read_uri};
 use mmtel_message::{Msg, Start};
-use mmtel_parties::{Parties, RegistrationState, ServedSides, kept_routes, next_hop};
-use mmtel_targets::is_registered;
-use mmtel_told::{Told, cut, next_line};
+use mmtel_served_user::is_registered;
+use mmtel_test_tables::{Transcript, next_line, split_or_all};
 use mmtel_trust::{Accounts, PeerTable};
 use mmtel_types::{Account, Addr, Peer};
 use std::alloc::Global;
 
 /// The first field of a row, and what follows its `|`.
 fn field(row: &[u8]) -> (&[u8], &[u8]) {
-    cut(b'|', row)
+    split_or_all(b'|', row)
 }
 
 /// An INVITE to this Request-URI.
-fn invite(told: &mut Told, uri: &[u8]) -> Msg {
-    let method = told.copy(b"INVITE");
-    let uri = told.copy(uri);
+fn invite(transcript: &mut Transcript, uri: &[u8]) -> Msg {
+    let method = transcript.copy(b"INVITE");
+    let uri = transcript.copy(uri);
     Msg::new(Start::Request { method, uri }, Text::new())
 }
 
 /// Adds a header field of the name with the first field of the row, unless that is empty; returns what follows it.
-fn add_field<'a>(told: &mut Told, message: &mut Msg, name: &[u8], row: &'a [u8]) -> &'a [u8] {
+fn add_field<'a>(
+    transcript: &mut Transcript,
+    message: &mut Msg,
+    name: &[u8],
+    row: &'a [u8],
+) -> &'a [u8] {
     let (value, rest) = field(row);
     if !value.is_empty() {
-        add(told, message, name, value);
+        add(transcript, message, name, value);
     }
     rest
 }
 
-fn add_identity(told: &mut Told, accounts: &mut Accounts, number: u32, uri: &[u8]) {
-    match read_uri(told.alloc, uri) {
+fn add_identity(transcript: &mut Transcript, accounts: &mut Accounts, number: u32, uri: &[u8]) {
+    match read_uri(transcript.alloc, uri) {
         Ok(uri) => {
-            let done = accounts.add(told.alloc, Account(number), uri);
-            told.keep(done.is_ok());
+            let done = accounts.add(transcript.alloc, Account(number), uri);
+            transcript.fail_unless(done.is_ok());
         }
-        Err(_) => told.fail(),
+        Err(_) => transcript.fail(),
     }
 }
 
 /// Alice, who has a number too, bob and carol.
-fn accounts(told: &mut Told) -> Accounts {
+fn accounts(transcript: &mut Transcript) -> Accounts {
     let mut accounts = Accounts::new();
-    add_identity(told, &mut accounts, 1, b"sip:alice@home.example");
-    add_identity(told, &mut accounts, 1, b"tel:+4930111");
-    add_identity(told, &mut accounts, 2, b"sip:bob@home.example");
-    add_identity(told, &mut accounts, 3, b"sip:carol@home.example");
+    add_identity(transcript, &mut accounts, 1, b"sip:alice@home.example");
+    add_identity(transcript, &mut accounts, 1, b"tel:+4930111");
+    add_identity(transcript, &mut accounts, 2, b"sip:bob@home.example");
+    add_identity(transcript, &mut accounts, 3, b"sip:carol@home.example");
     accounts
 }
 
 /// Writes the number of an account and a space, 0 for none.
-fn tell_account(told: &mut Told, account: Option<Account>) {
-    told.add_number(u64::from(account.unwrap_or(Account(0)).0));
-    told.add(b" ");
+fn write_account(transcript: &mut Transcript, account: Option<Account>) {
+    transcript.add_number(u64::from(account.unwrap_or(Account(0)).0));
+    transcript.add(b" ");
 }
 
 fn sides_word(sides: ServedSides) -> &'static [u8] {
@@ -75,15 +80,19 @@ fn state_word(state: Option<RegistrationState>) -> &'static [u8] {
 }
 
 /// The account that is served where a call of these parties is diverted to carol.
-fn carol_served(told: &mut Told, accounts: &Accounts, parties: &Parties) -> Option<Account> {
-    match read_uri(told.alloc, b"sip:carol@home.example") {
+fn carol_served(
+    transcript: &mut Transcript,
+    accounts: &Accounts,
+    parties: &Parties,
+) -> Option<Account> {
+    match read_uri(transcript.alloc, b"sip:carol@home.example") {
         Ok(carol) => {
             let found = accounts.find(&carol);
             drop(carol);
             parties.served_accounts().diverted_served(found)
         }
         Err(_) => {
-            told.fail();
+            transcript.fail();
             None
         }
     }
@@ -91,42 +100,52 @@ fn carol_served(told: &mut Told, accounts: &Accounts, parties: &Parties) -> Opti
 
 /// Writes the accounts of caller and target, the sides that are served, and the registration state; the accounts that are served: the caller's, the target's, and that of carol as
 /// a further target; `refused` where a user of no account is served, else `-`; and whether the target is registered where the table says so and where it does not.
-fn tell_parties(told: &mut Told, accounts: &Accounts, parties: &Parties) {
-    tell_account(told, parties.origin);
-    tell_account(told, parties.target);
-    told.add(sides_word(parties.served));
-    told.add(state_word(parties.registration));
-    tell_account(told, parties.origin_served());
-    tell_account(told, parties.target_served());
-    let carol = carol_served(told, accounts, parties);
-    tell_account(told, carol);
-    told.add_if(
+fn write_parties(transcript: &mut Transcript, accounts: &Accounts, parties: &Parties) {
+    write_account(transcript, parties.origin);
+    write_account(transcript, parties.target);
+    transcript.add(sides_word(parties.served));
+    transcript.add(state_word(parties.registration));
+    write_account(transcript, parties.origin_served());
+    write_account(transcript, parties.target_served());
+    let carol = carol_served(transcript, accounts, parties);
+    write_account(transcript, carol);
+    transcript.add_if(
         parties.served_accounts().is_of_no_account(),
         b"refused ",
         b"- ",
     );
-    told.add_if(is_registered(parties.registration, true), b"y", b"n");
-    told.add_if(is_registered(parties.registration, false), b"y", b"n");
+    transcript.add_if(is_registered(parties.registration, true), b"y", b"n");
+    transcript.add_if(is_registered(parties.registration, false), b"y", b"n");
 }
 
 /// Writes the parties of a message.
-fn tell_said(told: &mut Told, accounts: &Accounts, message: &Msg, trusted: bool) {
-    match Parties::of(told.alloc, accounts, message, trusted) {
-        Ok(parties) => tell_parties(told, accounts, &parties),
-        Err(_) => told.fail(),
+fn write_party_value(
+    transcript: &mut Transcript,
+    accounts: &Accounts,
+    message: &Msg,
+    trusted: bool,
+) {
+    match Parties::of(transcript.alloc, accounts, message, trusted) {
+        Ok(parties) => write_parties(transcript, accounts, &parties),
+        Err(_) => transcript.fail(),
     }
 }
 
 /// Writes the parties of a call.
-fn tell_call(told: &mut Told, accounts: &Accounts, asked: &[u8]) {
+fn write_call(transcript: &mut Transcript, accounts: &Accounts, asked: &[u8]) {
     let (trusted, rest) = field(asked);
     let (uri, rest) = field(rest);
-    let mut message = invite(told, uri);
-    let rest = add_field(told, &mut message, b"P-Served-User", rest);
-    let rest = add_field(told, &mut message, b"P-Served-User", rest);
-    let rest = add_field(told, &mut message, b"P-Asserted-Identity", rest);
-    let _ = add_field(told, &mut message, b"P-Asserted-Identity", rest);
-    tell_said(told, accounts, &message, trusted == b"trusted".as_slice());
+    let mut message = invite(transcript, uri);
+    let rest = add_field(transcript, &mut message, b"P-Served-User", rest);
+    let rest = add_field(transcript, &mut message, b"P-Served-User", rest);
+    let rest = add_field(transcript, &mut message, b"P-Asserted-Identity", rest);
+    let _ = add_field(transcript, &mut message, b"P-Asserted-Identity", rest);
+    write_party_value(
+        transcript,
+        accounts,
+        &message,
+        trusted == b"trusted".as_slice(),
+    );
     drop(message);
 }
 
@@ -154,21 +173,21 @@ const CALLS: &[u8] =
 
 /// The number of the first call that differs from the actual one; 0 where none does.
 fn wrong_call(alloc: Global) -> usize {
-    let mut told = Told::new(alloc);
-    let accounts = accounts(&mut told);
+    let mut transcript = Transcript::new(alloc);
+    let accounts = accounts(&mut transcript);
     let mut rows = CALLS;
     for _ in 0..20 {
         if !rows.is_empty() {
             let (row, rest) = next_line(rows);
             rows = rest;
             let (_answer, asked) = field(row);
-            tell_call(&mut told, &accounts, asked);
-            told.add(b"|");
-            told.add_line(asked);
+            write_call(&mut transcript, &accounts, asked);
+            transcript.add(b"|");
+            transcript.add_line(asked);
         }
     }
     drop(accounts);
-    told.wrong_line(CALLS)
+    transcript.wrong_line(CALLS)
 }
 
 fn addr(port: u16) -> Addr {
@@ -178,28 +197,34 @@ fn addr(port: u16) -> Addr {
     }
 }
 
-fn add_peer(told: &mut Told, table: &mut PeerTable, number: u16, port: u16, name: &[u8]) {
-    let added = table.add_peer(told.alloc, Peer(number), addr(port), number == 1);
-    told.keep(added.is_ok());
-    let name = told.copy(name);
-    let added = table.add_route(told.alloc, name, Peer(number));
-    told.keep(added.is_ok());
+fn add_peer(
+    transcript: &mut Transcript,
+    table: &mut PeerTable,
+    number: u16,
+    port: u16,
+    name: &[u8],
+) {
+    let added = table.add_peer(transcript.alloc, Peer(number), addr(port), number == 1);
+    transcript.fail_unless(added.is_ok());
+    let name = transcript.copy(name);
+    let added = table.add_route(transcript.alloc, name, Peer(number));
+    transcript.fail_unless(added.is_ok());
 }
 
 /// Three peers, which are the routes to the home domain, another domain and numbers.
-fn table(told: &mut Told) -> PeerTable {
+fn table(transcript: &mut Transcript) -> PeerTable {
     let mut table = PeerTable::new();
-    add_peer(told, &mut table, 1, 5071, b"home.example");
-    add_peer(told, &mut table, 2, 5072, b"far.example");
-    add_peer(told, &mut table, 3, 5073, b"+49");
+    add_peer(transcript, &mut table, 1, 5071, b"home.example");
+    add_peer(transcript, &mut table, 2, 5072, b"far.example");
+    add_peer(transcript, &mut table, 3, 5073, b"+49");
     table
 }
 
 /// The peer to which an attempt goes, 0 for none.
-fn hop(told: &mut Told, table: &PeerTable, routes: &[Text], target: &[u8]) -> u16 {
-    match read_uri(told.alloc, target) {
+fn hop(transcript: &mut Transcript, table: &PeerTable, routes: &[Text], target: &[u8]) -> u16 {
+    match read_uri(transcript.alloc, target) {
         Ok(target) => {
-            let peer = next_hop(told.alloc, table, routes, &target);
+            let peer = next_hop(transcript.alloc, table, routes, &target);
             drop(target);
             match peer {
                 Ok(peer) => peer.unwrap_or(Peer(0)).0,
@@ -213,31 +238,31 @@ fn hop(told: &mut Told, table: &PeerTable, routes: &[Text], target: &[u8]) -> u1
 /// The Route values of a message that are kept at the server's address.
 fn kept(alloc: Global, message: &Msg) -> Result<List<Text>, NoMemory> {
     let values = message.values(alloc, b"Route")?;
-    kept_routes(alloc, addr(5060), values)
+    remaining_routes(alloc, addr(5060), values)
 }
 
 /// Writes the peer and the Route values of an attempt of this message to this target.
-fn tell_way(told: &mut Told, table: &PeerTable, message: &Msg, target: &[u8]) {
-    match kept(told.alloc, message) {
+fn write_next_hop(transcript: &mut Transcript, table: &PeerTable, message: &Msg, target: &[u8]) {
+    match kept(transcript.alloc, message) {
         Ok(routes) => {
-            let peer = hop(told, table, routes.items(), target);
-            told.add_number(u64::from(peer));
+            let peer = hop(transcript, table, routes.items(), target);
+            transcript.add_number(u64::from(peer));
             for route in routes.items() {
-                told.add(b" ");
-                told.add(route.bytes());
+                transcript.add(b" ");
+                transcript.add(route.bytes());
             }
             drop(routes);
         }
-        Err(_) => told.fail(),
+        Err(_) => transcript.fail(),
     }
 }
 
 /// Writes the next hop of an attempt.
-fn tell_attempt(told: &mut Told, table: &PeerTable, asked: &[u8]) {
+fn write_attempt(transcript: &mut Transcript, table: &PeerTable, asked: &[u8]) {
     let (target, rest) = field(asked);
-    let mut message = invite(told, target);
-    let _ = add_field(told, &mut message, b"Route", rest);
-    tell_way(told, table, &message, target);
+    let mut message = invite(transcript, target);
+    let _ = add_field(transcript, &mut message, b"Route", rest);
+    write_next_hop(transcript, table, &message, target);
     drop(message);
 }
 
@@ -259,21 +284,21 @@ const WAYS: &[u8] =
 
 /// The number of the first attempt with another next hop; 0 where there is none.
 fn wrong_way(alloc: Global) -> usize {
-    let mut told = Told::new(alloc);
-    let table = table(&mut told);
+    let mut transcript = Transcript::new(alloc);
+    let table = table(&mut transcript);
     let mut rows = WAYS;
     for _ in 0..20 {
         if !rows.is_empty() {
             let (row, rest) = next_line(rows);
             rows = rest;
             let (_answer, asked) = field(row);
-            tell_attempt(&mut told, &table, asked);
-            told.add(b"|");
-            told.add_line(asked);
+            write_attempt(&mut transcript, &table, asked);
+            transcript.add(b"|");
+            transcript.add_line(asked);
         }
     }
     drop(table);
-    told.wrong_line(WAYS)
+    transcript.wrong_line(WAYS)
 }
 
 /// An INVITE of the terminating side, which went through the server of its user and is to continue there.
@@ -293,24 +318,24 @@ Content-Length: 0\r
 ";
 
 /// Writes the parties and the next hop of a message that is read.
-fn tell_read(told: &mut Told, message: &Msg) {
-    let accounts = accounts(told);
-    tell_said(told, &accounts, message, true);
+fn write_read(transcript: &mut Transcript, message: &Msg) {
+    let accounts = accounts(transcript);
+    write_party_value(transcript, &accounts, message, true);
     drop(accounts);
-    told.add(b"\n");
-    let table = table(told);
-    tell_way(told, &table, message, b"sip:bob@home.example");
+    transcript.add(b"\n");
+    let table = table(transcript);
+    write_next_hop(transcript, &table, message, b"sip:bob@home.example");
     drop(table);
 }
 
 /// Bob alone is served, and is registered whatever the table says; the server's own Route value is removed, and the other one is the next hop.
 fn wrong_terminating(alloc: Global) -> usize {
-    let mut told = Told::new(alloc);
-    if let Some(message) = message_of(&mut told, TERMINATING) {
-        tell_read(&mut told, &message);
+    let mut transcript = Transcript::new(alloc);
+    if let Some(message) = message_of(&mut transcript, TERMINATING) {
+        write_read(&mut transcript, &message);
         drop(message);
     }
-    told.wrong_line(b"1 2 term reg 0 2 0 - yy\n1 <sip:odi-7@home.example;lr>")
+    transcript.wrong_line(b"1 2 term reg 0 2 0 - yy\n1 <sip:odi-7@home.example;lr>")
 }
 
 #[test]

@@ -1,10 +1,10 @@
 //! Responses: the first Via with the source of a request, phrases, and which header fields of a request a response has.
 
 use crate::asserting::assert_right;
-use crate::messages::drafts::{lines_of, of_lines, request, tell_message};
-use mmtel_message::{Line, Msg, ReadFault, Reply, completed, phrase_of, read, response};
-use mmtel_scan::number_up_to;
-use mmtel_told::{Rows, Told, wrong_line};
+use crate::messages::drafts::{lines_of, of_lines, request, write_message};
+use mmtel_base::number_up_to;
+use mmtel_message::{Line, Msg, ReadFault, Reply, completed_value, phrase_of, read, response};
+use mmtel_test_tables::{RowRunner, Transcript, wrong_line};
 use mmtel_types::Addr;
 use std::alloc::Global;
 
@@ -18,14 +18,14 @@ const SOURCE: Addr = Addr {
 #[derive(Drop)]
 struct Answers;
 
-impl Rows for Answers {
-    fn tell(&mut self, told: &mut Told, asked: &[u8]) {
+impl RowRunner for Answers {
+    fn run_row(&mut self, transcript: &mut Transcript, asked: &[u8]) {
         match number_up_to(999, asked) {
             None => {
-                let value = completed(told.alloc, SOURCE, asked);
-                told.add_made(value);
+                let value = completed_value(transcript.alloc, SOURCE, asked);
+                transcript.add_text_or_fail(value);
             }
-            Some(code) => told.add_line(phrase_of(u16::try_from(code).unwrap_or(0))),
+            Some(code) => transcript.add_line(phrase_of(u16::try_from(code).unwrap_or(0))),
         }
     }
 }
@@ -128,14 +128,14 @@ CSeq: 2 REFER
 ";
 
 /// A message of the header fields of a table, with the start line of a request of this method.
-fn asked(told: &mut Told, method: &[u8], table: &[u8]) -> Msg {
-    let start = request(told, method);
-    of_lines(told, start, table)
+fn asked(transcript: &mut Transcript, method: &[u8], table: &[u8]) -> Msg {
+    let start = request(transcript, method);
+    of_lines(transcript, start, table)
 }
 
 /// Writes the text of the response of this code, with the tag `T-1`, to a request that came from `SOURCE`. It passes on these header fields and has others added for it.
-fn tell_response(
-    told: &mut Told,
+fn write_response(
+    transcript: &mut Transcript,
     asked: &Msg,
     code: u16,
     passed: &[Line],
@@ -152,35 +152,42 @@ fn tell_response(
         named,
         body,
     };
-    match response(told.alloc, asked.start(), &asked.lines(), &reply) {
+    match response(transcript.alloc, asked.start(), &asked.lines(), &reply) {
         Ok(message) => {
-            tell_message(told, &message);
+            write_message(transcript, &message);
             drop(message);
         }
-        Err(_) => told.fail(),
+        Err(_) => transcript.fail(),
     }
 }
 
 /// Writes a response to a request: what it passes on and what is added for it are in tables.
-fn tell_answer(
-    told: &mut Told,
+fn write_own_response(
+    transcript: &mut Transcript,
     request: &Msg,
     code: u16,
     passed: &[u8],
     named: &[u8],
     body: &[u8],
 ) {
-    let passed = lines_of(told, passed);
-    let named = lines_of(told, named);
-    tell_response(told, request, code, passed.items(), named.items(), body);
+    let passed = lines_of(transcript, passed);
+    let named = lines_of(transcript, named);
+    write_response(
+        transcript,
+        request,
+        code,
+        passed.items(),
+        named.items(),
+        body,
+    );
     drop(passed);
     drop(named);
 }
 
 /// Writes a response that passes on nothing and has no body: to a request without a tag in To, with these header fields added for it.
-fn tell_plain(told: &mut Told, method: &[u8], code: u16, named: &[u8]) {
-    let request = asked(told, method, ASKED);
-    tell_answer(told, &request, code, b"", named, b"");
+fn write_plain(transcript: &mut Transcript, method: &[u8], code: u16, named: &[u8]) {
+    let request = asked(transcript, method, ASKED);
+    write_own_response(transcript, &request, code, b"", named, b"");
     drop(request);
 }
 
@@ -316,35 +323,35 @@ const BAD: &[u8] =
     b"INVITE sip:b@h SIP/2.0\r\nv: SIP/2.0/UDP h;rport;branch=z9hG4bKa , SIP/2.0/UDP far.example;branch=z9hG4bKb\r\nRecord-Route: <sip:r.example;lr>\r\nFrom: <sip:a@h>;\
 tag=a\r\nTo: <sip:b@h>\r\nCall-ID: c1\r\nCSeq: 1 INVITE\r\n\r\n";
 
-fn tell_fault(told: &mut Told, fault: &ReadFault) {
+fn write_fault(transcript: &mut Transcript, fault: &ReadFault) {
     match fault {
         ReadFault::Bad {
             at: _,
             reply: Some(reply),
-        } => tell_answer(told, reply, 400, b"", b"", b""),
-        _ => told.fail(),
+        } => write_own_response(transcript, reply, 400, b"", b"", b""),
+        _ => transcript.fail(),
     }
 }
 
 /// Writes the reply to the INVITE without Contact, completed.
-fn tell_bad(told: &mut Told) {
-    match read(told.alloc, BAD) {
+fn write_bad(transcript: &mut Transcript) {
+    match read(transcript.alloc, BAD) {
         Ok(message) => {
             drop(message);
-            told.fail();
+            transcript.fail();
         }
         Err(fault) => {
-            tell_fault(told, &fault);
+            write_fault(transcript, &fault);
             drop(fault);
         }
     }
 }
 
 fn wrong_response(alloc: Global) -> usize {
-    let mut told = Told::new(alloc);
-    let invite = asked(&mut told, b"INVITE", ASKED);
-    tell_answer(
-        &mut told,
+    let mut transcript = Transcript::new(alloc);
+    let invite = asked(&mut transcript, b"INVITE", ASKED);
+    write_own_response(
+        &mut transcript,
         &invite,
         200,
         b"Server: x\n",
@@ -352,30 +359,30 @@ fn wrong_response(alloc: Global) -> usize {
         b"v=0\r\n",
     );
     drop(invite);
-    tell_plain(&mut told, b"INVITE", 100, b"");
-    tell_plain(&mut told, b"INVITE", 400, b"");
-    tell_plain(
-        &mut told,
+    write_plain(&mut transcript, b"INVITE", 100, b"");
+    write_plain(&mut transcript, b"INVITE", 400, b"");
+    write_plain(
+        &mut transcript,
         b"PUBLISH",
         405,
         b"Allow: INVITE, ACK, CANCEL, BYE, OPTIONS, REGISTER, REFER\n",
     );
-    tell_plain(
-        &mut told,
+    write_plain(
+        &mut transcript,
         b"INVITE",
         420,
         b"Unsupported: 100rel\nUnsupported: timer\n",
     );
-    let refer = asked(&mut told, b"REFER", IN_A_DIALOG);
-    tell_answer(&mut told, &refer, 202, b"", b"", b"");
+    let refer = asked(&mut transcript, b"REFER", IN_A_DIALOG);
+    write_own_response(&mut transcript, &refer, 202, b"", b"", b"");
     drop(refer);
-    tell_plain(&mut told, b"SUBSCRIBE", 200, b"Expires: 3600\n");
-    tell_plain(&mut told, b"SUBSCRIBE", 481, b"");
-    tell_plain(&mut told, b"UPDATE", 200, b"");
-    tell_plain(&mut told, b"UPDATE", 491, b"");
-    tell_plain(&mut told, b"PRACK", 200, b"");
-    tell_bad(&mut told);
-    told.wrong_line(RESPONSES)
+    write_plain(&mut transcript, b"SUBSCRIBE", 200, b"Expires: 3600\n");
+    write_plain(&mut transcript, b"SUBSCRIBE", 481, b"");
+    write_plain(&mut transcript, b"UPDATE", 200, b"");
+    write_plain(&mut transcript, b"UPDATE", 491, b"");
+    write_plain(&mut transcript, b"PRACK", 200, b"");
+    write_bad(&mut transcript);
+    transcript.wrong_line(RESPONSES)
 }
 
 #[test]

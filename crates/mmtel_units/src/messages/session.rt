@@ -4,56 +4,56 @@ use crate::asserting::assert_right;
 use crate::messages::drafts::{add, request};
 use mmtel_lex::Text;
 use mmtel_message::Msg;
-use mmtel_session::{SessionExpires, SessionFault, check, expiry_after, read_session};
-use mmtel_told::{Rows, Told, cut, wrong_line};
+use mmtel_session::{SessionExpires, SessionFault, check, expiry_interval_of, read_session};
+use mmtel_test_tables::{RowRunner, Transcript, split_or_all, wrong_line};
 
 /// Writes the content of a value: the interval, and the refresher.
-fn tell_session(told: &mut Told, session: SessionExpires) {
-    told.add_number(u64::from(session.interval));
+fn write_session(transcript: &mut Transcript, session: SessionExpires) {
+    transcript.add_number(u64::from(session.interval));
     match session.caller_refreshes {
         None => {}
-        Some(caller) => told.add_if(caller, b" uac", b" uas"),
+        Some(caller) => transcript.add_if(caller, b" uac", b" uas"),
     }
 }
 
-fn tell_value(told: &mut Told, value: &[u8]) {
+fn write_value(transcript: &mut Transcript, value: &[u8]) {
     match read_session(value) {
-        Ok(session) => tell_session(told, session),
-        Err(_) => told.add(b"malformed"),
+        Ok(session) => write_session(transcript, session),
+        Err(_) => transcript.add(b"malformed"),
     }
 }
 
 /// A message with a header field Session-Expires for each of the values, which bars separate; of three at most.
-fn message_with(told: &mut Told, values: &[u8]) -> Msg {
-    let start = request(told, b"INVITE");
+fn message_with(transcript: &mut Transcript, values: &[u8]) -> Msg {
+    let start = request(transcript, b"INVITE");
     let mut message = Msg::new(start, Text::new());
     let mut rest = values;
     for _ in 0..3 {
         if !rest.is_empty() {
-            let (value, later) = cut(b'|', rest);
-            add(told, &mut message, b"session-expires", value);
+            let (value, later) = split_or_all(b'|', rest);
+            add(transcript, &mut message, b"session-expires", value);
             rest = later;
         }
     }
     message
 }
 
-fn tell_check(told: &mut Told, message: &Msg) {
+fn write_check(transcript: &mut Transcript, message: &Msg) {
     match check(message) {
-        Ok(None) => told.add(b"none"),
-        Ok(Some(interval)) => told.add_number(u64::from(interval)),
-        Err(SessionFault::Malformed) => told.add(b"malformed"),
+        Ok(None) => transcript.add(b"none"),
+        Ok(Some(interval)) => transcript.add_number(u64::from(interval)),
+        Err(SessionFault::Malformed) => transcript.add(b"malformed"),
         Err(SessionFault::Small { interval }) => {
-            told.add(b"small");
-            told.add_spaced_number(u64::from(interval));
+            transcript.add(b"small");
+            transcript.add_spaced_number(u64::from(interval));
         }
     }
 }
 
-fn tell_expiry(told: &mut Told, message: &Msg) {
-    match expiry_after(message) {
-        None => told.add(b"none"),
-        Some(time) => told.add_number(time),
+fn write_expiry(transcript: &mut Transcript, message: &Msg) {
+    match expiry_interval_of(message) {
+        None => transcript.add(b"none"),
+        Some(time) => transcript.add_number(time),
     }
 }
 
@@ -61,23 +61,23 @@ fn tell_expiry(told: &mut Told, message: &Msg) {
 struct Sessions;
 
 /// `=` writes the content of a value. `?` writes what a request with these values requires, and `@` after how many milliseconds a 2xx with them expires.
-impl Rows for Sessions {
-    fn tell(&mut self, told: &mut Told, asked: &[u8]) {
+impl RowRunner for Sessions {
+    fn run_row(&mut self, transcript: &mut Transcript, asked: &[u8]) {
         match asked {
-            [b'=', value @ ..] => tell_value(told, value),
+            [b'=', value @ ..] => write_value(transcript, value),
             [b'?', values @ ..] => {
-                let message = message_with(told, values);
-                tell_check(told, &message);
+                let message = message_with(transcript, values);
+                write_check(transcript, &message);
                 drop(message);
             }
             [_, values @ ..] => {
-                let message = message_with(told, values);
-                tell_expiry(told, &message);
+                let message = message_with(transcript, values);
+                write_expiry(transcript, &message);
                 drop(message);
             }
-            [] => told.fail(),
+            [] => transcript.fail(),
         }
-        told.add(b"\n");
+        transcript.add(b"\n");
     }
 }
 

@@ -1,11 +1,11 @@
 //! History-Info in the header table: in which messages a call's list is passed, and what of it to whom.
 
 use crate::asserting::assert_right;
-use crate::messages::drafts::{of_lines, request, tell_lines};
+use crate::messages::drafts::{of_lines, request, write_lines_to};
 use crate::messages::history::divert;
 use mmtel_history::History;
 use mmtel_message::Start;
-use mmtel_told::Told;
+use mmtel_test_tables::Transcript;
 use mmtel_trust::{Facing, history_lines, shown};
 use std::alloc::Global;
 
@@ -17,22 +17,34 @@ Reason: SIP;cause=200
 "#;
 
 /// The list after bob's diversion to carol and hers to a voice mail, which hides her or not.
-fn diverted(told: &mut Told, hide_last: bool) -> History {
-    let mut history = History::new(told.alloc);
-    divert(told, &mut history, b"sip:carol@home.example", 302, false);
-    divert(told, &mut history, b"sip:vm@far.example", 486, hide_last);
+fn diverted(transcript: &mut Transcript, hide_last: bool) -> History {
+    let mut history = History::new(transcript.alloc);
+    divert(
+        transcript,
+        &mut history,
+        b"sip:carol@home.example",
+        302,
+        false,
+    );
+    divert(
+        transcript,
+        &mut history,
+        b"sip:vm@far.example",
+        486,
+        hide_last,
+    );
     history
 }
 
 /// Writes what is passed of the message with this start line.
-fn tell_message(
-    told: &mut Told,
+fn write_message(
+    transcript: &mut Transcript,
     start: Start,
     history: &History,
     mask_all: bool,
     to_trusted: bool,
 ) {
-    let message = of_lines(told, start, LINES);
+    let message = of_lines(transcript, start, LINES);
     let facing = Facing {
         from_trusted: true,
         restricted: false,
@@ -41,43 +53,43 @@ fn tell_message(
         reliable: false,
         timer: false,
     };
-    let lines = shown(told.alloc, &message, history, &facing, to_trusted);
+    let lines = shown(transcript.alloc, &message, history, &facing, to_trusted);
     drop(message);
     match lines {
         Ok(lines) => {
-            tell_lines(told, lines.items());
+            write_lines_to(transcript, lines.items());
             drop(lines);
         }
-        Err(_) => told.fail(),
+        Err(_) => transcript.fail(),
     }
 }
 
 /// Writes what is passed of a request of this method.
-fn tell_request(
-    told: &mut Told,
+fn write_request(
+    transcript: &mut Transcript,
     method: &[u8],
     history: &History,
     mask_all: bool,
     to_trusted: bool,
 ) {
-    let start = request(told, method);
-    tell_message(told, start, history, mask_all, to_trusted);
+    let start = request(transcript, method);
+    write_message(transcript, start, history, mask_all, to_trusted);
 }
 
 /// Writes what is passed of a response of this code.
-fn tell_response(told: &mut Told, code: u16, history: &History, to_trusted: bool) {
-    let phrase = told.copy(b"Whatever");
+fn write_response(transcript: &mut Transcript, code: u16, history: &History, to_trusted: bool) {
+    let phrase = transcript.copy(b"Whatever");
     let start = Start::Status { code, phrase };
-    tell_message(told, start, history, false, to_trusted);
+    write_message(transcript, start, history, false, to_trusted);
 }
 
 /// The list in an INVITE, with carol hidden: to a trusted peer, to an untrusted one, and to both where the opening INVITE requests that all be hidden.
-fn tell_list(told: &mut Told) {
-    let history = diverted(told, true);
-    tell_request(told, b"INVITE", &history, false, true);
-    tell_request(told, b"INVITE", &history, false, false);
-    tell_request(told, b"INVITE", &history, true, false);
-    tell_request(told, b"INVITE", &history, true, true);
+fn write_list(transcript: &mut Transcript) {
+    let history = diverted(transcript, true);
+    write_request(transcript, b"INVITE", &history, false, true);
+    write_request(transcript, b"INVITE", &history, false, false);
+    write_request(transcript, b"INVITE", &history, true, false);
+    write_request(transcript, b"INVITE", &history, true, true);
     drop(history);
 }
 
@@ -108,35 +120,35 @@ Reason: SIP;cause=200
 "#;
 
 /// A 181 that reveals neither who diverted nor to whom: passed on to a trusted peer and to an untrusted one, and of the server's own.
-fn tell_hidden(told: &mut Told, hidden: &History) {
-    tell_response(told, 181, hidden, true);
-    tell_response(told, 181, hidden, false);
-    match history_lines(told.alloc, hidden, false, false) {
+fn write_hidden(transcript: &mut Transcript, hidden: &History) {
+    write_response(transcript, 181, hidden, true);
+    write_response(transcript, 181, hidden, false);
+    match history_lines(transcript.alloc, hidden, false, false) {
         Ok(lines) => {
-            tell_lines(told, lines.items());
+            write_lines_to(transcript, lines.items());
             drop(lines);
         }
-        Err(_) => told.fail(),
+        Err(_) => transcript.fail(),
     }
 }
 
 /// Those three, and the INVITE after them, in which the marks of the 181 are not present.
 /// Then requests other than INVITE, and responses other than 181, which have no list; methods are compared byte for byte.
-fn tell_elsewhere(told: &mut Told) {
-    let history = diverted(told, false);
-    match history.told_to_caller(told.alloc, true, true) {
+fn write_elsewhere(transcript: &mut Transcript) {
+    let history = diverted(transcript, false);
+    match history.history_for_caller(transcript.alloc, true, true) {
         Ok(hidden) => {
-            tell_hidden(told, &hidden);
+            write_hidden(transcript, &hidden);
             drop(hidden);
         }
-        Err(_) => told.fail(),
+        Err(_) => transcript.fail(),
     }
-    tell_request(told, b"INVITE", &history, false, false);
-    tell_request(told, b"BYE", &history, false, true);
-    tell_request(told, b"ACK", &history, false, false);
-    tell_request(told, b"Invite", &history, false, true);
-    tell_response(told, 180, &history, true);
-    tell_response(told, 200, &history, true);
+    write_request(transcript, b"INVITE", &history, false, false);
+    write_request(transcript, b"BYE", &history, false, true);
+    write_request(transcript, b"ACK", &history, false, false);
+    write_request(transcript, b"Invite", &history, false, true);
+    write_response(transcript, 180, &history, true);
+    write_response(transcript, 200, &history, true);
     drop(history);
 }
 
@@ -181,12 +193,12 @@ Reason: SIP;cause=200
 
 /// The number of the first line that differs; 0 where none does.
 fn wrong(alloc: Global, tell: u8, wanted: &[u8]) -> usize {
-    let mut told = Told::new(alloc);
+    let mut transcript = Transcript::new(alloc);
     match tell {
-        b'l' => tell_list(&mut told),
-        _ => tell_elsewhere(&mut told),
+        b'l' => write_list(&mut transcript),
+        _ => write_elsewhere(&mut transcript),
     }
-    told.wrong_line(wanted)
+    transcript.wrong_line(wanted)
 }
 
 #[test]

@@ -3,10 +3,10 @@
 ghost use Rattle.std.specs.Prelude.{◌≡◌, ◌<◌};
 
 use crate::transactions::messages::message;
+use mmtel_base::{NoMemory, Text, number_up_to};
 use mmtel_message::Msg;
-use mmtel_scan::{NoMemory, Text, number_up_to};
+use mmtel_test_tables::{Transcript, next_line, split_or_all};
 use mmtel_timers::Steps;
-use mmtel_told::{Told, cut, next_line};
 use mmtel_transaction::{Due, HearFault, Heard, TKey, Transactions};
 use mmtel_types::{Moment, Peer};
 use std::alloc::Global;
@@ -20,9 +20,9 @@ fn number(word: &[u8]) -> u64 {
 
 /// A peer, a moment and the word of a message.
 fn addressed(words: &[u8]) -> (Peer, Option<Moment>, &[u8]) {
-    let (peer, words) = cut(b' ', words);
-    let (now, words) = cut(b' ', words);
-    let (word, _) = cut(b' ', words);
+    let (peer, words) = split_or_all(b' ', words);
+    let (now, words) = split_or_all(b' ', words);
+    let (word, _) = split_or_all(b' ', words);
     (
         Peer(u16::try_from(number(peer)).unwrap_or(0)),
         Moment::new(number(now)),
@@ -31,109 +31,109 @@ fn addressed(words: &[u8]) -> (Peer, Option<Moment>, &[u8]) {
 }
 
 /// Writes the first line of a message's text.
-fn write_start(told: &mut Told, text: &Text) {
-    let (line, _) = cut(b'\r', text.bytes());
-    told.add(b" ");
-    told.add(line);
+fn write_start(transcript: &mut Transcript, text: &Text) {
+    let (line, _) = split_or_all(b'\r', text.bytes());
+    transcript.add(b" ");
+    transcript.add(line);
 }
 
-fn write_cancel(told: &mut Told, key: TKey, invite: Option<TKey>) {
-    told.add(b"cancel");
-    told.add_spaced_number(key.0);
+fn write_cancel(transcript: &mut Transcript, key: TKey, invite: Option<TKey>) {
+    transcript.add(b"cancel");
+    transcript.add_spaced_number(key.0);
     if let Some(invite) = invite {
-        told.add_spaced_number(invite.0);
+        transcript.add_spaced_number(invite.0);
     }
 }
 
-fn write_repeat(told: &mut Told, given: &Option<(Peer, Text)>) {
-    told.add(b"repeat");
+fn write_repeat(transcript: &mut Transcript, given: &Option<(Peer, Text)>) {
+    transcript.add(b"repeat");
     if let Some((peer, text)) = given {
-        told.add_spaced_number(peer.0 as u64);
-        write_start(told, text);
+        transcript.add_spaced_number(peer.0 as u64);
+        write_start(transcript, text);
     }
 }
 
-fn write_key(told: &mut Told, word: &[u8], key: TKey) {
-    told.add(word);
-    told.add_spaced_number(key.0);
+fn write_key(transcript: &mut Transcript, word: &[u8], key: TKey) {
+    transcript.add(word);
+    transcript.add_spaced_number(key.0);
 }
 
 /// Writes the classification of a message.
-fn write_heard(told: &mut Told, said: &Heard) {
+fn write_received(transcript: &mut Transcript, said: &Heard) {
     match said {
-        Heard::Fresh(key, _) => write_key(told, b"fresh", *key),
-        Heard::Answer(key, _) => write_key(told, b"answer", *key),
-        Heard::Repeat(given) => write_repeat(told, given),
-        Heard::Acked(key) => write_key(told, b"acked", *key),
-        Heard::Cancel(key, invite, _) => write_cancel(told, *key, *invite),
-        Heard::AckOf2xx(_) => told.add(b"ack of 2xx"),
-        Heard::Stray => told.add(b"stray"),
+        Heard::Fresh(key, _) => write_key(transcript, b"fresh", *key),
+        Heard::Answer(key, _) => write_key(transcript, b"answer", *key),
+        Heard::Repeat(given) => write_repeat(transcript, given),
+        Heard::Acked(key) => write_key(transcript, b"acked", *key),
+        Heard::Cancel(key, invite, _) => write_cancel(transcript, *key, *invite),
+        Heard::AckOf2xx(_) => transcript.add(b"ack of 2xx"),
+        Heard::Stray => transcript.add(b"stray"),
     }
 }
 
-fn write_refused(told: &mut Told, fault: &HearFault) {
+fn write_refused(transcript: &mut Transcript, fault: &HearFault) {
     match fault {
-        HearFault::Full(_) => told.add(b"full"),
-        HearFault::NoMemory => told.fail(),
+        HearFault::Full(_) => transcript.add(b"full"),
+        HearFault::NoMemory => transcript.fail(),
     }
 }
 
-fn write_again(told: &mut Told, peer: Peer, at: u64, text: &Text) {
-    told.add(b"again");
-    told.add_spaced_number(peer.0 as u64);
-    told.add_spaced_number(at);
-    write_start(told, text);
+fn write_again(transcript: &mut Transcript, peer: Peer, at: u64, text: &Text) {
+    transcript.add(b"again");
+    transcript.add_spaced_number(peer.0 as u64);
+    transcript.add_spaced_number(at);
+    write_start(transcript, text);
 }
 
 /// Writes what a deadline gives.
-fn write_due(told: &mut Told, said: &Due) {
+fn write_due(transcript: &mut Transcript, said: &Due) {
     match said {
-        Due::Again(peer, at, text) => write_again(told, *peer, *at, text),
+        Due::Again(peer, at, text) => write_again(transcript, *peer, *at, text),
         Due::Silent {
             key,
             branch,
             method,
             at,
         } => {
-            write_key(told, b"silent", *key);
-            told.add_spaced_number(*at);
-            told.add(b" ");
-            told.add(branch.bytes());
-            told.add(b" ");
-            told.add(method.bytes());
+            write_key(transcript, b"silent", *key);
+            transcript.add_spaced_number(*at);
+            transcript.add(b" ");
+            transcript.add(branch.bytes());
+            transcript.add(b" ");
+            transcript.add(method.bytes());
         }
         Due::Over(key, at) => {
-            write_key(told, b"over", *key);
-            told.add_spaced_number(*at);
+            write_key(transcript, b"over", *key);
+            transcript.add_spaced_number(*at);
         }
-        Due::Nothing => told.add(b"nothing"),
+        Due::Nothing => transcript.add(b"nothing"),
     }
 }
 
 /// Writes that it is done, unless memory ran out.
-fn write_done(told: &mut Told, done: Result<(), NoMemory>) {
+fn write_done(transcript: &mut Transcript, done: Result<(), NoMemory>) {
     match done {
-        Ok(()) => told.add(b"done"),
-        Err(NoMemory) => told.fail(),
+        Ok(()) => transcript.add(b"done"),
+        Err(NoMemory) => transcript.fail(),
     }
 }
 
 /// `hear PEER MOMENT MESSAGE`.
-fn hear<L: Ledger>(
-    told: &mut Told,
+fn receive<L: Ledger>(
+    transcript: &mut Transcript,
     transactions: &mut Transactions,
     peer: Peer,
     m: Msg,
     now: Moment,
     steps: &mut Steps<L>,
 ) {
-    match transactions.hear(told.alloc, peer, m, now, steps) {
+    match transactions.hear(transcript.alloc, peer, m, now, steps) {
         Ok(said) => {
-            write_heard(told, &said);
+            write_received(transcript, &said);
             drop(said);
         }
         Err(fault) => {
-            write_refused(told, &fault);
+            write_refused(transcript, &fault);
             drop(fault);
         }
     }
@@ -141,22 +141,22 @@ fn hear<L: Ledger>(
 
 /// `ask PEER MOMENT MESSAGE`.
 fn ask<L: Ledger>(
-    told: &mut Told,
+    transcript: &mut Transcript,
     transactions: &mut Transactions,
     peer: Peer,
     m: &Msg,
     now: Moment,
     steps: &mut Steps<L>,
 ) {
-    match transactions.ask(told.alloc, peer, m, now, steps) {
-        Ok(key) => write_key(told, b"asked", key),
-        Err(NoMemory) => told.fail(),
+    match transactions.ask(transcript.alloc, peer, m, now, steps) {
+        Ok(key) => write_key(transcript, b"asked", key),
+        Err(NoMemory) => transcript.fail(),
     }
 }
 
 /// A call with a peer or a key, a moment and a message; `reply KEY MOMENT MESSAGE` and `ack KEY MOMENT MESSAGE` write whether they are done.
 fn with_message<L: Ledger>(
-    told: &mut Told,
+    transcript: &mut Transcript,
     transactions: &mut Transactions,
     name: &[u8],
     words: &[u8],
@@ -166,92 +166,97 @@ fn with_message<L: Ledger>(
     let Some(now) = now else {
         return;
     };
-    let Some(m) = message(told, word) else {
+    let Some(m) = message(transcript, word) else {
         return;
     };
     match name {
-        b"hear" => hear(told, transactions, peer, m, now, steps),
+        b"hear" => receive(transcript, transactions, peer, m, now, steps),
         b"ask" => {
-            ask(told, transactions, peer, &m, now, steps);
+            ask(transcript, transactions, peer, &m, now, steps);
             drop(m);
         }
         b"reply" => {
-            let done = transactions.reply(told.alloc, TKey(peer.0 as u64), &m, now, steps);
+            let done = transactions.reply(transcript.alloc, TKey(peer.0 as u64), &m, now, steps);
             drop(m);
-            write_done(told, done);
+            write_done(transcript, done);
         }
         _ => {
-            let done = transactions.ack(told.alloc, TKey(peer.0 as u64), &m, steps);
+            let done = transactions.ack(transcript.alloc, TKey(peer.0 as u64), &m, steps);
             drop(m);
-            write_done(told, done);
+            write_done(transcript, done);
         }
     }
 }
 
 /// `due MOMENT`.
 fn due<L: Ledger>(
-    told: &mut Told,
+    transcript: &mut Transcript,
     transactions: &mut Transactions,
     now: Moment,
     steps: &mut Steps<L>,
 ) {
-    match transactions.due(told.alloc, now, steps) {
+    match transactions.due(transcript.alloc, now, steps) {
         Ok(said) => {
-            write_due(told, &said);
+            write_due(transcript, &said);
             drop(said);
         }
-        Err(NoMemory) => told.fail(),
+        Err(NoMemory) => transcript.fail(),
     }
 }
 
 /// `upcoming MOMENT`.
 fn upcoming<L: Ledger>(
-    told: &mut Told,
+    transcript: &mut Transcript,
     transactions: &Transactions,
     now: Moment,
     steps: &mut Steps<L>,
 ) {
     match transactions.upcoming(now, steps) {
-        None => told.add(b"nothing"),
+        None => transcript.add(b"nothing"),
         Some((at, step)) => {
-            told.add(b"at");
-            told.add_spaced_number(at);
-            told.add_spaced_number(step);
+            transcript.add(b"at");
+            transcript.add_spaced_number(at);
+            transcript.add_spaced_number(step);
         }
     }
 }
 
 /// `peer KEY`.
-fn peer<L: Ledger>(told: &mut Told, transactions: &Transactions, key: TKey, steps: &mut Steps<L>) {
+fn peer<L: Ledger>(
+    transcript: &mut Transcript,
+    transactions: &Transactions,
+    key: TKey,
+    steps: &mut Steps<L>,
+) {
     match transactions.peer(key, steps) {
-        None => told.add(b"none"),
+        None => transcript.add(b"none"),
         Some(peer) => {
-            told.add(b"of");
-            told.add_spaced_number(peer.0 as u64);
+            transcript.add(b"of");
+            transcript.add_spaced_number(peer.0 as u64);
         }
     }
 }
 
 /// An OPTIONS request whose branch is this number: it differs from others early, so that comparing is quick.
-fn numbered(told: &mut Told, branch: u64) -> Option<Msg> {
-    let mut via = Told::new(told.alloc);
+fn numbered(transcript: &mut Transcript, branch: u64) -> Option<Msg> {
+    let mut via = Transcript::new(transcript.alloc);
     via.add(b"SIP/2.0/UDP 127.0.0.1:5071;branch=");
     via.add_number(branch);
-    let via = told.copy(via.whole());
-    with_via(told, via)
+    let via = transcript.copy(via.whole());
+    with_via(transcript, via)
 }
 
 /// An OPTIONS request with this Via.
-pub fn with_via(told: &mut Told, via: Text) -> Option<Msg> {
-    let mut m = message(told, b"OPTIONS/a")?;
-    let done = m.set(told.alloc, b"Via", via);
-    told.keep(done.is_ok());
+pub fn with_via(transcript: &mut Transcript, via: Text) -> Option<Msg> {
+    let mut m = message(transcript, b"OPTIONS/a")?;
+    let done = m.set(transcript.alloc, b"Via", via);
+    transcript.fail_unless(done.is_ok());
     Some(m)
 }
 
 /// `numbered NUMBER`: the request whose branch is this number is received.
-fn hear_numbered<L: Ledger>(
-    told: &mut Told,
+fn receive_numbered<L: Ledger>(
+    transcript: &mut Transcript,
     transactions: &mut Transactions,
     branch: u64,
     steps: &mut Steps<L>,
@@ -259,10 +264,10 @@ fn hear_numbered<L: Ledger>(
     let Some(now) = Moment::new(0) else {
         return;
     };
-    let Some(m) = numbered(told, branch) else {
+    let Some(m) = numbered(transcript, branch) else {
         return;
     };
-    hear(told, transactions, Peer(1), m, now, steps);
+    receive(transcript, transactions, Peer(1), m, now, steps);
 }
 
 /// Whether a new request opened the transaction of this key.
@@ -275,14 +280,14 @@ fn is_fresh(said: &Heard, wanted: u64) -> bool {
 
 /// Whether a request opens the transaction of this key.
 pub fn opens<L: Ledger>(
-    told: &Told,
+    transcript: &Transcript,
     transactions: &mut Transactions,
     m: Msg,
     wanted: u64,
     now: Moment,
     steps: &mut Steps<L>,
 ) -> bool {
-    match transactions.hear(told.alloc, Peer(1), m, now, steps) {
+    match transactions.hear(transcript.alloc, Peer(1), m, now, steps) {
         Ok(said) => {
             let opened = is_fresh(&said, wanted);
             drop(said);
@@ -297,21 +302,21 @@ pub fn opens<L: Ledger>(
 
 /// Whether the request whose branch is this number opens the transaction of this key.
 fn opens_numbered<L: Ledger>(
-    told: &mut Told,
+    transcript: &mut Transcript,
     transactions: &mut Transactions,
     branch: u64,
     now: Moment,
     steps: &mut Steps<L>,
 ) -> bool {
-    match numbered(told, branch) {
+    match numbered(transcript, branch) {
         None => false,
-        Some(m) => opens(told, transactions, m, branch, now, steps),
+        Some(m) => opens(transcript, transactions, m, branch, now, steps),
     }
 }
 
 /// `many NUMBER`: requests are received whose branches are the numbers from 0 on; how many of them open the transaction whose key is their branch.
 fn many<L: Ledger>(
-    told: &mut Told,
+    transcript: &mut Transcript,
     transactions: &mut Transactions,
     most: u64,
     steps: &mut Steps<L>,
@@ -321,17 +326,17 @@ fn many<L: Ledger>(
     };
     let mut count: u64 = 0;
     for branch in 0..most {
-        if opens_numbered(told, transactions, branch, now, steps) {
+        if opens_numbered(transcript, transactions, branch, now, steps) {
             count = count.saturating_add(1);
         }
     }
-    told.add(b"opened");
-    told.add_spaced_number(count);
+    transcript.add(b"opened");
+    transcript.add_spaced_number(count);
 }
 
 /// A call with a moment only.
 fn at_moment<L: Ledger>(
-    told: &mut Told,
+    transcript: &mut Transcript,
     transactions: &mut Transactions,
     is_taken: bool,
     word: u64,
@@ -341,82 +346,82 @@ fn at_moment<L: Ledger>(
         return;
     };
     if is_taken {
-        due(told, transactions, now, steps);
+        due(transcript, transactions, now, steps);
     } else {
-        upcoming(told, transactions, now, steps);
+        upcoming(transcript, transactions, now, steps);
     }
 }
 
 /// `begin STEP`.
-fn begin(told: &mut Told, transactions: &mut Transactions, step: u64) {
+fn begin(transcript: &mut Transcript, transactions: &mut Transactions, step: u64) {
     transactions.begin(step);
-    told.add(b"done");
+    transcript.add(b"done");
 }
 
 /// `merged KEY`.
 fn merged<L: Ledger>(
-    told: &mut Told,
+    transcript: &mut Transcript,
     transactions: &Transactions,
     key: TKey,
     steps: &mut Steps<L>,
 ) {
     if transactions.merged(key, steps) {
-        told.add(b"yes");
+        transcript.add(b"yes");
     } else {
-        told.add(b"no");
+        transcript.add(b"no");
     }
 }
 
 /// `settle KEY`, or `settle KEY NUMBER`.
 fn settle<L: Ledger>(
-    told: &mut Told,
+    transcript: &mut Transcript,
     transactions: &mut Transactions,
     words: &[u8],
     steps: &mut Steps<L>,
 ) {
-    let (key, own) = cut(b' ', words);
+    let (key, own) = split_or_all(b' ', words);
     let own = if own.is_empty() {
         None
     } else {
         Some(u32::try_from(number(own)).unwrap_or(0))
     };
     transactions.settle(TKey(number(key)), own, steps);
-    told.add(b"done");
+    transcript.add(b"done");
 }
 
 /// Writes the result of a call.
 fn play<L: Ledger>(
-    told: &mut Told,
+    transcript: &mut Transcript,
     transactions: &mut Transactions,
     call: &[u8],
     steps: &mut Steps<L>,
 ) {
-    let (name, words) = cut(b' ', call);
+    let (name, words) = split_or_all(b' ', call);
     match name {
-        b"begin" => begin(told, transactions, number(words)),
-        b"due" => at_moment(told, transactions, true, number(words), steps),
-        b"upcoming" => at_moment(told, transactions, false, number(words), steps),
-        b"peer" => peer(told, transactions, TKey(number(words)), steps),
-        b"merged" => merged(told, transactions, TKey(number(words)), steps),
-        b"settle" => settle(told, transactions, words, steps),
-        b"many" => many(told, transactions, number(words), steps),
-        b"numbered" => hear_numbered(told, transactions, number(words), steps),
-        _ => with_message(told, transactions, name, words, steps),
+        b"begin" => begin(transcript, transactions, number(words)),
+        b"due" => at_moment(transcript, transactions, true, number(words), steps),
+        b"upcoming" => at_moment(transcript, transactions, false, number(words), steps),
+        b"peer" => peer(transcript, transactions, TKey(number(words)), steps),
+        b"merged" => merged(transcript, transactions, TKey(number(words)), steps),
+        b"settle" => settle(transcript, transactions, words, steps),
+        b"many" => many(transcript, transactions, number(words), steps),
+        b"numbered" => receive_numbered(transcript, transactions, number(words), steps),
+        _ => with_message(transcript, transactions, name, words, steps),
     }
 }
 
 /// Makes the call of a line, and writes the line with its actual result.
 fn play_line<L: Ledger>(
-    told: &mut Told,
+    transcript: &mut Transcript,
     transactions: &mut Transactions,
     line: &[u8],
     steps: &mut Steps<L>,
 ) {
-    let (call, _) = cut(b'>', line);
-    told.add(call);
-    told.add(b"> ");
-    play(told, transactions, call, steps);
-    told.add(b"\n");
+    let (call, _) = split_or_all(b'>', line);
+    transcript.add(call);
+    transcript.add(b"> ");
+    play(transcript, transactions, call, steps);
+    transcript.add(b"\n");
 }
 
 /// The number of the first of these calls, from 1, with another result than the one after it; 0 where there is none.
@@ -426,18 +431,18 @@ fn wrong_counted<L: Ledger>(alloc: Global, table: &[u8], blank: Blank) -> usize
     requires some { 0 < L.parts }
 {
     let mut steps: Steps<L> = Steps::new(blank);
-    let mut told = Told::new(alloc);
+    let mut transcript = Transcript::new(alloc);
     let mut transactions = Transactions::new();
     let mut rest = table;
     for _ in 0..200 {
         if !rest.is_empty() {
             let (line, after) = next_line(rest);
             rest = after;
-            play_line(&mut told, &mut transactions, line, &mut steps);
+            play_line(&mut transcript, &mut transactions, line, &mut steps);
         }
     }
     drop(transactions);
-    told.wrong_line(table)
+    transcript.wrong_line(table)
 }
 
 /// The number of the first of these calls, from 1, with another result than the one after it; 0 where there is none. Their comparisons are counted together.

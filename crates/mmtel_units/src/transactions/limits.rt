@@ -2,7 +2,7 @@
 
 use crate::asserting::assert_right;
 use crate::transactions::calls::wrong_call;
-use mmtel_told::Told;
+use mmtel_test_tables::Transcript;
 use mmtel_transaction::Tokens;
 use std::alloc::Global;
 
@@ -23,20 +23,20 @@ hear 1 32000 OPTIONS/16385> full
 ";
 
 /// Writes the next token.
-fn draw(told: &mut Told, tokens: &mut Tokens) {
-    let token = tokens.draw(told.alloc);
-    told.add_made(token);
+fn draw(transcript: &mut Transcript, tokens: &mut Tokens) {
+    let token = tokens.draw(transcript.alloc);
+    transcript.add_text_or_fail(token);
 }
 
 /// Tokens are numbered from 1.
 fn wrong_token(alloc: Global) -> usize {
-    let mut told = Told::new(alloc);
-    let token = told.copy(b"0123456789abcdef");
+    let mut transcript = Transcript::new(alloc);
+    let token = transcript.copy(b"0123456789abcdef");
     let mut tokens = Tokens::new(token);
-    draw(&mut told, &mut tokens);
-    draw(&mut told, &mut tokens);
-    draw(&mut told, &mut tokens);
-    told.wrong_line(b"0123456789abcdef-1\n0123456789abcdef-2\n0123456789abcdef-3\n")
+    draw(&mut transcript, &mut tokens);
+    draw(&mut transcript, &mut tokens);
+    draw(&mut transcript, &mut tokens);
+    transcript.wrong_line(b"0123456789abcdef-1\n0123456789abcdef-2\n0123456789abcdef-3\n")
 }
 
 #[test]

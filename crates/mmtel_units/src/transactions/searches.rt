@@ -5,10 +5,10 @@ ghost use Rattle.std.specs.Prelude.{◌≡◌, ◌<◌};
 use crate::asserting::assert_right;
 use crate::transactions::calls::{opens, with_via};
 use crate::transactions::messages::message;
+use mmtel_base::Text;
 use mmtel_message::Msg;
-use mmtel_scan::Text;
+use mmtel_test_tables::Transcript;
 use mmtel_timers::Steps;
-use mmtel_told::Told;
 use mmtel_transaction::{Due, TKey, Transactions};
 use mmtel_types::Moment;
 use std::alloc::Global;
@@ -19,26 +19,26 @@ use std::sync::ledger::{Blank, Ledger};
 const MOST: u64 = 16384;
 
 /// A branch: all have one length, and differ in their last bytes alone.
-fn branch(told: &mut Told, number: u64) -> Text {
-    let mut branch = Told::new(told.alloc);
+fn branch(transcript: &mut Transcript, number: u64) -> Text {
+    let mut branch = Transcript::new(transcript.alloc);
     branch.add(b"z9hG4bK-what-all-branches-begin-with-");
     branch.add_number(number.saturating_add(100000));
-    told.copy(branch.whole())
+    transcript.copy(branch.whole())
 }
 
 /// The request of a branch.
-fn request(told: &mut Told, number: u64) -> Option<Msg> {
-    let of = branch(told, number);
-    let mut via = Told::new(told.alloc);
+fn request(transcript: &mut Transcript, number: u64) -> Option<Msg> {
+    let of = branch(transcript, number);
+    let mut via = Transcript::new(transcript.alloc);
     via.add(b"SIP/2.0/UDP 127.0.0.1:5071;branch=");
     via.add(of.bytes());
-    let via = told.copy(via.whole());
-    with_via(told, via)
+    let via = transcript.copy(via.whole());
+    with_via(transcript, via)
 }
 
 /// Whether the request of a number is received and gets its response at that number's moment, so that its transaction ends 32,000 ms later.
 fn is_answered<L: Ledger>(
-    told: &mut Told,
+    transcript: &mut Transcript,
     transactions: &mut Transactions,
     answer: &Msg,
     number: u64,
@@ -47,27 +47,27 @@ fn is_answered<L: Ledger>(
     let Some(now) = Moment::new(number) else {
         return false;
     };
-    let Some(m) = request(told, number) else {
+    let Some(m) = request(transcript, number) else {
         return false;
     };
-    opens(told, transactions, m, number, now, steps)
+    opens(transcript, transactions, m, number, now, steps)
         && transactions
-            .reply(told.alloc, TKey(number), answer, now, steps)
+            .reply(transcript.alloc, TKey(number), answer, now, steps)
             .is_ok()
 }
 
 /// Opens the maximum number and responds to them; how many of them failed.
 fn fill<L: Ledger>(
-    told: &mut Told,
+    transcript: &mut Transcript,
     transactions: &mut Transactions,
     steps: &mut Steps<L>,
 ) -> usize {
-    let Some(answer) = message(told, b"200/OPTIONS/a") else {
+    let Some(answer) = message(transcript, b"200/OPTIONS/a") else {
         return 1;
     };
     let mut wrong: usize = 0;
     for number in 0..MOST {
-        if !is_answered(told, transactions, &answer, number, steps) {
+        if !is_answered(transcript, transactions, &answer, number, steps) {
             wrong = wrong.saturating_add(1);
         }
     }
@@ -76,12 +76,12 @@ fn fill<L: Ledger>(
 }
 
 /// The branches of all.
-fn branches(told: &mut Told) -> Vec<Text> {
-    let mut all = Vec::new(told.alloc);
+fn branches(transcript: &mut Transcript) -> Vec<Text> {
+    let mut all = Vec::new(transcript.alloc);
     for number in 0..MOST {
-        let one = branch(told, number);
+        let one = branch(transcript, number);
         let pushed = all.push(one);
-        told.keep(pushed.is_ok());
+        transcript.fail_unless(pushed.is_ok());
     }
     all
 }
@@ -135,13 +135,13 @@ fn mistaken<L: Ledger>(transactions: &Transactions, calls: u64, steps: &mut Step
 
 /// Whether the next deadline is the end of the transaction of this number.
 fn is_end<L: Ledger>(
-    told: &Told,
+    transcript: &Transcript,
     transactions: &mut Transactions,
     number: u64,
     now: Moment,
     steps: &mut Steps<L>,
 ) -> bool {
-    match transactions.due(told.alloc, now, steps) {
+    match transactions.due(transcript.alloc, now, steps) {
         Err(_) => false,
         Ok(said) => {
             let ended = is_over(&said, number);
@@ -159,13 +159,17 @@ fn is_over(said: &Due, number: u64) -> bool {
 }
 
 /// How many of all do not end in their turn, the oldest first.
-fn unended<L: Ledger>(told: &Told, transactions: &mut Transactions, steps: &mut Steps<L>) -> usize {
+fn unended<L: Ledger>(
+    transcript: &Transcript,
+    transactions: &mut Transactions,
+    steps: &mut Steps<L>,
+) -> usize {
     let Some(now) = Moment::new(250000) else {
         return 1;
     };
     let mut wrong: usize = 0;
     for number in 0..MOST {
-        if !is_end(told, transactions, number, now, steps) {
+        if !is_end(transcript, transactions, number, now, steps) {
             wrong = wrong.saturating_add(1);
         }
     }
@@ -179,10 +183,10 @@ fn wrong_look_ups<L: Ledger>(alloc: Global, blank: Blank) -> usize
     requires some { 0 < L.parts }
 {
     let mut steps: Steps<L> = Steps::new(blank);
-    let mut told = Told::new(alloc);
+    let mut transcript = Transcript::new(alloc);
     let mut transactions = Transactions::new();
-    let unfilled = fill(&mut told, &mut transactions, &mut steps);
-    let all = branches(&mut told);
+    let unfilled = fill(&mut transcript, &mut transactions, &mut steps);
+    let all = branches(&mut transcript);
     let wrong = lost(&transactions, &all, 4_000_000, &mut steps);
     drop(all);
     drop(transactions);
@@ -196,9 +200,9 @@ fn wrong_deadlines<L: Ledger>(alloc: Global, blank: Blank) -> usize
     requires some { 0 < L.parts }
 {
     let mut steps: Steps<L> = Steps::new(blank);
-    let mut told = Told::new(alloc);
+    let mut transcript = Transcript::new(alloc);
     let mut transactions = Transactions::new();
-    let unfilled = fill(&mut told, &mut transactions, &mut steps);
+    let unfilled = fill(&mut transcript, &mut transactions, &mut steps);
     let wrong = mistaken(&transactions, 20_000_000, &mut steps);
     drop(transactions);
     wrong.saturating_add(unfilled)
@@ -211,10 +215,10 @@ fn wrong_ends<L: Ledger>(alloc: Global, blank: Blank) -> usize
     requires some { 0 < L.parts }
 {
     let mut steps: Steps<L> = Steps::new(blank);
-    let mut told = Told::new(alloc);
+    let mut transcript = Transcript::new(alloc);
     let mut transactions = Transactions::new();
-    let unfilled = fill(&mut told, &mut transactions, &mut steps);
-    let wrong = unended(&told, &mut transactions, &mut steps);
+    let unfilled = fill(&mut transcript, &mut transactions, &mut steps);
+    let wrong = unended(&transcript, &mut transactions, &mut steps);
     drop(transactions);
     wrong.saturating_add(unfilled)
 }

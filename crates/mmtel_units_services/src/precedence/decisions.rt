@@ -2,39 +2,39 @@
 
 use crate::asserting::assert_right;
 use crate::precedence::records::{Called, facts, numbers, read_call, read_ending, read_record};
-use crate::precedence::reports::{Teller, put_cause, put_code, put_uri, wrong_row};
+use crate::precedence::reports::{RowWriter, put_cause, put_code, put_uri, wrong_row};
 use mmtel_precedence::{CallFacts, Verdict, go_on, verdict};
 use mmtel_sheet_values::Forward;
-use mmtel_told::{Told, cut};
+use mmtel_test_tables::{Transcript, split_or_all};
 
-fn put_diversion(told: &mut Told, forward: Option<&Forward>, cause: u16) {
-    put_code(told, b"divert", cause);
+fn put_diversion(transcript: &mut Transcript, forward: Option<&Forward>, cause: u16) {
+    put_code(transcript, b"divert", cause);
     if let Some(forward) = forward {
-        told.add(b" ");
-        put_uri(told, &forward.target);
+        transcript.add(b" ");
+        put_uri(transcript, &forward.target);
     }
 }
 
 /// Writes a verdict as `offer`, `wait`, `divert CAUSE URI`, `divert CAUSE` for a deflection, or `WORD STATUS`.
-fn put_verdict(told: &mut Told, verdict: &Verdict) {
+fn put_verdict(transcript: &mut Transcript, verdict: &Verdict) {
     match verdict {
-        Verdict::Offer { waiting: false } => told.add(b"offer"),
-        Verdict::Offer { waiting: true } => told.add(b"wait"),
-        Verdict::Divert { forward, cause } => put_diversion(told, *forward, *cause),
-        Verdict::Refuse(cause) => put_cause(told, cause),
+        Verdict::Offer { waiting: false } => transcript.add(b"offer"),
+        Verdict::Offer { waiting: true } => transcript.add(b"wait"),
+        Verdict::Divert { forward, cause } => put_diversion(transcript, *forward, *cause),
+        Verdict::Refuse(cause) => put_cause(transcript, cause),
     }
 }
 
 /// Writes the result of `verdict`.
-fn tell_verdict(told: &mut Told, ending: &[u8], called: &Called, record: &[u8]) {
-    let ending = read_ending(told, ending);
+fn write_verdict(transcript: &mut Transcript, ending: &[u8], called: &Called, record: &[u8]) {
+    let ending = read_ending(transcript, ending);
     let call = CallFacts {
         facts: facts(called),
         registered: called.registered,
         live: called.live,
     };
-    if let Some(sheet) = read_record(told, record) {
-        put_verdict(told, &verdict(&call, &sheet, ending));
+    if let Some(sheet) = read_record(transcript, record) {
+        put_verdict(transcript, &verdict(&call, &sheet, ending));
         drop(sheet);
     }
 }
@@ -42,23 +42,23 @@ fn tell_verdict(told: &mut Told, ending: &[u8], called: &Called, record: &[u8]) 
 /// Evaluates the verdict: the event, the call, the record.
 struct Verdicts;
 
-impl Teller for Verdicts {
-    fn tell(told: &mut Told, question: &[u8]) {
-        let (ending, rest) = cut(b'|', question);
-        let (call, record) = cut(b'|', rest);
-        let called = read_call(told, call);
-        tell_verdict(told, ending, &called, record);
+impl RowWriter for Verdicts {
+    fn write_row(transcript: &mut Transcript, question: &[u8]) {
+        let (ending, rest) = split_or_all(b'|', question);
+        let (call, record) = split_or_all(b'|', rest);
+        let called = read_call(transcript, call);
+        write_verdict(transcript, ending, &called, record);
         drop(called);
     }
 }
 
 /// Writes the result of `go_on`: `made`, or the refusal.
-fn tell_onward(told: &mut Told, counts: &[u8], record: &[u8], target: &Called) {
-    let (received, done, bound, cause) = numbers(told, counts);
-    if let Some(sheet) = read_record(told, record) {
+fn write_due_diversion(transcript: &mut Transcript, counts: &[u8], record: &[u8], target: &Called) {
+    let (received, done, bound, cause) = numbers(transcript, counts);
+    if let Some(sheet) = read_record(transcript, record) {
         match go_on(&sheet, &facts(target), received, done, bound, cause) {
-            None => told.add(b"made"),
-            Some(refusal) => put_cause(told, &refusal),
+            None => transcript.add(b"made"),
+            Some(refusal) => put_cause(transcript, &refusal),
         }
         drop(sheet);
     }
@@ -68,12 +68,12 @@ fn tell_onward(told: &mut Told, counts: &[u8], record: &[u8], target: &Called) {
 /// target.
 struct Diversions;
 
-impl Teller for Diversions {
-    fn tell(told: &mut Told, question: &[u8]) {
-        let (counts, rest) = cut(b'|', question);
-        let (record, target) = cut(b'|', rest);
-        let target = read_call(told, target);
-        tell_onward(told, counts, record, &target);
+impl RowWriter for Diversions {
+    fn write_row(transcript: &mut Transcript, question: &[u8]) {
+        let (counts, rest) = split_or_all(b'|', question);
+        let (record, target) = split_or_all(b'|', rest);
+        let target = read_call(transcript, target);
+        write_due_diversion(transcript, counts, record, &target);
         drop(target);
     }
 }

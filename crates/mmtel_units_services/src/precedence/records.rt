@@ -4,12 +4,12 @@
 //! else `-` in their places, the number of calls that the account has, and the URI of the caller, or nothing.
 
 use crate::reading::{first_moment, identity, read_tables};
+use mmtel_base::number_up_to;
 use mmtel_lex::{List, Text};
 use mmtel_precedence::Ending;
 use mmtel_rules::{Facts, Identities2};
-use mmtel_scan::number_up_to;
 use mmtel_sheet_values::Sheet;
-use mmtel_told::{Told, cut};
+use mmtel_test_tables::{Transcript, split_or_all};
 use mmtel_types::Moment;
 
 /// A call of a table.
@@ -34,37 +34,37 @@ pub fn facts(called: &Called) -> Facts<'_> {
     }
 }
 
-fn number(told: &mut Told, digits: &[u8]) -> u16 {
+fn number(transcript: &mut Transcript, digits: &[u8]) -> u16 {
     match number_up_to(60_000, digits) {
         Some(number) => u16::try_from(number).unwrap_or(0),
         None => {
-            told.fail();
+            transcript.fail();
             0
         }
     }
 }
 
 /// Four numbers with spaces between them.
-pub fn numbers(told: &mut Told, words: &[u8]) -> (u16, u16, u16, u16) {
-    let (first, rest) = cut(b' ', words);
-    let (second, rest) = cut(b' ', rest);
-    let (third, fourth) = cut(b' ', rest);
+pub fn numbers(transcript: &mut Transcript, words: &[u8]) -> (u16, u16, u16, u16) {
+    let (first, rest) = split_or_all(b' ', words);
+    let (second, rest) = split_or_all(b' ', rest);
+    let (third, fourth) = split_or_all(b' ', rest);
     (
-        number(told, first),
-        number(told, second),
-        number(told, third),
-        number(told, fourth),
+        number(transcript, first),
+        number(transcript, second),
+        number(transcript, third),
+        number(transcript, fourth),
     )
 }
 
 /// The sheet of the record of these tables, which are separated by `;`.
-pub fn read_record(told: &mut Told, tables: &[u8]) -> Option<Sheet> {
-    read_tables(told, b';', tables)
+pub fn read_record(transcript: &mut Transcript, tables: &[u8]) -> Option<Sheet> {
+    read_tables(transcript, b';', tables)
 }
 
 /// The party with a sip URI; without identities where there are no bytes.
-fn party(told: &mut Told, uri: &[u8]) -> Identities2 {
-    let sip = identity(told, uri);
+fn party(transcript: &mut Transcript, uri: &[u8]) -> Identities2 {
+    let sip = identity(transcript, uri);
     Identities2 { sip, tel: None }
 }
 
@@ -77,9 +77,9 @@ fn letters(call: &[u8]) -> (u8, u8, u8, &[u8]) {
 }
 
 /// The call of a row.
-pub fn read_call(told: &mut Told, call: &[u8]) -> Called {
+pub fn read_call(transcript: &mut Transcript, call: &[u8]) -> Called {
     let (hidden, absent, live, uri) = letters(call);
-    let caller = party(told, uri);
+    let caller = party(transcript, uri);
     Called {
         caller,
         restricted: hidden == b'r',
@@ -91,18 +91,18 @@ pub fn read_call(told: &mut Told, call: &[u8]) -> Called {
 }
 
 /// The event: `arrived`, `busy N`, `silent N`, `no-reply`, `deflected`, `alerted` or `other N`.
-pub fn read_ending(told: &mut Told, words: &[u8]) -> Ending {
-    let (name, code) = cut(b' ', words);
+pub fn read_ending(transcript: &mut Transcript, words: &[u8]) -> Ending {
+    let (name, code) = split_or_all(b' ', words);
     match name {
         b"arrived" => Ending::Arrived,
-        b"busy" => Ending::UserBusy(number(told, code)),
-        b"silent" => Ending::NotReachable(number(told, code)),
+        b"busy" => Ending::UserBusy(number(transcript, code)),
+        b"silent" => Ending::NotReachable(number(transcript, code)),
         b"no-reply" => Ending::NoReply,
         b"deflected" => Ending::Deflected { alerted: false },
         b"alerted" => Ending::Deflected { alerted: true },
         _ => {
-            told.keep(name == b"other".as_slice());
-            Ending::Other(number(told, code))
+            transcript.fail_unless(name == b"other".as_slice());
+            Ending::Other(number(transcript, code))
         }
     }
 }

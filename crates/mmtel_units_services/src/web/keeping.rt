@@ -2,11 +2,11 @@
 
 use crate::asserting::assert_right;
 use crate::web::pages::{numbers, unless_failed};
+use mmtel_base::Text;
 use mmtel_charging::{Kind, Row};
 use mmtel_keeper::{KeepFault, Keeper, MemoryKeeper};
-use mmtel_scan::Text;
 use mmtel_sheet_texts::SheetTexts;
-use mmtel_told::{Rows, Told, wrong_line};
+use mmtel_test_tables::{RowRunner, Transcript, wrong_line};
 use mmtel_types::{Account, CallNo, Cause, Moment};
 use std::alloc::Global;
 
@@ -48,58 +48,58 @@ fn letter_of(account: Account) -> u8 {
     u8::try_from(account.0).unwrap_or(b'?')
 }
 
-fn add_fault(told: &mut Told, fault: KeepFault) {
+fn add_fault(transcript: &mut Transcript, fault: KeepFault) {
     match fault {
-        KeepFault::Failed => told.add(b"failed"),
-        KeepFault::NoMemory => told.add(b"memory"),
+        KeepFault::Failed => transcript.add(b"failed"),
+        KeepFault::NoMemory => transcript.add(b"memory"),
     }
 }
 
-fn add_done(told: &mut Told, done: Result<(), KeepFault>) {
+fn add_done(transcript: &mut Transcript, done: Result<(), KeepFault>) {
     match done {
-        Ok(()) => told.add(b"ok"),
-        Err(fault) => add_fault(told, fault),
+        Ok(()) => transcript.add(b"ok"),
+        Err(fault) => add_fault(transcript, fault),
     }
 }
 
-fn add_sheets(told: &mut Told, sheets: &[(Account, Text)]) {
+fn add_sheets(transcript: &mut Transcript, sheets: &[(Account, Text)]) {
     for sheet in sheets {
-        told.add(&[letter_of(sheet.0)]);
-        told.add(sheet.1.bytes());
-        told.add(b".");
+        transcript.add(&[letter_of(sheet.0)]);
+        transcript.add(sheet.1.bytes());
+        transcript.add(b".");
     }
 }
 
-fn add_loaded(told: &mut Told, keeper: &mut MemoryKeeper) {
-    match keeper.load(told.alloc) {
+fn add_loaded(transcript: &mut Transcript, keeper: &mut MemoryKeeper) {
+    match keeper.load(transcript.alloc) {
         Ok(sheets) => {
-            add_sheets(told, sheets.items());
+            add_sheets(transcript, sheets.items());
             drop(sheets);
         }
-        Err(fault) => add_fault(told, fault),
+        Err(fault) => add_fault(transcript, fault),
     }
 }
 
-fn add_migrated(told: &mut Told, keeper: &mut MemoryKeeper) {
-    match keeper.migrate(told.alloc) {
-        Ok(count) => told.add_number(count),
-        Err(fault) => add_fault(told, fault),
+fn add_migrated(transcript: &mut Transcript, keeper: &mut MemoryKeeper) {
+    match keeper.migrate(transcript.alloc) {
+        Ok(count) => transcript.add_number(count),
+        Err(fault) => add_fault(transcript, fault),
     }
 }
 
-fn add_digits(told: &mut Told, rows: &[Row]) {
+fn add_digits(transcript: &mut Transcript, rows: &[Row]) {
     for row in rows {
-        told.add(&[digit_of(row)]);
+        transcript.add(&[digit_of(row)]);
     }
 }
 
-fn add_listed(told: &mut Told, keeper: &mut MemoryKeeper) {
-    match keeper.rows(told.alloc) {
+fn add_listed(transcript: &mut Transcript, keeper: &mut MemoryKeeper) {
+    match keeper.rows(transcript.alloc) {
         Ok(rows) => {
-            add_digits(told, rows.items());
+            add_digits(transcript, rows.items());
             drop(rows);
         }
-        Err(fault) => add_fault(told, fault),
+        Err(fault) => add_fault(transcript, fault),
     }
 }
 
@@ -114,31 +114,31 @@ fn add_rows(keeper: &mut MemoryKeeper, alloc: Global, digits: &[u8]) -> Result<(
 
 /// A keeper whose calls a table makes.
 #[derive(Drop)]
-struct Kept {
+struct KeeperRows {
     keeper: MemoryKeeper,
 }
 
-impl Rows for Kept {
-    fn tell(&mut self, told: &mut Told, asked: &[u8]) {
+impl RowRunner for KeeperRows {
+    fn run_row(&mut self, transcript: &mut Transcript, asked: &[u8]) {
         match asked {
             [b'b', path @ ..] => {
-                let done = self.keeper.bind(told.alloc, path);
-                add_done(told, done);
+                let done = self.keeper.bind(transcript.alloc, path);
+                add_done(transcript, done);
             }
             [b's', account, text @ ..] => {
                 let account = Account(u32::from(*account));
-                let done = self.keeper.store(told.alloc, account, text);
-                add_done(told, done);
+                let done = self.keeper.store(transcript.alloc, account, text);
+                add_done(transcript, done);
             }
             [b'a', digits @ ..] => {
-                let done = add_rows(&mut self.keeper, told.alloc, digits);
-                add_done(told, done);
+                let done = add_rows(&mut self.keeper, transcript.alloc, digits);
+                add_done(transcript, done);
             }
-            [b'l', ..] => add_loaded(told, &mut self.keeper),
-            [b'm', ..] => add_migrated(told, &mut self.keeper),
-            _ => add_listed(told, &mut self.keeper),
+            [b'l', ..] => add_loaded(transcript, &mut self.keeper),
+            [b'm', ..] => add_migrated(transcript, &mut self.keeper),
+            _ => add_listed(transcript, &mut self.keeper),
         }
-        told.add(b"\n");
+        transcript.add(b"\n");
     }
 }
 
@@ -232,38 +232,38 @@ struct Texts {
 
 impl Texts {
     /// Puts a text in place of the account's previous one, with space that was reserved before.
-    fn replace(&mut self, told: &mut Told, account: Account, text: &[u8]) {
-        let text = told.copy(text);
-        match self.texts.reserve(told.alloc) {
+    fn replace(&mut self, transcript: &mut Transcript, account: Account, text: &[u8]) {
+        let text = transcript.copy(text);
+        match self.texts.reserve(transcript.alloc) {
             Ok(()) => self.texts.replace(account, text),
             Err(_) => {
                 drop(text);
-                told.fail();
+                transcript.fail();
             }
         }
     }
 
-    fn put(&mut self, told: &mut Told, account: Account, text: &[u8]) {
-        let text = told.copy(text);
-        let done = self.texts.put(told.alloc, account, text);
-        told.keep(done.is_ok());
+    fn put(&mut self, transcript: &mut Transcript, account: Account, text: &[u8]) {
+        let text = transcript.copy(text);
+        let done = self.texts.put(transcript.alloc, account, text);
+        transcript.fail_unless(done.is_ok());
     }
 }
 
-impl Rows for Texts {
-    fn tell(&mut self, told: &mut Told, asked: &[u8]) {
+impl RowRunner for Texts {
+    fn run_row(&mut self, transcript: &mut Transcript, asked: &[u8]) {
         match asked {
-            [b'p', account, text @ ..] => self.put(told, Account(u32::from(*account)), text),
+            [b'p', account, text @ ..] => self.put(transcript, Account(u32::from(*account)), text),
             [b'r', account, text @ ..] => {
-                self.replace(told, Account(u32::from(*account)), text);
+                self.replace(transcript, Account(u32::from(*account)), text);
             }
             [b't', account, ..] => match self.texts.text(Account(u32::from(*account))) {
-                Some(text) => told.add(text.bytes()),
-                None => told.add(b"none"),
+                Some(text) => transcript.add(text.bytes()),
+                None => transcript.add(b"none"),
             },
-            _ => add_sheets(told, self.texts.items()),
+            _ => add_sheets(transcript, self.texts.items()),
         }
-        told.add(b"\n");
+        transcript.add(b"\n");
     }
 }
 
@@ -300,25 +300,25 @@ fn wrong_text(alloc: Global) -> usize {
 }
 
 fn wrong_kept(alloc: Global) -> usize {
-    let mut told = Told::new(alloc);
-    let failing = numbers(&mut told, &[3, 8, 11]);
-    let mut kept = Kept {
+    let mut transcript = Transcript::new(alloc);
+    let failing = numbers(&mut transcript, &[3, 8, 11]);
+    let mut kept = KeeperRows {
         keeper: MemoryKeeper::new(failing),
     };
     let wrong = wrong_line(alloc, &mut kept, KEEPING);
     drop(kept);
-    unless_failed(told, wrong)
+    unless_failed(transcript, wrong)
 }
 
 fn wrong_migrated(alloc: Global) -> usize {
-    let mut told = Told::new(alloc);
-    let failing = numbers(&mut told, &[3]);
-    let mut kept = Kept {
+    let mut transcript = Transcript::new(alloc);
+    let failing = numbers(&mut transcript, &[3]);
+    let mut kept = KeeperRows {
         keeper: MemoryKeeper::new(failing),
     };
     let wrong = wrong_line(alloc, &mut kept, MIGRATING);
     drop(kept);
-    unless_failed(told, wrong)
+    unless_failed(transcript, wrong)
 }
 
 #[test]

@@ -2,9 +2,9 @@
 
 use crate::asserting::assert_right;
 use crate::web::pages::{numbers, unless_failed};
+use mmtel_base::{List, Text};
 use mmtel_link::{Arrival, Event, Link, MemoryLink, SendFault};
-use mmtel_scan::{List, Text};
-use mmtel_told::{Rows, Told, wrong_line};
+use mmtel_test_tables::{RowRunner, Transcript, wrong_line};
 use mmtel_types::{Addr, Moment};
 use std::alloc::Global;
 
@@ -23,78 +23,78 @@ fn moment(ms: u8) -> Moment {
     }
 }
 
-fn push(told: &mut Told, events: &mut List<Event>, event: Event) {
-    let done = events.push(told.alloc, event);
-    told.keep(done.is_ok());
+fn push(transcript: &mut Transcript, events: &mut List<Event>, event: Event) {
+    let done = events.push(transcript.alloc, event);
+    transcript.fail_unless(done.is_ok());
 }
 
 /// A datagram, a request, and a tick.
-fn three_events(told: &mut Told) -> List<Event> {
+fn three_events(transcript: &mut Transcript) -> List<Event> {
     let mut events = List::new();
-    let bytes = told.copy(b"one");
+    let bytes = transcript.copy(b"one");
     let from = addr(5071);
     let at = moment(1);
-    push(told, &mut events, Event::Datagram { from, at, bytes });
-    let bytes = told.copy(b"GET abc");
+    push(transcript, &mut events, Event::Datagram { from, at, bytes });
+    let bytes = transcript.copy(b"GET abc");
     let at = moment(2);
-    push(told, &mut events, Event::Web { at, bytes });
-    push(told, &mut events, Event::Quiet { at: moment(3) });
+    push(transcript, &mut events, Event::Web { at, bytes });
+    push(transcript, &mut events, Event::Quiet { at: moment(3) });
     events
 }
 
-fn add_arrival(told: &mut Told, arrival: &Arrival) {
+fn add_arrival(transcript: &mut Transcript, arrival: &Arrival) {
     match arrival {
-        Arrival::Datagram { bytes, .. } => told.add(bytes.bytes()),
-        Arrival::Web { .. } => told.add(b"web"),
-        Arrival::Quiet { .. } => told.add(b"quiet"),
-        Arrival::Closed => told.add(b"closed"),
-        Arrival::NoMemory => told.fail(),
+        Arrival::Datagram { bytes, .. } => transcript.add(bytes.bytes()),
+        Arrival::Web { .. } => transcript.add(b"web"),
+        Arrival::Quiet { .. } => transcript.add(b"quiet"),
+        Arrival::Closed => transcript.add(b"closed"),
+        Arrival::NoMemory => transcript.fail(),
     }
 }
 
-fn add_next(told: &mut Told, link: &mut MemoryLink) {
-    match link.next(told.alloc) {
+fn add_next(transcript: &mut Transcript, link: &mut MemoryLink) {
+    match link.next(transcript.alloc) {
         Ok(arrival) => {
-            add_arrival(told, &arrival);
+            add_arrival(transcript, &arrival);
             drop(arrival);
         }
-        Err(_) => told.add(b"failed"),
+        Err(_) => transcript.add(b"failed"),
     }
 }
 
-fn add_read(told: &mut Told, link: &mut MemoryLink) {
+fn add_read(transcript: &mut Transcript, link: &mut MemoryLink) {
     let mut buf = [0; 4];
     match link.web_read(&mut buf) {
-        Ok(count) => told.add(&buf[..count]),
-        Err(_) => told.add(b"failed"),
+        Ok(count) => transcript.add(&buf[..count]),
+        Err(_) => transcript.add(b"failed"),
     }
 }
 
-fn add_given(told: &mut Told, given: Result<(), SendFault>) {
+fn add_delivered(transcript: &mut Transcript, given: Result<(), SendFault>) {
     match given {
-        Ok(()) => told.add(b"ok"),
-        Err(SendFault::Failed) => told.add(b"failed"),
-        Err(SendFault::NoMemory) => told.fail(),
+        Ok(()) => transcript.add(b"ok"),
+        Err(SendFault::Failed) => transcript.add(b"failed"),
+        Err(SendFault::NoMemory) => transcript.fail(),
     }
 }
 
-fn add_told(told: &mut Told, text: &Text, lost: bool) {
-    told.add(text.bytes());
-    told.add_if(lost, b"!", b".");
+fn add_reported(transcript: &mut Transcript, text: &Text, lost: bool) {
+    transcript.add(text.bytes());
+    transcript.add_if(lost, b"!", b".");
 }
 
-fn add_all(told: &mut Told, link: &MemoryLink) {
+fn add_all(transcript: &mut Transcript, link: &MemoryLink) {
     for sent in link.offers() {
-        add_told(told, &sent.text, sent.lost);
+        add_reported(transcript, &sent.text, sent.lost);
     }
     for replied in link.replies() {
-        add_told(told, &replied.text, replied.lost);
+        add_reported(transcript, &replied.text, replied.lost);
     }
 }
 
-fn add_bound(told: &mut Told, link: &mut MemoryLink) {
+fn add_bound(transcript: &mut Transcript, link: &mut MemoryLink) {
     let bound = link.bind(addr(5060), addr(8080)).is_ok();
-    told.add_if(bound, b"ok", b"failed");
+    transcript.add_if(bound, b"ok", b"failed");
 }
 
 /// A link whose calls a table makes.
@@ -103,23 +103,23 @@ struct Linked {
     link: MemoryLink,
 }
 
-impl Rows for Linked {
-    fn tell(&mut self, told: &mut Told, asked: &[u8]) {
+impl RowRunner for Linked {
+    fn run_row(&mut self, transcript: &mut Transcript, asked: &[u8]) {
         match asked {
-            [b'b', ..] => add_bound(told, &mut self.link),
-            [b'n', ..] => add_next(told, &mut self.link),
-            [b'r', ..] => add_read(told, &mut self.link),
+            [b'b', ..] => add_bound(transcript, &mut self.link),
+            [b'n', ..] => add_next(transcript, &mut self.link),
+            [b'r', ..] => add_read(transcript, &mut self.link),
             [b'w', text @ ..] => {
-                let given = self.link.web_reply(told.alloc, text);
-                add_given(told, given);
+                let given = self.link.web_reply(transcript.alloc, text);
+                add_delivered(transcript, given);
             }
             [b's', text @ ..] => {
-                let given = self.link.send(told.alloc, addr(5072), text);
-                add_given(told, given);
+                let given = self.link.send(transcript.alloc, addr(5072), text);
+                add_delivered(transcript, given);
             }
-            _ => add_all(told, &self.link),
+            _ => add_all(transcript, &self.link),
         }
-        told.add(b"\n");
+        transcript.add(b"\n");
     }
 }
 
@@ -156,15 +156,15 @@ lost!sent.reply.
 ";
 
 fn wrong_link(alloc: Global) -> usize {
-    let mut told = Told::new(alloc);
-    let events = three_events(&mut told);
-    let failing = numbers(&mut told, &[2, 6, 9]);
+    let mut transcript = Transcript::new(alloc);
+    let events = three_events(&mut transcript);
+    let failing = numbers(&mut transcript, &[2, 6, 9]);
     let mut linked = Linked {
         link: MemoryLink::new(events, failing),
     };
     let wrong = wrong_line(alloc, &mut linked, LINKING);
     drop(linked);
-    unless_failed(told, wrong)
+    unless_failed(transcript, wrong)
 }
 
 #[test]

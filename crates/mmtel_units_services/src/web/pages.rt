@@ -1,22 +1,22 @@
 //! Bytes in tables, in which `%` stands for CR and `~` for LF.
 
-use mmtel_scan::List;
-use mmtel_told::Told;
+use mmtel_base::List;
+use mmtel_test_tables::Transcript;
 
 /// Adds bytes with `%` for CR and `~` for LF.
-pub fn add_shown(told: &mut Told, bytes: &[u8]) {
+pub fn add_shown(transcript: &mut Transcript, bytes: &[u8]) {
     for byte in bytes {
         match *byte {
-            b'\r' => told.add(b"%"),
-            b'\n' => told.add(b"~"),
-            other => told.add(&[other]),
+            b'\r' => transcript.add(b"%"),
+            b'\n' => transcript.add(b"~"),
+            other => transcript.add(&[other]),
         }
     }
 }
 
 /// The bytes with CR for `%` and LF for `~`.
-pub fn meant(told: &mut Told, line: &[u8]) -> Told {
-    let mut meant = Told::new(told.alloc);
+pub fn meant(transcript: &mut Transcript, line: &[u8]) -> Transcript {
+    let mut meant = Transcript::new(transcript.alloc);
     for byte in line {
         match *byte {
             b'%' => meant.add(b"\r"),
@@ -24,30 +24,30 @@ pub fn meant(told: &mut Told, line: &[u8]) -> Told {
             other => meant.add(&[other]),
         }
     }
-    told.keep(!meant.has_failed());
+    transcript.fail_unless(!meant.has_failed());
     meant
 }
 
 /// Adds bytes so many times.
-pub fn add_many(told: &mut Told, bytes: &[u8], times: usize) {
+pub fn add_many(transcript: &mut Transcript, bytes: &[u8], times: usize) {
     for _ in 0..times {
-        told.add(bytes);
+        transcript.add(bytes);
     }
 }
 
 /// A list of these numbers.
-pub fn numbers(told: &mut Told, numbers: &[u64]) -> List<u64> {
+pub fn numbers(transcript: &mut Transcript, numbers: &[u64]) -> List<u64> {
     let mut list = List::new();
     for number in numbers {
-        let done = list.push(told.alloc, *number);
-        told.keep(done.is_ok());
+        let done = list.push(transcript.alloc, *number);
+        transcript.fail_unless(done.is_ok());
     }
     list
 }
 
 /// The number of a line; 1 where something failed.
-pub fn unless_failed(told: Told, line: usize) -> usize {
-    let failed = told.has_failed();
-    drop(told);
+pub fn unless_failed(transcript: Transcript, line: usize) -> usize {
+    let failed = transcript.has_failed();
+    drop(transcript);
     if failed { 1 } else { line }
 }

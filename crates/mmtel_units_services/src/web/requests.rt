@@ -4,46 +4,51 @@ ghost use Rattle.http.specs.StatusCode.{IsStatusCode};
 
 use crate::asserting::assert_right;
 use crate::web::pages::{add_shown, meant, numbers, unless_failed};
-use mmtel_in_force::Records;
 use mmtel_keeper::MemoryKeeper;
 use mmtel_lex::{Uri, read_uri};
-use mmtel_serving::serve;
-use mmtel_told::{Rows, Told, wrong_line};
+use mmtel_records_in_force::Records;
+use mmtel_test_tables::{RowRunner, Transcript, wrong_line};
 use mmtel_trust::Accounts;
 use mmtel_types::Account;
 use mmtel_web::{Web, WebDirectory, Whole, answer, reply, whole};
+use mmtel_web_service::serve;
 use std::alloc::Global;
 
 /// A URI that can be read.
-fn uri(told: &mut Told, text: &[u8]) -> Option<Uri> {
-    let uri = read_uri(told.alloc, text);
-    told.noted(uri)
+fn uri(transcript: &mut Transcript, text: &[u8]) -> Option<Uri> {
+    let uri = read_uri(transcript.alloc, text);
+    transcript.value_or_fail(uri)
 }
 
 /// Adds an identity of an account.
-fn add(told: &mut Told, accounts: &mut Accounts, number: u32, text: &[u8]) {
-    if let Some(uri) = uri(told, text) {
-        let done = accounts.add(told.alloc, Account(number), uri);
-        told.keep(done.is_ok());
+fn add(transcript: &mut Transcript, accounts: &mut Accounts, number: u32, text: &[u8]) {
+    if let Some(uri) = uri(transcript, text) {
+        let done = accounts.add(transcript.alloc, Account(number), uri);
+        transcript.fail_unless(done.is_ok());
     }
 }
 
 /// The accounts of the tables.
-fn accounts(told: &mut Told) -> Accounts {
+fn accounts(transcript: &mut Transcript) -> Accounts {
     let mut accounts = Accounts::new();
-    add(told, &mut accounts, 1, b"sip:alice@home.example");
-    add(told, &mut accounts, 1, b"tel:+4930111");
-    add(told, &mut accounts, 2, b"sip:bob@home.example");
-    add(told, &mut accounts, 4, b"tel:+4911");
-    add(told, &mut accounts, 5, b"sip:+4911@home.example");
-    add(told, &mut accounts, u32::MAX, b"sip:last@home.example");
+    add(transcript, &mut accounts, 1, b"sip:alice@home.example");
+    add(transcript, &mut accounts, 1, b"tel:+4930111");
+    add(transcript, &mut accounts, 2, b"sip:bob@home.example");
+    add(transcript, &mut accounts, 4, b"tel:+4911");
+    add(transcript, &mut accounts, 5, b"sip:+4911@home.example");
+    add(
+        transcript,
+        &mut accounts,
+        u32::MAX,
+        b"sip:last@home.example",
+    );
     accounts
 }
 
 /// The accounts and the operator in the tables.
-fn directory(told: &mut Told) -> WebDirectory {
-    let accounts = accounts(told);
-    let operator = uri(told, b"sip:op@home.example");
+fn directory(transcript: &mut Transcript) -> WebDirectory {
+    let accounts = accounts(transcript);
+    let operator = uri(transcript, b"sip:op@home.example");
     WebDirectory {
         accounts,
         operator,
@@ -60,12 +65,12 @@ struct Server {
 }
 
 /// A server whose keeper's calls of these numbers fail.
-fn make_server(told: &mut Told, failing: &[u64]) -> Server {
-    let directory = directory(told);
-    let failing = numbers(told, failing);
+fn make_server(transcript: &mut Transcript, failing: &[u64]) -> Server {
+    let directory = directory(transcript);
+    let failing = numbers(transcript, failing);
     Server {
         directory,
-        records: Records::new(told.alloc),
+        records: Records::new(transcript.alloc),
         keeper: MemoryKeeper::new(failing),
     }
 }
@@ -78,39 +83,44 @@ fn digit_of(account: Account) -> &'static [u8] {
     }
 }
 
-fn add_web(told: &mut Told, web: &Web) {
+fn add_web(transcript: &mut Transcript, web: &Web) {
     match web {
-        Web::Read(text) => add_shown(told, text.bytes()),
+        Web::Read(text) => add_shown(transcript, text.bytes()),
         Web::Store {
             account,
             text,
             reply,
             ..
         } => {
-            told.add(b"keeps ");
-            told.add(digit_of(*account));
-            told.add(b" ");
-            add_shown(told, text.bytes());
-            told.add(b"|");
-            add_shown(told, reply.bytes());
+            transcript.add(b"keeps ");
+            transcript.add(digit_of(*account));
+            transcript.add(b" ");
+            add_shown(transcript, text.bytes());
+            transcript.add(b"|");
+            add_shown(transcript, reply.bytes());
         }
-        Web::Charges => told.add(b"charges"),
+        Web::Charges => transcript.add(b"charges"),
         Web::Mailbox { account, body } => {
-            told.add(b"mailbox ");
-            told.add(digit_of(*account));
-            told.add(b" ");
-            add_shown(told, body.bytes());
+            transcript.add(b"mailbox ");
+            transcript.add(digit_of(*account));
+            transcript.add(b" ");
+            add_shown(transcript, body.bytes());
         }
     }
 }
 
-fn add_asked(told: &mut Told, server: &Server, bytes: &[u8]) {
-    match answer(told.alloc, &server.directory, server.records.texts(), bytes) {
+fn add_asked(transcript: &mut Transcript, server: &Server, bytes: &[u8]) {
+    match answer(
+        transcript.alloc,
+        &server.directory,
+        server.records.texts(),
+        bytes,
+    ) {
         Ok(web) => {
-            add_web(told, &web);
+            add_web(transcript, &web);
             drop(web);
         }
-        Err(_) => told.fail(),
+        Err(_) => transcript.fail(),
     }
 }
 
@@ -120,74 +130,74 @@ struct Asking {
     server: Server,
 }
 
-impl Rows for Asking {
-    fn tell(&mut self, told: &mut Told, asked: &[u8]) {
-        let bytes = meant(told, asked);
-        add_asked(told, &self.server, bytes.bytes());
+impl RowRunner for Asking {
+    fn run_row(&mut self, transcript: &mut Transcript, asked: &[u8]) {
+        let bytes = meant(transcript, asked);
+        add_asked(transcript, &self.server, bytes.bytes());
         drop(bytes);
-        told.add(b"\n");
+        transcript.add(b"\n");
     }
 }
 
-fn add_waiting(told: &mut Told, waiting: Option<u8>) {
+fn add_waiting(transcript: &mut Transcript, waiting: Option<u8>) {
     match waiting {
-        Some(2) => told.add(b" two calls"),
-        Some(_) => told.add(b" more"),
+        Some(2) => transcript.add(b" two calls"),
+        Some(_) => transcript.add(b" more"),
         None => {}
     }
 }
 
 impl Server {
-    fn serve(&mut self, told: &mut Told, bytes: &[u8]) {
+    fn serve(&mut self, transcript: &mut Transcript, bytes: &[u8]) {
         match serve(
-            told.alloc,
+            transcript.alloc,
             &self.directory,
             &mut self.records,
             &mut self.keeper,
             bytes,
         ) {
             Ok(served) => {
-                add_shown(told, served.reply.bytes());
+                add_shown(transcript, served.reply.bytes());
                 drop(served);
             }
-            Err(_) => told.fail(),
+            Err(_) => transcript.fail(),
         }
     }
 }
 
 /// Processes a request; then, where bob's record is not the empty one, his capacity.
-impl Rows for Server {
-    fn tell(&mut self, told: &mut Told, asked: &[u8]) {
-        let bytes = meant(told, asked);
-        self.serve(told, bytes.bytes());
+impl RowRunner for Server {
+    fn run_row(&mut self, transcript: &mut Transcript, asked: &[u8]) {
+        let bytes = meant(transcript, asked);
+        self.serve(transcript, bytes.bytes());
         drop(bytes);
         if let Some(sheet) = self.records.sheet(Account(2)) {
-            add_waiting(told, sheet.waiting);
+            add_waiting(transcript, sheet.waiting);
         }
-        told.add(b"\n");
+        transcript.add(b"\n");
     }
 }
 
 /// The number of the first line with another reply of a server that does nothing of what it is to do, and where alice has a record; 0 where there is none.
 fn wrong_asked(alloc: Global, table: &[u8]) -> usize {
-    let mut told = Told::new(alloc);
-    let mut server = make_server(&mut told, &[1, 2]);
-    let record = told.copy(b"a = 1");
+    let mut transcript = Transcript::new(alloc);
+    let mut server = make_server(&mut transcript, &[1, 2]);
+    let record = transcript.copy(b"a = 1");
     let done = server.records.put(alloc, Account(1), record);
-    told.keep(done.is_ok());
+    transcript.fail_unless(done.is_ok());
     let mut asking = Asking { server };
     let wrong = wrong_line(alloc, &mut asking, table);
     drop(asking);
-    unless_failed(told, wrong)
+    unless_failed(transcript, wrong)
 }
 
 /// The same of a server whose keeper's third and sixth call fail.
 fn wrong_served(alloc: Global, table: &[u8]) -> usize {
-    let mut told = Told::new(alloc);
-    let mut server = make_server(&mut told, &[3, 6]);
+    let mut transcript = Transcript::new(alloc);
+    let mut server = make_server(&mut transcript, &[3, 6]);
     let wrong = wrong_line(alloc, &mut server, table);
     drop(server);
-    unless_failed(told, wrong)
+    unless_failed(transcript, wrong)
 }
 
 /// Paths, methods, accounts, identities, records, uploads, and what is no request; the first case that applies decides.
@@ -463,26 +473,26 @@ HTTP/1.1 507 Insufficient Storage%~Content-Length: 0%~Connection: close%~%~
 HTTP/1.1 200 OK%~Content-Type: text/csv%~Content-Length: 4%~Connection: close%~%~a,b~
 ";
 
-fn add_reply(told: &mut Told, code: u16, body: &[u8])
+fn add_reply(transcript: &mut Transcript, code: u16, body: &[u8])
     requires { IsStatusCode code }
 {
-    match reply(told.alloc, code, body) {
+    match reply(transcript.alloc, code, body) {
         Ok(text) => {
-            add_shown(told, text.bytes());
+            add_shown(transcript, text.bytes());
             drop(text);
         }
-        Err(_) => told.fail(),
+        Err(_) => transcript.fail(),
     }
-    told.add(b"\n");
+    transcript.add(b"\n");
 }
 
 fn wrong_reply(alloc: Global) -> usize {
-    let mut told = Told::new(alloc);
-    add_reply(&mut told, 503, b"");
-    add_reply(&mut told, 507, b"");
-    add_reply(&mut told, 200, b"a,b\n");
-    let wrong = told.wrong_line(REPLIES);
-    drop(told);
+    let mut transcript = Transcript::new(alloc);
+    add_reply(&mut transcript, 503, b"");
+    add_reply(&mut transcript, 507, b"");
+    add_reply(&mut transcript, 200, b"a,b\n");
+    let wrong = transcript.wrong_line(REPLIES);
+    drop(transcript);
     wrong
 }
 
@@ -507,34 +517,39 @@ fn is_refused(web: &Web) -> bool {
 }
 
 /// Adds `!` where these bytes can become a whole request, or get another reply than 400.
-fn add_early(told: &mut Told, server: &Server, bytes: &[u8]) {
-    told.add_if(could_be_whole(bytes), b"!", b"");
-    match answer(told.alloc, &server.directory, server.records.texts(), bytes) {
+fn add_early(transcript: &mut Transcript, server: &Server, bytes: &[u8]) {
+    transcript.add_if(could_be_whole(bytes), b"!", b"");
+    match answer(
+        transcript.alloc,
+        &server.directory,
+        server.records.texts(),
+        bytes,
+    ) {
         Ok(web) => {
-            told.add_if(is_refused(&web), b"", b"!");
+            transcript.add_if(is_refused(&web), b"", b"!");
             drop(web);
         }
-        Err(_) => told.fail(),
+        Err(_) => transcript.fail(),
     }
 }
 
 /// The same of each prefix of these bytes.
-fn add_beginnings(told: &mut Told, server: &Server, bytes: &[u8]) {
+fn add_beginnings(transcript: &mut Transcript, server: &Server, bytes: &[u8]) {
     for len in 0..bytes.len() {
-        add_early(told, server, &bytes[..len]);
+        add_early(transcript, server, &bytes[..len]);
     }
 }
 
 /// A connection that ends within an upload: no proper prefix of it is a request.
 fn wrong_early(alloc: Global) -> usize {
-    let mut told = Told::new(alloc);
-    let server = make_server(&mut told, &[1, 2]);
-    let upload = meant(&mut told, UPLOAD);
-    add_beginnings(&mut told, &server, upload.bytes());
+    let mut transcript = Transcript::new(alloc);
+    let server = make_server(&mut transcript, &[1, 2]);
+    let upload = meant(&mut transcript, UPLOAD);
+    add_beginnings(&mut transcript, &server, upload.bytes());
     drop(upload);
     drop(server);
-    let wrong = told.wrong_line(b"");
-    drop(told);
+    let wrong = transcript.wrong_line(b"");
+    drop(transcript);
     wrong
 }
 

@@ -3,58 +3,58 @@
 ghost use Rattle.std.specs.Prelude.{◌≤◌};
 
 use crate::asserting::assert_right;
+use mmtel_base::{List, Text};
 use mmtel_charging::{Kind, Row, rows_text};
 use mmtel_keeper::{KeepFault, Keeper};
-use mmtel_scan::{List, Text};
-use mmtel_store::SqliteKeeper;
-use mmtel_told::Told;
+use mmtel_sqlite::SqliteKeeper;
+use mmtel_test_tables::Transcript;
 use mmtel_types::{Account, CallNo, Cause, Moment};
 
 /// Adds the result of a call.
-fn add_done(told: &mut Told, done: Result<(), KeepFault>) {
+fn add_done(transcript: &mut Transcript, done: Result<(), KeepFault>) {
     match done {
-        Ok(()) => told.add(b"ok\n"),
-        Err(KeepFault::Failed) => told.add(b"failed\n"),
-        Err(KeepFault::NoMemory) => told.fail(),
+        Ok(()) => transcript.add(b"ok\n"),
+        Err(KeepFault::Failed) => transcript.add(b"failed\n"),
+        Err(KeepFault::NoMemory) => transcript.fail(),
     }
 }
 
-fn add_sheets(told: &mut Told, sheets: &[(Account, Text)]) {
+fn add_sheets(transcript: &mut Transcript, sheets: &[(Account, Text)]) {
     for sheet in sheets {
-        told.add_if(sheet.0 == Account(2), b"two ", b"any ");
-        told.add_line(sheet.1.bytes());
+        transcript.add_if(sheet.0 == Account(2), b"two ", b"any ");
+        transcript.add_line(sheet.1.bytes());
     }
 }
 
-fn add_loaded(told: &mut Told, loaded: Result<List<(Account, Text)>, KeepFault>) {
+fn add_loaded(transcript: &mut Transcript, loaded: Result<List<(Account, Text)>, KeepFault>) {
     match loaded {
         Ok(sheets) => {
-            add_sheets(told, sheets.items());
+            add_sheets(transcript, sheets.items());
             drop(sheets);
         }
-        Err(KeepFault::Failed) => told.add(b"failed\n"),
-        Err(KeepFault::NoMemory) => told.fail(),
+        Err(KeepFault::Failed) => transcript.add(b"failed\n"),
+        Err(KeepFault::NoMemory) => transcript.fail(),
     }
 }
 
-fn add_rows(told: &mut Told, rows: &[Row]) {
-    match rows_text(told.alloc, rows) {
+fn add_rows(transcript: &mut Transcript, rows: &[Row]) {
+    match rows_text(transcript.alloc, rows) {
         Ok(text) => {
-            told.add(text.bytes());
+            transcript.add(text.bytes());
             drop(text);
         }
-        Err(_) => told.fail(),
+        Err(_) => transcript.fail(),
     }
 }
 
-fn add_listed(told: &mut Told, listed: Result<List<Row>, KeepFault>) {
+fn add_listed(transcript: &mut Transcript, listed: Result<List<Row>, KeepFault>) {
     match listed {
         Ok(rows) => {
-            add_rows(told, rows.items());
+            add_rows(transcript, rows.items());
             drop(rows);
         }
-        Err(KeepFault::Failed) => told.add(b"failed\n"),
-        Err(KeepFault::NoMemory) => told.fail(),
+        Err(KeepFault::Failed) => transcript.add(b"failed\n"),
+        Err(KeepFault::NoMemory) => transcript.fail(),
     }
 }
 
@@ -95,35 +95,35 @@ fn diverted_row() -> Row {
     }
 }
 
-fn add_migrated(told: &mut Told, done: Result<u64, KeepFault>) {
+fn add_migrated(transcript: &mut Transcript, done: Result<u64, KeepFault>) {
     match done {
         Ok(count) => {
-            told.add_number(count);
-            told.add(b"\n");
+            transcript.add_number(count);
+            transcript.add(b"\n");
         }
-        Err(fault) => add_done(told, Err(fault)),
+        Err(fault) => add_done(transcript, Err(fault)),
     }
 }
 
 /// Calls on a keeper that is bound to a path: their results.
-fn keep(told: &mut Told, keeper: &mut SqliteKeeper<'_>, path: &[u8]) {
-    let alloc = told.alloc;
-    add_done(told, keeper.bind(alloc, path));
-    add_done(told, keeper.store(alloc, Account(2), b"first"));
-    add_done(told, keeper.store(alloc, Account(2), b"a = 1"));
-    add_done(told, keeper.add_rows(alloc, &[answered_row()]));
-    add_done(told, keeper.add_rows(alloc, &[diverted_row()]));
-    add_done(told, keeper.store(alloc, Account(3), b"version = 1"));
-    add_migrated(told, keeper.migrate(alloc));
-    add_migrated(told, keeper.migrate(alloc));
-    add_done(told, keeper.store(alloc, Account(3), b"b = 1"));
+fn keep(transcript: &mut Transcript, keeper: &mut SqliteKeeper<'_>, path: &[u8]) {
+    let alloc = transcript.alloc;
+    add_done(transcript, keeper.bind(alloc, path));
+    add_done(transcript, keeper.store(alloc, Account(2), b"first"));
+    add_done(transcript, keeper.store(alloc, Account(2), b"a = 1"));
+    add_done(transcript, keeper.add_rows(alloc, &[answered_row()]));
+    add_done(transcript, keeper.add_rows(alloc, &[diverted_row()]));
+    add_done(transcript, keeper.store(alloc, Account(3), b"version = 1"));
+    add_migrated(transcript, keeper.migrate(alloc));
+    add_migrated(transcript, keeper.migrate(alloc));
+    add_done(transcript, keeper.store(alloc, Account(3), b"b = 1"));
 }
 
 /// The contents of a keeper.
-fn tell(told: &mut Told, keeper: &mut SqliteKeeper<'_>) {
-    let alloc = told.alloc;
-    add_loaded(told, keeper.load(alloc));
-    add_listed(told, keeper.rows(alloc));
+fn write_report(transcript: &mut Transcript, keeper: &mut SqliteKeeper<'_>) {
+    let alloc = transcript.alloc;
+    add_loaded(transcript, keeper.load(alloc));
+    add_listed(transcript, keeper.rows(alloc));
 }
 
 const OVER_A_FILE: &[u8] = b"failed
@@ -154,32 +154,32 @@ failed
 ";
 
 /// Binds the keeper to a path, and writes its contents then.
-fn bind_and_tell(told: &mut Told, keeper: &mut SqliteKeeper<'_>, path: &[u8]) {
-    let done = keeper.bind(told.alloc, path);
-    add_done(told, done);
-    tell(told, keeper);
+fn bind_and_tell(transcript: &mut Transcript, keeper: &mut SqliteKeeper<'_>, path: &[u8]) {
+    let done = keeper.bind(transcript.alloc, path);
+    add_done(transcript, done);
+    write_report(transcript, keeper);
 }
 
 /// What another keeper reads of the file; and the calls after a path that cannot be opened.
-fn tell_anew(told: &mut Told, rt: &HostRuntime) {
+fn write_anew(transcript: &mut Transcript, rt: &HostRuntime) {
     let mut keeper = SqliteKeeper::new(rt);
-    bind_and_tell(told, &mut keeper, b"keeper.db");
-    bind_and_tell(told, &mut keeper, b"no/folder/keeper.db");
+    bind_and_tell(transcript, &mut keeper, b"keeper.db");
+    bind_and_tell(transcript, &mut keeper, b"no/folder/keeper.db");
     keeper.close();
 }
 
 /// A call before any bind; a file, bound again; the same in another keeper, once this one is closed; a path that cannot be opened; and calls after that.
 fn wrong_over_a_file(rt: &HostRuntime) -> usize {
-    let mut told = Told::new(rt.alloc());
+    let mut transcript = Transcript::new(rt.alloc());
     let mut keeper = SqliteKeeper::new(rt);
-    let done = keeper.store(told.alloc, Account(2), b"lost");
-    add_done(&mut told, done);
-    keep(&mut told, &mut keeper, b"keeper.db");
-    bind_and_tell(&mut told, &mut keeper, b"keeper.db");
+    let done = keeper.store(transcript.alloc, Account(2), b"lost");
+    add_done(&mut transcript, done);
+    keep(&mut transcript, &mut keeper, b"keeper.db");
+    bind_and_tell(&mut transcript, &mut keeper, b"keeper.db");
     keeper.close();
-    tell_anew(&mut told, rt);
-    let wrong = told.wrong_line(OVER_A_FILE);
-    drop(told);
+    write_anew(&mut transcript, rt);
+    let wrong = transcript.wrong_line(OVER_A_FILE);
+    drop(transcript);
     wrong
 }
 

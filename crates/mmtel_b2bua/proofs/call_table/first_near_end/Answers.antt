@@ -1,5 +1,5 @@
 use Rattle.std.proofs.Common.{◌-◌, ◌≤◌, ◌<◌, length, arith, rules}
-use Rattle.mmtel_desk.proofs.Ascending.{parted_at}
+use Rattle.mmtel_output.proofs.Ascending.{parted_at}
 use Rattle.mmtel_b2bua.proofs.Keeping.{number_in}
 use Rattle.mmtel_b2bua.proofs.call_table.first_near_end.Goals as goal
 

@@ -1,5 +1,5 @@
 use Rattle.std.proofs.Common.{◌<◌, length, arith, sym, ap, ◌∙◌}
-use Rattle.mmtel_desk.proofs.Ascending.{place_gone, place_here, place_past}
+use Rattle.mmtel_output.proofs.Ascending.{place_gone, place_here, place_past}
 use Rattle.mmtel_b2bua.specs.Entries.{is_numbered}
 use Rattle.mmtel_b2bua.specs.declared.entries.Entry.{Entry}
 use Rattle.mmtel_b2bua.proofs.Counting.{numbered}

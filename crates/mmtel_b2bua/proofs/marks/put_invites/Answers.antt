@@ -1,5 +1,5 @@
 use Rattle.mmtel_b2bua.specs.Marks.{invite_marks}
-use Rattle.mmtel_desk.proofs.Marking.{none_written, step_at}
+use Rattle.mmtel_output.proofs.Marking.{none_written, step_at}
 use Rattle.mmtel_b2bua.proofs.marks.put_invites.Goals as goal
 
 pub loop-invite-init : goal.loop-invite-init

@@ -1,7 +1,7 @@
 use Rattle.std.proofs.Common.{◌∙◌, ap}
 use Rattle.std.proofs.lemmas.Result.{IfOk-weaker}
 use Rattle.mmtel_charging.specs.Rows.{records_of}
-use Rattle.mmtel_charging.proofs.Reading.{reads-back}
+use Rattle.mmtel_charging.proofs.Roundtrip.{reads-back}
 use Rattle.mmtel_charging.proofs.printing.rows_text.Goals as goal
 
 pub returns-clause-reads_back : goal.returns-clause-reads_back

@@ -1,4 +1,4 @@
-use Rattle.mmtel_cli.proofs.Giving.{gives_charges, gives_no_charges, gives_unread_charges}
+use Rattle.mmtel_cli.proofs.CommandResults.{gives_charges, gives_no_charges, gives_unread_charges}
 use Rattle.mmtel_cli.proofs.charges.over_charges.Goals as goal
 
 pub returns-in-Ok-clause-gives : goal.returns-in-Ok-clause-gives

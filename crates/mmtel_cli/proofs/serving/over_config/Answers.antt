@@ -1,4 +1,4 @@
-use Rattle.mmtel_cli.proofs.Giving.{serves_line, serves_short}
+use Rattle.mmtel_cli.proofs.CommandResults.{serves_line, serves_short}
 use Rattle.mmtel_cli.proofs.serving.over_config.Goals as goal
 
 pub returns-in-Err-BadLine-clause-due : goal.returns-in-Err-BadLine-clause-due

@@ -1,5 +1,5 @@
 use Rattle.std.proofs.Common.{refl}
-use Rattle.mmtel_cli.specs.Stopped.{UnservedOpening}
+use Rattle.mmtel_cli.specs.OutOfMemory.{AbortedServeOpening}
 use Rattle.mmtel_cli.proofs.serving.over_directory.Goals as goal
 
 pub returns-in-Ok-clause-served : goal.returns-in-Ok-clause-served
@@ -7,4 +7,4 @@ returns-in-Ok-clause-served g c = c.over_loaded-due.ensures.served _ (rw (← c.
 
 pub returns-in-Err-NoMemory-clause-served : goal.returns-in-Err-NoMemory-clause-served
 returns-in-Err-NoMemory-clause-served g c = λ suited.
-    UnservedOpening (rw c.bytes.ensures at ((rw c.in-Err-NoMemory.field-0-is at c.in-Err-NoMemory.ensures.stopped) refl)) refl
+    AbortedServeOpening (rw c.bytes.ensures at ((rw c.in-Err-NoMemory.field-0-is at c.in-Err-NoMemory.ensures.stopped) refl)) refl

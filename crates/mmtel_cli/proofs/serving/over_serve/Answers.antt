@@ -1,4 +1,4 @@
-use Rattle.mmtel_cli.proofs.Giving.{gives_no_serve, gives_serve, gives_unread_serve}
+use Rattle.mmtel_cli.proofs.CommandResults.{gives_no_serve, gives_serve, gives_unread_serve}
 use Rattle.mmtel_cli.proofs.serving.over_serve.Goals as goal
 
 pub returns-in-Ok-clause-gives : goal.returns-in-Ok-clause-gives

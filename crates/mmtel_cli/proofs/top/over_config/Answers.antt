@@ -1,4 +1,4 @@
-use Rattle.mmtel_cli.proofs.Giving.{gives_line, gives_memory}
+use Rattle.mmtel_cli.proofs.CommandResults.{gives_line, gives_memory}
 use Rattle.mmtel_cli.proofs.top.over_config.Goals as goal
 
 pub returns-in-Err-BadLine-clause-gives : goal.returns-in-Err-BadLine-clause-gives

@@ -1,4 +1,4 @@
-use Rattle.mmtel_cli.proofs.Giving.{gives_script, gives_no_script, gives_memory}
+use Rattle.mmtel_cli.proofs.CommandResults.{gives_script, gives_no_script, gives_memory}
 use Rattle.mmtel_cli.proofs.top.over_directory.Goals as goal
 
 pub returns-in-Ok-clause-gives : goal.returns-in-Ok-clause-gives

@@ -1,4 +1,4 @@
-use Rattle.mmtel_cli.proofs.Giving.{called_config, gives_config, gives_no_config, gives_no_memory}
+use Rattle.mmtel_cli.proofs.CommandResults.{config_after_call, gives_config, gives_no_config, gives_no_memory}
 use Rattle.mmtel_cli.proofs.top.over_replay.Goals as goal
 
 pub returns-in-Ok-clause-gives : goal.returns-in-Ok-clause-gives
@@ -12,4 +12,4 @@ pub returns-in-Err-NoMemory-clause-gives : goal.returns-in-Err-NoMemory-clause-g
 returns-in-Err-NoMemory-clause-gives g c = gives_no_memory _ _ _
 
 pub returns-in-Ok-clause-calls : goal.returns-in-Ok-clause-calls
-returns-in-Ok-clause-calls g c = called_config _ _ _ _ _ _ (rw c.bytes.ensures at c.in-Ok.ensures.text) c.over_config-due.ensures.calls
+returns-in-Ok-clause-calls g c = config_after_call _ _ _ _ _ _ (rw c.bytes.ensures at c.in-Ok.ensures.text) c.over_config-due.ensures.calls

@@ -1,11 +1,11 @@
 use Rattle.std.proofs.Common.{◌≡◌, ◌≤◌, ◌+◌, length}
-use Rattle.mmtel_directory.specs.Drafts.{drafted}
+use Rattle.mmtel_directory.specs.Drafts.{directory_of_lines}
 use Rattle.mmtel_directory.specs.Lines.{lines_of}
 use Rattle.mmtel_directory.proofs.directories.read_lines.Given as goal
 
 abbrev pub invariant-lines : goal.invariant-lines
 invariant-lines l = record {
-  same : drafted 1 l.fn.draft (lines_of l.fn.bytes) ≡ drafted l.number l.draft (lines_of l.rest);
+  same : directory_of_lines 1 l.fn.draft (lines_of l.fn.bytes) ≡ directory_of_lines l.number l.draft (lines_of l.rest);
   few : l.number + length l.rest ≤ length l.bytes + 1;
 }
 

@@ -1,6 +1,6 @@
 use Rattle.std.proofs.Common.{◌<◌, length, sym, arith}
 use Rattle.std.proofs.lemmas.Bool.Decides.{nat_tests}
-use Rattle.mmtel_directory.proofs.LineLaws.{lines_alone, lines_first, lines_shorter}
+use Rattle.mmtel_directory.proofs.LineTheorems.{lines_alone, lines_first, lines_shorter}
 use Rattle.mmtel_directory.proofs.lines.next_line.Goals as goal
 
 pub returns-in-Some-clause-line : goal.returns-in-Some-clause-line

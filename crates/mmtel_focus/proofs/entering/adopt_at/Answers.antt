@@ -1,10 +1,10 @@
 use Rattle.std.proofs.Common.{◌≡◌, Some, subst, sym}
 use Rattle.std.specs.Prelude.{slice_get}
-use Rattle.mmtel_focus.specs.Joining.{adopted, new_room}
-use Rattle.mmtel_focus.specs.Marks.{Kept}
-use Rattle.mmtel_focus.specs.Rooms.{Step}
-use Rattle.mmtel_focus.proofs.Keeping.{same_number, waits}
-use Rattle.mmtel_focus.proofs.Numbering.{adopted_keeps}
+use Rattle.mmtel_focus.specs.Joining.{after_adoption, new_conference}
+use Rattle.mmtel_focus.specs.Marks.{LiveConferencesView}
+use Rattle.mmtel_focus.specs.Conferences.{StepResult}
+use Rattle.mmtel_focus.proofs.TableInvariant.{same_number, waits}
+use Rattle.mmtel_focus.proofs.Numbering.{after_adoption_keeps}
 use Rattle.mmtel_focus.proofs.entering.adopt_at.Goals as goal
 
 pub put_back-requires : goal.put_back-requires
@@ -12,7 +12,7 @@ put_back-requires c =
     let k = c.args.place in
     let x = c.take_out-room.result in
     let y = c.adopt-adopted.new.self in
-    let s : Step = record { room = x; effects = c.args.effects.now } in
-    let after = adopted c.args.step.now.setting c.args.step.now.at c.args.entrant.leg c.args.entrant.account c.args.by s in
-    let same = same_number c.adopt-adopted.result y x after.room c.adopt-adopted.ensures.room c.adopt-adopted.ensures.refused (adopted_keeps c.args.step.now.setting c.args.step.now.at c.args.entrant.leg c.args.entrant.account c.args.by s) in
-    subst (λ (t : Kept). slice_get t.items k ≡ Some (new_room y.number)) (sym c.take_out-room.ensures.live) (waits c.args.live.now.items k x y c.take_out-room.ensures.room same)
+    let s : StepResult = record { conference = x; effects = c.args.effects.now } in
+    let after = after_adoption c.args.step.now.config c.args.step.now.at c.args.entrant.leg c.args.entrant.account c.args.by s in
+    let same = same_number c.adopt-adopted.result y x after.conference c.adopt-adopted.ensures.room c.adopt-adopted.ensures.refused (after_adoption_keeps c.args.step.now.config c.args.step.now.at c.args.entrant.leg c.args.entrant.account c.args.by s) in
+    subst (λ (t : LiveConferencesView). slice_get t.items k ≡ Some (new_conference y.number)) (sym c.take_out-room.ensures.live) (waits c.args.live.now.items k x y c.take_out-room.ensures.room same)

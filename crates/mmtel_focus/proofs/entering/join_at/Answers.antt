@@ -1,18 +1,18 @@
 use Rattle.std.proofs.Common.{◌≡◌, Some, subst, sym}
 use Rattle.std.specs.Prelude.{slice_get}
-use Rattle.mmtel_focus.specs.Joining.{come, new_room}
-use Rattle.mmtel_focus.specs.Marks.{Kept}
-use Rattle.mmtel_focus.specs.Rooms.{Step}
-use Rattle.mmtel_focus.proofs.Keeping.{same_number, waits}
-use Rattle.mmtel_focus.proofs.Numbering.{come_keeps}
+use Rattle.mmtel_focus.specs.Joining.{after_join, new_conference}
+use Rattle.mmtel_focus.specs.Marks.{LiveConferencesView}
+use Rattle.mmtel_focus.specs.Conferences.{StepResult}
+use Rattle.mmtel_focus.proofs.TableInvariant.{same_number, waits}
+use Rattle.mmtel_focus.proofs.Numbering.{after_join_keeps}
 use Rattle.mmtel_focus.proofs.entering.join_at.Goals as goal
 
 pub put_back-requires : goal.put_back-requires
 put_back-requires c =
     let k = c.args.place in
     let x = c.take_out-room.result in
-    let y = c.come-come.new.self in
-    let s : Step = record { room = x; effects = c.args.effects.now } in
-    let after = come c.args.step.now.setting c.args.step.now.at c.args.entrant.leg c.args.entrant.account c.args.key c.args.invite.now s in
-    let same = same_number c.come-come.result y x after.room c.come-come.ensures.room c.come-come.ensures.refused (come_keeps c.args.step.now.setting c.args.step.now.at c.args.entrant.leg c.args.entrant.account c.args.key c.args.invite.now s) in
-    subst (λ (t : Kept). slice_get t.items k ≡ Some (new_room y.number)) (sym c.take_out-room.ensures.live) (waits c.args.live.now.items k x y c.take_out-room.ensures.room same)
+    let y = c.join-join.new.self in
+    let s : StepResult = record { conference = x; effects = c.args.effects.now } in
+    let after = after_join c.args.step.now.config c.args.step.now.at c.args.entrant.leg c.args.entrant.account c.args.key c.args.invite.now s in
+    let same = same_number c.join-join.result y x after.conference c.join-join.ensures.room c.join-join.ensures.refused (after_join_keeps c.args.step.now.config c.args.step.now.at c.args.entrant.leg c.args.entrant.account c.args.key c.args.invite.now s) in
+    subst (λ (t : LiveConferencesView). slice_get t.items k ≡ Some (new_conference y.number)) (sym c.take_out-room.ensures.live) (waits c.args.live.now.items k x y c.take_out-room.ensures.room same)

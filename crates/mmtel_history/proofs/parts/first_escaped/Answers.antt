@@ -1,6 +1,6 @@
 use Rattle.std.proofs.Common.{◌≡◌, sym, ap, ◌∙◌, true, false, List, ℕ, drop, arith}
 use Rattle.mmtel_history.specs.EntryUri.{begins_escape}
-use Rattle.mmtel_history.proofs.PartLaws.{reads_start, reads_on, reads_escape, reads_all}
+use Rattle.mmtel_history.proofs.PartTheorems.{reads_start, reads_on, reads_escape, reads_all}
 use Rattle.mmtel_history.proofs.parts.first_escaped.Goals as goal
 
 pub loop-i-init : goal.loop-i-init

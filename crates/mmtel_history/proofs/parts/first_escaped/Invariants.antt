@@ -1,4 +1,4 @@
-use Rattle.mmtel_history.proofs.PartLaws.{Reads}
+use Rattle.mmtel_history.proofs.PartTheorems.{Reads}
 use Rattle.mmtel_history.proofs.parts.first_escaped.Given as goal
 
 abbrev pub invariant-loop-i : goal.invariant-loop-i

@@ -1,7 +1,7 @@
 use Rattle.std.proofs.Common.{◌≡◌, ◌++◌, ◌∷◌, length, not}
 use Rattle.std.specs.Prelude.{filter}
 use Rattle.std.specs.List.{flat_map}
-use Rattle.mmtel_lex.specs.UriPlaces.{parts}
+use Rattle.mmtel_lex.specs.UriParts.{parts}
 use Rattle.mmtel_history.specs.EntryUri.{is_cause}
 use Rattle.mmtel_history.proofs.uris.add_other_params.Given as goal
 

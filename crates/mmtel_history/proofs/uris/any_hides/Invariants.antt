@@ -1,6 +1,6 @@
 use Rattle.std.proofs.Common.{◌≡◌, length}
 use Rattle.std.specs.List.{list_any}
-use Rattle.mmtel_lex.specs.UriPlaces.{parts}
+use Rattle.mmtel_lex.specs.UriParts.{parts}
 use Rattle.mmtel_history.specs.EntryUri.{hides}
 use Rattle.mmtel_history.proofs.uris.any_hides.Given as goal
 

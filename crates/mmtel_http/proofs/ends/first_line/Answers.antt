@@ -1,5 +1,5 @@
-use Rattle.mmtel_http.proofs.LineLaws.{told}
+use Rattle.mmtel_http.proofs.LineTheorems.{split_is_read}
 use Rattle.mmtel_http.proofs.ends.first_line.Goals as goal
 
 pub returns : goal.returns
-returns c = told c.args.bytes.now c.part.result c.part.ensures
+returns c = split_is_read c.args.bytes.now c.split_once_at.result c.split_once_at.ensures

@@ -1,5 +1,5 @@
 use Rattle.std.proofs.Common.{◌≡◌, ◌+◌, length}
-use Rattle.mmtel_http.proofs.LineLaws.{Counted}
+use Rattle.mmtel_http.proofs.LineTheorems.{Counted}
 use Rattle.mmtel_http.proofs.ends.head_end.Given as goal
 
 abbrev pub invariant-lines : goal.invariant-lines

@@ -1,5 +1,5 @@
 use Rattle.std.proofs.Common.{◌∙◌}
-use Rattle.mmtel_http.proofs.RequestLaws.{head_found, no_head}
+use Rattle.mmtel_http.proofs.RequestTheorems.{head_found, no_head}
 use Rattle.mmtel_http.proofs.heads.spans_of.Goals as goal
 
 pub returns-then-parts-head-clause-exact : goal.returns-then-parts-head-clause-exact

@@ -43,6 +43,6 @@ pub returns-clause-ok : goal.returns-clause-ok
 returns-clause-ok g c = λ front honest is closed.
     let old = c.args.disk.now in
     let still = c.write_at.ensures.honest.0 honest in
-    let was = closed (g.D.Disk.shown old) (g.met.D.Disk.among old honest) in
-    stage_done front c.args.gate c.args.body.now (g.D.Disk.shown old) (g.D.Disk.shown c.write_at.new.self) _ is was (c.in_ok-write_at.ensures.written honest)
+    let was = closed (g.D.Disk.contents old) (g.met.D.Disk.among old honest) in
+    stage_done front c.args.gate c.args.body.now (g.D.Disk.contents old) (g.D.Disk.contents c.write_at.new.self) _ is was (c.in_ok-write_at.ensures.written honest)
     (c.in_ok-sync.ensures.durable still)

@@ -4,6 +4,6 @@ use Rattle.mmtel_journal.proofs.growing.add_reserved.Given as goal
 
 abbrev pub invariant-loop-row : goal.invariant-loop-row
 invariant-loop-row l = record {
-  added : l.kept.items ≡ l.fn.kept.items ++ take l.row-index l.rows;
-  room : vec_len l.kept + length l.rows ≤ vec_capacity l.kept + l.row-index;
+  added : l.row_list.items ≡ l.fn.row_list.items ++ take l.row-index l.rows;
+  room : vec_len l.row_list + length l.rows ≤ vec_capacity l.row_list + l.row-index;
 }

@@ -3,9 +3,9 @@ use Rattle.std.specs.Prelude.{All, IfOk}
 use Rattle.std.specs.Int.{w64, to_be_bytes}
 use Rattle.std.proofs.lemmas.List.{take_all}
 use Rattle.mmtel_types.specs.declared.numbers.Account.{Account}
-use Rattle.mmtel_journal.specs.Logs.{body_of}
+use Rattle.mmtel_journal.specs.Logs.{body_bytes}
 use Rattle.mmtel_journal.specs.Migrating.{sheets_in}
-use Rattle.mmtel_journal.specs.Payloads.{IsSheet, sheet_of, sheets_of, payload_of_sheets}
+use Rattle.mmtel_journal.specs.Payloads.{IsSheet, sheet_bytes, sheets_bytes, payload_of_sheets}
 use Rattle.mmtel_journal.proofs.Moments.{on_ok}
 use Rattle.mmtel_journal.proofs.Sheets.{sheets_more, fits_more, length-in}
 use Rattle.mmtel_journal.proofs.migration.replaced_body.Goals as goal
@@ -19,8 +19,8 @@ loop-new-preserved c =
       fits = fits_more found c.loop-new.new-index new c.loop-new-test.true c.new-item.is fits c.loop-new.invariant.fits;
       written =
           c.in_ok-put_sheet.ensures.put
-          ∙ ap (λ (text : List ℕ). c.loop-new.payload.items ++ sheet_of (new.1.0, text)) c.bytes.ensures
-          ∙ ap (λ (l : List ℕ). l ++ sheet_of new.1) c.loop-new.invariant.written
+          ∙ ap (λ (text : List ℕ). c.loop-new.payload.items ++ sheet_bytes (new.1.0, text)) c.bytes.ensures
+          ∙ ap (λ (l : List ℕ). l ++ sheet_bytes new.1) c.loop-new.invariant.written
           ∙ ap (λ (l : List ℕ). 1 ∷ (to_be_bytes w64 (length found) ++ l)) (sym (sheets_more found c.loop-new.new-index new c.loop-new-test.true c.new-item.is));
     }
 
@@ -29,10 +29,10 @@ returns c =
     let found = c.args.found.now in
     let all = take_all c.loop-new.new-index found (omega (arith, c.loop-new-test.false)) in
     let is : c.as_slice.result.now ≡ payload_of_sheets (sheets_in found) =
-    c.as_slice.ensures.value ∙ c.loop-new.invariant.written ∙ ap (λ (l : List (ℕ × (Account × List ℕ))). 1 ∷ (to_be_bytes w64 (length found) ++ sheets_of (sheets_in l))) all
-    ∙ ap (λ (n : ℕ). 1 ∷ (to_be_bytes w64 n ++ sheets_of (sheets_in found))) (sym (length-in found)) in
+    c.as_slice.ensures.value ∙ c.loop-new.invariant.written ∙ ap (λ (l : List (ℕ × (Account × List ℕ))). 1 ∷ (to_be_bytes w64 (length found) ++ sheets_bytes (sheets_in l))) all
+    ∙ ap (λ (n : ℕ). 1 ∷ (to_be_bytes w64 n ++ sheets_bytes (sheets_in found))) (sym (length-in found)) in
     let fits : All IsSheet (sheets_in found) = subst (λ (l : List (ℕ × (Account × List ℕ))). All IsSheet (sheets_in l)) all c.loop-new.invariant.fits in
     record {
       fits = on_ok (All IsSheet (sheets_in found)) c.body_around.result fits;
-      body = subst (λ (p : List ℕ). IfOk c.body_around.result (λ b. b.items ≡ body_of p)) is c.body_around.ensures.body;
+      body = subst (λ (p : List ℕ). IfOk c.body_around.result (λ b. b.items ≡ body_bytes p)) is c.body_around.ensures.body;
     }

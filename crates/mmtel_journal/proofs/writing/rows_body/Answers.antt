@@ -4,7 +4,7 @@ use Rattle.std.proofs.lemmas.List.Elements.{All-more}
 use Rattle.std.specs.Int.{w64, to_be_bytes}
 use Rattle.std.proofs.lemmas.List.{take_all}
 use Rattle.mmtel_charging.specs.declared.rows.Row.{Row}
-use Rattle.mmtel_journal.specs.Payloads.{IsRow, row_of, rows_of}
+use Rattle.mmtel_journal.specs.Payloads.{IsRow, row_bytes, rows_bytes}
 use Rattle.mmtel_journal.proofs.Rows.{rows_more, rows_whole}
 use Rattle.mmtel_journal.proofs.writing.rows_body.Goals as goal
 
@@ -15,7 +15,7 @@ loop-row-preserved c =
     record {
       fits = All-more IsRow rows c.loop-row.row-index c.row-item.result c.loop-row-test.true c.loop-row.invariant.fits here;
       written =
-          c.in_ok-put_row.ensures.put ∙ ap (λ (l : List ℕ). l ++ row_of c.row-item.result) c.loop-row.invariant.written
+          c.in_ok-put_row.ensures.put ∙ ap (λ (l : List ℕ). l ++ row_bytes c.row-item.result) c.loop-row.invariant.written
           ∙ ap (λ (l : List ℕ). to_be_bytes w64 (9 + 45 * length rows) ++ (2 ∷ (to_be_bytes w64 (length rows) ++ l)))
           (sym (rows_more rows c.loop-row.row-index c.row-item.result c.loop-row-test.true c.row-item.is));
     }
@@ -28,6 +28,6 @@ returns c =
       fits = subst (All IsRow) all c.loop-row.invariant.fits;
       body = c.in_ok-push-2.ensures.items
           ∙ ap (λ (l : List ℕ). l ++ 0 ∷ [])
-          (c.loop-row.invariant.written ∙ ap (λ (rs : List Row). to_be_bytes w64 (9 + 45 * length rows) ++ (2 ∷ (to_be_bytes w64 (length rows) ++ rows_of rs))) all)
+          (c.loop-row.invariant.written ∙ ap (λ (rs : List Row). to_be_bytes w64 (9 + 45 * length rows) ++ (2 ∷ (to_be_bytes w64 (length rows) ++ rows_bytes rs))) all)
           ∙ rows_whole rows;
     }

@@ -1,12 +1,12 @@
 use Rattle.std.proofs.Common.{◌≡◌, length}
-use Rattle.mmtel_keeper.specs.Memory.{AreWithin, set_all}
+use Rattle.mmtel_keeper.specs.Memory.{AreInRange, set_all}
 use Rattle.mmtel_keeper.proofs.memory.put_all.Given as goal
 
-abbrev pub invariant-found : goal.invariant-found
-invariant-found l = record {
-  later : set_all l.found l.sheets.texts ≡ set_all l.fn.found l.fn.sheets.texts;
-  within : AreWithin (length l.sheets.texts) l.found;
+abbrev pub invariant-new_texts : goal.invariant-new_texts
+invariant-new_texts l = record {
+  later : set_all l.new_texts l.sheets.texts ≡ set_all l.fn.new_texts l.fn.sheets.texts;
+  within : AreInRange (length l.sheets.texts) l.new_texts;
 }
 
-abbrev pub decreases-found : goal.decreases-found
-decreases-found l = length l.found
+abbrev pub decreases-new_texts : goal.decreases-new_texts
+decreases-new_texts l = length l.new_texts

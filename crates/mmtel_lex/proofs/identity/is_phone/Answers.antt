@@ -1,6 +1,6 @@
 use Rattle.std.proofs.Common.{◌≡◌, sym, true, Some, arith}
 use Rattle.mmtel_lex.specs.Identity.{has_user_phone}
-use Rattle.mmtel_lex.proofs.PhoneLaws.{joined}
+use Rattle.mmtel_lex.proofs.PhoneTheorems.{joined}
 use Rattle.mmtel_lex.proofs.identity.is_phone.Goals as goal
 
 pub returns-else-not-has_user_phone : goal.returns-else-not-has_user_phone

@@ -1,5 +1,5 @@
 use Rattle.mmtel_lex.specs.SameIdentity.{is_same_identity}
-use Rattle.mmtel_lex.proofs.SameIdentityLaws.{identity_is, is_identity, same_test}
+use Rattle.mmtel_lex.proofs.SameIdentityTheorems.{identity_is, is_identity, same_test}
 use Rattle.mmtel_lex.proofs.identity.same_identity.Goals as goal
 
 pub returns-clause-tested : goal.returns-clause-tested

@@ -2,7 +2,7 @@ use Rattle.mmtel_lex.specs.Grammar.{IsNameAddr}
 use Rattle.mmtel_lex.specs.Reading.{name_addr_of}
 use Rattle.mmtel_lex.specs.declared.values.NameAddr.{NameAddr}
 use Rattle.mmtel_lex.proofs.Exact.{found_of, only_of, malformed_of, refused_of}
-use Rattle.mmtel_lex.proofs.NameAddrLaws.{name_addr_takes, name_addr_again}
+use Rattle.mmtel_lex.proofs.NameAddrTheorems.{name_addr_takes, name_addr_again}
 use Rattle.mmtel_lex.proofs.name_addrs.read_name_addr.Goals as goal
 
 pub returns : goal.returns

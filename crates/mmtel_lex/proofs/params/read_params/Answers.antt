@@ -3,7 +3,7 @@ use Rattle.mmtel_lex.specs.Grammar.{IsParams}
 use Rattle.mmtel_lex.specs.Reading.{params_of}
 use Rattle.mmtel_lex.specs.declared.values.Param.{Param}
 use Rattle.mmtel_lex.proofs.Exact.{found_of, only_of, malformed_of, refused_of}
-use Rattle.mmtel_lex.proofs.ParamLaws.{whole_params_takes, whole_params_again}
+use Rattle.mmtel_lex.proofs.ParamTheorems.{whole_params_takes, whole_params_again}
 use Rattle.mmtel_lex.proofs.params.read_params.Goals as goal
 
 pub returns : goal.returns

@@ -1,6 +1,6 @@
 use Rattle.std.proofs.Common.{false, sym, arith}
 use Rattle.mmtel_message.specs.Entries.{is_dotted}
-use Rattle.mmtel_message.proofs.EditLaws.{dot_over, dot_stop, dot_end}
+use Rattle.mmtel_message.proofs.EditTheorems.{dot_over, dot_stop, dot_end}
 use Rattle.mmtel_message.proofs.entries.is_dotted.Goals as goal
 
 pub returns-in-None : goal.returns-in-None

@@ -5,5 +5,5 @@ use Rattle.mmtel_message.proofs.expansion.expanded_in.Given as goal
 
 abbrev pub invariant-loop-i : goal.invariant-loop-i
 invariant-loop-i l =
-    expanded_from (privacy_text l.whole.values) (allow_text l.whole.values) [] (held_lines l.bytes l.lines) ≡
-    held_lines l.bytes l.out ++ expanded_from (privacy_text l.whole.values) (allow_text l.whole.values) (held_lines l.bytes (take l.i l.lines)) (held_lines l.bytes (drop l.i l.lines))
+    expanded_from (privacy_text l.all_lines.values) (allow_text l.all_lines.values) [] (held_lines l.bytes l.lines) ≡
+    held_lines l.bytes l.out ++ expanded_from (privacy_text l.all_lines.values) (allow_text l.all_lines.values) (held_lines l.bytes (take l.i l.lines)) (held_lines l.bytes (drop l.i l.lines))

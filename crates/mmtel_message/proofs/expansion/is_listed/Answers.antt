@@ -1,4 +1,4 @@
-use Rattle.mmtel_message.proofs.PartLaws.{listed_of_12}
+use Rattle.mmtel_message.proofs.PartTheorems.{listed_of_12}
 use Rattle.mmtel_message.proofs.expansion.is_listed.Goals as goal
 
 pub returns-in-12 : goal.returns-in-12

@@ -1,6 +1,6 @@
 use Rattle.std.proofs.Common.{sym}
 use Rattle.mmtel_message.specs.Faults.{is_readable}
-use Rattle.mmtel_message.proofs.FieldLaws.{more_parts}
+use Rattle.mmtel_message.proofs.FieldTheorems.{more_parts}
 use Rattle.mmtel_message.proofs.faults.is_one_readable.Goals as goal
 
 pub returns-in-Some : goal.returns-in-Some

@@ -1,5 +1,5 @@
 use Rattle.std.proofs.Common.{sym}
-use Rattle.mmtel_message.proofs.HeaderLaws.{bad_byte, good_bytes}
+use Rattle.mmtel_message.proofs.HeaderTheorems.{bad_byte, good_bytes}
 use Rattle.mmtel_message.proofs.headers.is_value.Goals as goal
 
 pub returns-in-None : goal.returns-in-None

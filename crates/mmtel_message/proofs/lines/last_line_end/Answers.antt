@@ -1,7 +1,7 @@
 use Rattle.std.proofs.Common.{◌≡◌, drop, sym, ◌∙◌, arith, true, false}
 use Rattle.std.proofs.lemmas.List.{take_rest}
 use Rattle.mmtel_message.specs.Lines.{last_line_end, crlf}
-use Rattle.mmtel_message.proofs.LineLaws.{found_here, found_not, found_all}
+use Rattle.mmtel_message.proofs.LineTheorems.{found_here, found_not, found_all}
 use Rattle.mmtel_message.proofs.lines.last_line_end.Goals as goal
 use Rattle.mmtel_message.proofs.lines.last_line_end.Goals.{then-is_first, else-is_first}
 

@@ -1,7 +1,7 @@
 use Rattle.std.proofs.Common.{◌≤◌, length}
 use Rattle.std.specs.Prelude.{IfSome}
 use Rattle.mmtel_message.specs.Lines.{last_line_end}
-use Rattle.mmtel_message.proofs.LineLaws.{Found}
+use Rattle.mmtel_message.proofs.LineTheorems.{Found}
 use Rattle.mmtel_message.proofs.lines.last_line_end.Given as goal
 
 abbrev pub invariant-loop-i : goal.invariant-loop-i

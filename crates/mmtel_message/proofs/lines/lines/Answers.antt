@@ -1,5 +1,5 @@
 use Rattle.std.proofs.Common.{take}
-use Rattle.mmtel_message.proofs.FoldLaws.{adds_line, all_lines}
+use Rattle.mmtel_message.proofs.FoldTheorems.{adds_line, all_lines}
 use Rattle.mmtel_message.proofs.lines.lines.Goals as goal
 
 pub lines-preserved : goal.lines-preserved

@@ -1,6 +1,6 @@
 use Rattle.std.proofs.Common.{◌+◌, ◌-◌, length}
 use Rattle.std.specs.Option.{option_map_or}
-use Rattle.mmtel_message.proofs.FoldLaws.{ReadsLines}
+use Rattle.mmtel_message.proofs.FoldTheorems.{ReadsLines}
 use Rattle.mmtel_message.proofs.lines.lines.Given as goal
 
 abbrev pub invariant-lines : goal.invariant-lines

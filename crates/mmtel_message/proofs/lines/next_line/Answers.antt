@@ -1,6 +1,6 @@
 use Rattle.std.proofs.Common.{sym}
 use Rattle.std.proofs.lemmas.List.{take_rest}
-use Rattle.mmtel_message.proofs.LineLaws.{line_alone, line_first}
+use Rattle.mmtel_message.proofs.LineTheorems.{line_alone, line_first}
 use Rattle.mmtel_message.proofs.lines.next_line.Goals as goal
 
 pub returns-in-None-clause-lines : goal.returns-in-None-clause-lines

@@ -1,4 +1,4 @@
-use Rattle.mmtel_message.proofs.HeldLaws.{dropped_lines}
+use Rattle.mmtel_message.proofs.HeldTheorems.{dropped_lines}
 use Rattle.mmtel_message.proofs.messages.drop_lines.Goals as goal
 
 pub returns : goal.returns

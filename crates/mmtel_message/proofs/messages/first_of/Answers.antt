@@ -1,5 +1,5 @@
 use Rattle.std.proofs.Common.{sym, ap, ◌∙◌}
-use Rattle.mmtel_message.proofs.WalkLaws.{first_named, head_value}
+use Rattle.mmtel_message.proofs.WalkTheorems.{first_named, head_value}
 use Rattle.mmtel_message.proofs.messages.first_of.Goals as goal
 
 pub returns-in-None : goal.returns-in-None

@@ -1,7 +1,7 @@
 use Rattle.std.proofs.Common.{◌≡◌, Some, None, sym}
 use Rattle.std.specs.Prelude.{position}
 use Rattle.mmtel_message.specs.Message.{is_line}
-use Rattle.mmtel_message.proofs.EditLaws.{set_none, set_there, there}
+use Rattle.mmtel_message.proofs.EditTheorems.{set_none, set_there, there}
 use Rattle.mmtel_message.proofs.messages.set_added.Goals as goal
 
 pub returns-in_ok-push-in-None-clause-ok : goal.returns-in_ok-push-in-None-clause-ok

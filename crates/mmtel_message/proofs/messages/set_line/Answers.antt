@@ -1,7 +1,7 @@
 use Rattle.std.proofs.Common.{◌≡◌, Some, None, sym}
 use Rattle.std.specs.Prelude.{position}
 use Rattle.std.specs.Str.{str_eq_ignore_ascii_case}
-use Rattle.mmtel_message.proofs.HeldLaws.{set_behind, set_received}
+use Rattle.mmtel_message.proofs.HeldTheorems.{set_behind, set_received}
 use Rattle.mmtel_message.proofs.messages.set_line.Goals as goal
 
 pub returns-in_ok-spelled-in-Some-clause-ok : goal.returns-in_ok-spelled-in-Some-clause-ok

@@ -1,4 +1,4 @@
-use Rattle.mmtel_message.proofs.ReadLaws.{canonical_read}
+use Rattle.mmtel_message.proofs.ReadTheorems.{canonical_read}
 use Rattle.mmtel_message.proofs.reading.read_held.Goals as goal
 
 pub returns-clause-canonical : goal.returns-clause-canonical

@@ -1,5 +1,5 @@
 use Rattle.std.specs.Prelude.{codes}
-use Rattle.mmtel_message.proofs.WalkLaws.{to_lines_grow}
+use Rattle.mmtel_message.proofs.WalkTheorems.{to_lines_grow}
 use Rattle.mmtel_message.proofs.responses.add_to.Goals as goal
 
 pub loop-i-preserved : goal.loop-i-preserved

@@ -1,6 +1,6 @@
 use Rattle.std.proofs.Common.{◌+◌, sym}
 use Rattle.std.proofs.lemmas.List.{take_rest}
-use Rattle.mmtel_message.proofs.CommaLaws.{parts_none, parts_some}
+use Rattle.mmtel_message.proofs.CommaTheorems.{parts_none, parts_some}
 use Rattle.mmtel_message.proofs.values.next_part.Goals as goal
 
 pub returns-in-None-clause-parts : goal.returns-in-None-clause-parts

@@ -1,6 +1,6 @@
 use Rattle.std.specs.Option.{option_copied}
 use Rattle.mmtel_message.specs.Values.{values_in}
-use Rattle.mmtel_message.proofs.CommaLaws.{goes_on}
+use Rattle.mmtel_message.proofs.CommaTheorems.{goes_on}
 use Rattle.mmtel_message.proofs.values.values_in.Goals as goal
 
 pub parts-preserved : goal.parts-preserved

@@ -1,5 +1,5 @@
 use Rattle.std.proofs.Common.{sym}
-use Rattle.mmtel_reliable.proofs.RackLaws.{rack_found, rack_only}
+use Rattle.mmtel_reliable.proofs.RackTheorems.{rack_found, rack_only}
 use Rattle.mmtel_reliable.proofs.racks.read_rack.Goals as goal
 
 pub returns-in-Some-clause-found : goal.returns-in-Some-clause-found

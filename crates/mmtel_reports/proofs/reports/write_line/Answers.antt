@@ -1,7 +1,7 @@
 use Rattle.std.proofs.Common.{[], ◌∷◌, ◌++◌, codes}
 use Rattle.std.proofs.lemmas.Result.{on_err_weaker}
 use Rattle.std.specs.Prelude.{decimal}
-use Rattle.mmtel_outside.proofs.Appending.{OnErr-from, Appends-both, part-front, part-behind}
+use Rattle.mmtel_environment.proofs.Appending.{OnErr-from, Appends-both, part-front, part-behind}
 use Rattle.mmtel_reports.proofs.reports.write_line.Goals as goal
 
 pub returns-in_err-write_all-clause-part : goal.returns-in_err-write_all-clause-part

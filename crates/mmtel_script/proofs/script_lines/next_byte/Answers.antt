@@ -1,5 +1,5 @@
 use Rattle.std.proofs.Common.{sym}
-use Rattle.mmtel_script.proofs.HexLaws.{first_byte, no_byte, shorter}
+use Rattle.mmtel_script.proofs.HexTheorems.{first_byte, no_byte, shorter}
 use Rattle.mmtel_script.proofs.script_lines.next_byte.Goals as goal
 
 pub returns-in-Some-clause-bytes : goal.returns-in-Some-clause-bytes

@@ -1,4 +1,4 @@
-use Rattle.mmtel_script.proofs.HexLaws.{next_pair}
+use Rattle.mmtel_script.proofs.HexTheorems.{next_pair}
 use Rattle.mmtel_script.proofs.script_lines.read_hex.Goals as goal
 
 pub pairs-preserved : goal.pairs-preserved

@@ -1,12 +1,12 @@
 use Rattle.std.proofs.Common.{arith, refl, ◌∙◌}
 use Rattle.mmtel_server.proofs.Drives.{begun, breaks, closes, ends, fails, goes_on}
-use Rattle.mmtel_server.proofs.Heard.{none_within, rise_then, within_more, within_then}
+use Rattle.mmtel_server.proofs.Received.{none_within, rise_then, within_more, within_then}
 use Rattle.mmtel_server.proofs.Reading.{no_rise}
 use Rattle.mmtel_server.proofs.driving.drive.Goals as goal
 
 pub turns-init : goal.turns-init
 turns-init g c = record {
-  drove = begun c.laws_of_runs_hold.ensures _ _;
+  drove = begun c.theorems_of_runs_hold.ensures _ _;
   calls = none_within _ _;
   given = refl;
   giving = no_rise _;
@@ -15,35 +15,35 @@ turns-init g c = record {
 
 pub turns-preserved : goal.turns-preserved
 turns-preserved g c = record {
-  drove = goes_on c.laws_of_runs_hold.ensures _ _ _ _ _ c.turns.invariant.drove _ _ _
-      (rw c.in-Ok-Some.field-0-is at c.in-Ok-Some.ensures.heard) c.in-Ok.ensures.done;
+  drove = goes_on c.theorems_of_runs_hold.ensures _ _ _ _ _ c.turns.invariant.drove _ _ _
+      (rw c.in-Ok-Some.field-0-is at c.in-Ok-Some.ensures.received) c.in-Ok.ensures.done;
   calls = within_more _ _ _ _ (omega arith) (within_then _ _ _ _ _ c.turns.invariant.calls c.next_event.ensures.calls);
   given = c.next_event.ensures.given ∙ c.turns.invariant.given;
-  giving = rise_then _ _ _ c.turns.invariant.giving c.next_event.ensures.giving;
+  giving = rise_then _ _ _ c.turns.invariant.giving c.next_event.ensures.delivery_faults;
   taking = c.in-Ok-Some.ensures.cause ∙ c.turns.invariant.taking;
 }
 
-pub returns-in-Err-meet-clause-driven : goal.returns-in-Err-meet-clause-driven
-returns-in-Err-meet-clause-driven g c =
-    breaks c.laws_of_runs_hold.ensures _ _ _ _ _ c.turns.invariant.drove _ (omega arith) _ _ _
-    (rw c.in-Ok-Some.field-0-is at c.in-Ok-Some.ensures.heard) c.in-Err-meet.ensures.met
+pub returns-in-Err-step_event-clause-driven : goal.returns-in-Err-step_event-clause-driven
+returns-in-Err-step_event-clause-driven g c =
+    breaks c.theorems_of_runs_hold.ensures _ _ _ _ _ c.turns.invariant.drove _ (omega arith) _ _ _
+    (rw c.in-Ok-Some.field-0-is at c.in-Ok-Some.ensures.received) c.in-Err-step_event.ensures.met
 
 pub returns-in-Ok-None-clause-driven : goal.returns-in-Ok-None-clause-driven
 returns-in-Ok-None-clause-driven g c =
-    closes c.laws_of_runs_hold.ensures _ _ _ _ _ c.turns.invariant.drove _ (omega arith) _ c.servers_offer_what_runs_give.ensures.secret
-    (rw c.in-Ok-None.field-0-is at c.in-Ok-None.ensures.heard)
+    closes c.theorems_of_runs_hold.ensures _ _ _ _ _ c.turns.invariant.drove _ (omega arith) _ c.servers_offer_what_runs_give.ensures.secret
+    (rw c.in-Ok-None.field-0-is at c.in-Ok-None.ensures.received)
 
 pub returns-in-Err-clause-driven : goal.returns-in-Err-clause-driven
 returns-in-Err-clause-driven g c =
-    fails c.laws_of_runs_hold.ensures _ _ _ _ _ c.turns.invariant.drove _ (omega arith) _ c.servers_offer_what_runs_give.ensures.secret
-    c.next_event.ensures.giving _ c.in-Err.ensures.heard
+    fails c.theorems_of_runs_hold.ensures _ _ _ _ _ c.turns.invariant.drove _ (omega arith) _ c.servers_offer_what_runs_give.ensures.secret
+    c.next_event.ensures.delivery_faults _ c.in-Err.ensures.received
 
 pub returns-clause-driven : goal.returns-clause-driven
 returns-clause-driven g c =
-    ends c.laws_of_runs_hold.ensures _ _ _ _ _ c.turns.invariant.drove c.servers_offer_what_runs_give.ensures.secret _ (omega arith)
+    ends c.theorems_of_runs_hold.ensures _ _ _ _ _ c.turns.invariant.drove c.servers_offer_what_runs_give.ensures.secret _ (omega arith)
 
-pub returns-in-Err-meet-clause-calls : goal.returns-in-Err-meet-clause-calls
-returns-in-Err-meet-clause-calls g c = within_more _ _ _ _ (omega arith) (within_then _ _ _ _ _ c.turns.invariant.calls c.next_event.ensures.calls)
+pub returns-in-Err-step_event-clause-calls : goal.returns-in-Err-step_event-clause-calls
+returns-in-Err-step_event-clause-calls g c = within_more _ _ _ _ (omega arith) (within_then _ _ _ _ _ c.turns.invariant.calls c.next_event.ensures.calls)
 
 pub returns-in-Ok-None-clause-calls : goal.returns-in-Ok-None-clause-calls
 returns-in-Ok-None-clause-calls g c = within_more _ _ _ _ (omega arith) (within_then _ _ _ _ _ c.turns.invariant.calls c.next_event.ensures.calls)

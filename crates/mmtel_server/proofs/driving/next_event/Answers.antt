@@ -1,5 +1,5 @@
 use Rattle.std.proofs.Common.{arith}
-use Rattle.mmtel_server.proofs.Heard.{last_failed, one_within, within_then, within_more}
+use Rattle.mmtel_server.proofs.Received.{last_failed, one_within, within_then, within_more}
 use Rattle.mmtel_server.proofs.driving.next_event.Goals as goal
 
 pub returns-in-Ok-clause-calls : goal.returns-in-Ok-clause-calls

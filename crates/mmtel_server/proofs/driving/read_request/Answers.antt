@@ -1,5 +1,5 @@
 use Rattle.std.proofs.Common.{◌+◌, arith}
-use Rattle.mmtel_server.proofs.Heard.{calls_then}
+use Rattle.mmtel_server.proofs.Received.{calls_then}
 use Rattle.mmtel_server.proofs.driving.read_request.Goals as goal
 
 pub returns-in_err-read_more-clause-calls : goal.returns-in_err-read_more-clause-calls

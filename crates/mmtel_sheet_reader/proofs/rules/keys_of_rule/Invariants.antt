@@ -1,6 +1,6 @@
 use Rattle.std.proofs.Common.{◌≡◌}
 use Rattle.toml.specs.View.{members_view}
-use Rattle.mmtel_sheet_grammar.specs.Rules.{members_from, rule_key_read, no_keys}
+use Rattle.mmtel_sheet_grammar.specs.Rules.{members_from, rule_key_read, empty_draft}
 use Rattle.mmtel_sheet_reader.proofs.Sounds.{IsLeft}
 use Rattle.mmtel_sheet_reader.proofs.rules.keys_of_rule.Given as goal
 
@@ -8,5 +8,5 @@ abbrev pub invariant-members : goal.invariant-members
 invariant-members l =
     (goal.iterator-members).can_next l.key-iterator ×
     (goal.iterator-members).is_finite l.key-iterator ×
-    (members_from l.path (λ at r k d. rule_key_read l.schema (members_view l.table.entries) at r k d) l.draft (members_view l.key-iterator) ≡ members_from l.path (λ at r k d. rule_key_read l.schema (members_view l.table.entries) at r k d) no_keys (members_view l.table.entries)) ×
+    (members_from l.path (λ at r k d. rule_key_read l.schema (members_view l.table.entries) at r k d) l.draft (members_view l.key-iterator) ≡ members_from l.path (λ at r k d. rule_key_read l.schema (members_view l.table.entries) at r k d) empty_draft (members_view l.table.entries)) ×
     IsLeft l.table.entries l.key-iterator

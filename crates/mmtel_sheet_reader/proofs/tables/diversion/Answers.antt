@@ -2,7 +2,7 @@ use Rattle.std.proofs.Common.{List, Ok, sym, ap, subst, refl, ◌∙◌}
 use Rattle.std.proofs.lemmas.Result.{err_from_is_err_and}
 use Rattle.toml.specs.View.{members_view}
 use Rattle.toml.proofs.Views.{Entry}
-use Rattle.mmtel_sheet_grammar.specs.Keys.{dotted}
+use Rattle.mmtel_sheet_grammar.specs.Keys.{dotted_path}
 use Rattle.mmtel_sheet_grammar.specs.Rules.{members_from}
 use Rattle.mmtel_sheet_grammar.specs.Walk.{diversion_key, diversion_part, no_diversion_keys}
 use Rattle.mmtel_sheet_reader.proofs.Items.{refuses_both}
@@ -20,7 +20,7 @@ members-preserved c =
     let first = c.in-Some.ensures.steps in (
       tt,
       tt,
-      member_read (members_from c.args.path.now (λ at r k d. diversion_key c.args.version at r k d)) (λ d k v. diversion_key c.args.version (dotted c.args.path.now k) d k v) (λ d k v ms. refl) no_diversion_keys c.args.table.now.entries c.members.key-iterator c.next.new.self e c.members.draft c.read_diversion_key.new.draft first (rw (c.bytes.ensures, c.in_ok-at.ensures, c.as_bytes.ensures.value, c.as_str.ensures.value) at c.in_ok-read_diversion_key.ensures.exact) same,
+      member_read (members_from c.args.path.now (λ at r k d. diversion_key c.args.version at r k d)) (λ d k v. diversion_key c.args.version (dotted_path c.args.path.now k) d k v) (λ d k v ms. refl) no_diversion_keys c.args.table.now.entries c.members.key-iterator c.next.new.self e c.members.draft c.read_diversion_key.new.draft first (rw (c.bytes.ensures, c.in_ok-at.ensures, c.as_bytes.ensures.value, c.as_str.ensures.value) at c.in_ok-read_diversion_key.ensures.exact) same,
       members_step c.args.table.now.entries c.members.key-iterator e c.next.new.self first left c.in_ok-read_diversion_key.ensures.sound,
     )
 
@@ -35,7 +35,7 @@ returns-in_err-read_diversion_key c =
     let e : Entry = (c.in-Some.key.now, c.in-Some.value.now) in
     let p = err_from_is_err_and c.from_residual-in_err-read_diversion_key.result c.from_residual-in_err-read_diversion_key.ensures.1 in
     record {
-      exact = rw (p.1, p.2) (refuses_both ((members_from c.args.path.now (λ at r k d. diversion_key c.args.version at r k d)) no_diversion_keys (members_view c.args.table.now.entries)) (λ d. Ok (diversion_part d)) c.in_err-read_diversion_key.field-0.0 (member_refused (members_from c.args.path.now (λ at r k d. diversion_key c.args.version at r k d)) (λ d k v. diversion_key c.args.version (dotted c.args.path.now k) d k v) (λ d k v ms. refl) no_diversion_keys c.args.table.now.entries c.members.key-iterator c.next.new.self e c.members.draft c.in_err-read_diversion_key.field-0.0 c.in-Some.ensures.steps (rw (c.bytes.ensures, c.in_ok-at.ensures, c.as_bytes.ensures.value, c.as_str.ensures.value) at c.in_err-read_diversion_key.ensures.exact) same));
+      exact = rw (p.1, p.2) (refuses_both ((members_from c.args.path.now (λ at r k d. diversion_key c.args.version at r k d)) no_diversion_keys (members_view c.args.table.now.entries)) (λ d. Ok (diversion_part d)) c.in_err-read_diversion_key.field-0.0 (member_refused (members_from c.args.path.now (λ at r k d. diversion_key c.args.version at r k d)) (λ d k v. diversion_key c.args.version (dotted_path c.args.path.now k) d k v) (λ d k v ms. refl) no_diversion_keys c.args.table.now.entries c.members.key-iterator c.next.new.self e c.members.draft c.in_err-read_diversion_key.field-0.0 c.in-Some.ensures.steps (rw (c.bytes.ensures, c.in_ok-at.ensures, c.as_bytes.ensures.value, c.as_str.ensures.value) at c.in_err-read_diversion_key.ensures.exact) same));
       sound = rw p.1 tt;
     }
 

@@ -1,7 +1,7 @@
 use Rattle.std.proofs.Common.{◌≡◌, arith, Some, false, ap, pos, ◌*ℤ◌, ◌∙◌}
 use Rattle.std.proofs.lemmas.Int.{ints}
 use Rattle.jiff_fmt.specs.Printer.{options}
-use Rattle.mmtel_sheets.proofs.Shown.{printed, text_of}
+use Rattle.mmtel_sheets.proofs.PrintedMoments.{printed, text_of}
 use Rattle.mmtel_sheets.proofs.moments.print_moment.Goals as goal
 
 pub returns : goal.returns

@@ -1,10 +1,10 @@
 use Rattle.std.proofs.Common.{List, ℕ, sym, ap, ◌∙◌}
 use Rattle.mmtel_trust.specs.Asserted.{first_uri}
-use Rattle.mmtel_trust.proofs.SchemeLaws.{all_values, line_first, line_passed, lines_first}
+use Rattle.mmtel_trust.proofs.SchemeTheorems.{all_values, line_first, line_passed, lines_first}
 use Rattle.mmtel_trust.proofs.identities.first_uri.Goals as goal
 
 pub loop-values-init : goal.loop-values-init
-loop-values-init c = rw (c.into_iter-values-iterator.ensures.into_iter_gives, c.values_in-values-items.ensures) (tt, tt, lines_first c.args.scheme c.args.m.now.lines)
+loop-values-init c = rw (c.into_iter-values-iterator.ensures.into_iter_gives, c.values_in-values-items.ensures) (tt, tt, lines_first c.args.scheme c.args.message.now.lines)
 
 pub returns-in-Some-2 : goal.returns-in-Some-2
 returns-in-Some-2 c =

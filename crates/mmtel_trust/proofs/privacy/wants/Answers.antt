@@ -1,10 +1,10 @@
 use Rattle.std.proofs.Common.{List, ℕ, sym, ap, ◌∙◌}
-use Rattle.mmtel_trust.specs.Found.{with_words}
-use Rattle.mmtel_trust.proofs.FoundLaws.{all_found, value_found, words_of}
+use Rattle.mmtel_trust.specs.FoundWords.{with_words}
+use Rattle.mmtel_trust.proofs.FoundWordTheorems.{all_found, value_found, words_of}
 use Rattle.mmtel_trust.proofs.privacy.wants.Goals as goal
 
 pub loop-value-init : goal.loop-value-init
-loop-value-init c = rw (c.nothing_found-found.ensures, c.into_iter-value-iterator.ensures.into_iter_gives, c.values_in-value-items.ensures) (tt, tt, all_found c.args.m.now.lines)
+loop-value-init c = rw (c.no_words-found.ensures, c.into_iter-value-iterator.ensures.into_iter_gives, c.values_in-value-items.ensures) (tt, tt, all_found c.args.message.now.lines)
 
 pub loop-value-preserved : goal.loop-value-preserved
 loop-value-preserved c =

@@ -3,7 +3,7 @@ use Rattle.std.specs.Option.{option_map_or, option_copied}
 use Rattle.mmtel_message.specs.Headers.{trim}
 use Rattle.mmtel_message.specs.Values.{rest_parts, values_in}
 use Rattle.mmtel_message.specs.declared.values.Mode.TheVariants.{Words}
-use Rattle.mmtel_trust.specs.Found.{with_words}
+use Rattle.mmtel_trust.specs.FoundWords.{with_words}
 use Rattle.mmtel_trust.proofs.privacy.with_value.Given as goal
 
 abbrev pub invariant-words : goal.invariant-words

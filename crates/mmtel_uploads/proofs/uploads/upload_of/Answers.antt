@@ -1,4 +1,4 @@
-use Rattle.mmtel_uploads.proofs.UploadLaws.{is_accepted, is_refused}
+use Rattle.mmtel_uploads.proofs.UploadTheorems.{is_accepted, is_refused}
 use Rattle.mmtel_uploads.proofs.uploads.upload_of.Goals as goal
 
 pub returns-in-Ok : goal.returns-in-Ok

@@ -1,5 +1,5 @@
 use Rattle.std.proofs.Common.{sym}
-use Rattle.mmtel_web.proofs.Owning.{firsts, nobodys}
+use Rattle.mmtel_web.proofs.OwnIdentities.{firsts, nobodys}
 use Rattle.mmtel_web.proofs.parties.is_own.Goals as goal
 
 pub returns-in-None : goal.returns-in-None

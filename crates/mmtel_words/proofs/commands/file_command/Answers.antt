@@ -8,4 +8,4 @@ use Rattle.mmtel_words.proofs.commands.file_command.Goals as goal
 pub returns : goal.returns
 returns c =
     let rule : rule_of c.positional.result ≡ position_arg (codes "file") = search rules in
-    IfOk-weaker c.arg.result _ _ (λ r h. h.shape c.positional.ensures.local ∙ ap₂ with_rule c.bare.ensures rule) c.arg.ensures
+    IfOk-weaker c.arg.result _ _ (λ r h. h.shape c.positional.ensures.local ∙ ap₂ with_rule c.bare_command.ensures rule) c.arg.ensures

@@ -1,6 +1,6 @@
 use Rattle.std.proofs.Common.{map}
 use Rattle.std.proofs.lemmas.Result.{err_from_is_err_and}
-use Rattle.mmtel_words.proofs.Tellings.{charges_refused}
+use Rattle.mmtel_words.proofs.ReadTheorems.{charges_refused}
 use Rattle.mmtel_words.proofs.commands.read_charges.Goals as goal
 
 pub returns-in_err-config : goal.returns-in_err-config

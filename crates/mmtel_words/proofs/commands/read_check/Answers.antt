@@ -1,6 +1,6 @@
 use Rattle.std.proofs.Common.{map}
 use Rattle.std.proofs.lemmas.Result.{err_from_is_err_and}
-use Rattle.mmtel_words.proofs.Tellings.{check_refused}
+use Rattle.mmtel_words.proofs.ReadTheorems.{check_refused}
 use Rattle.mmtel_words.proofs.commands.read_check.Goals as goal
 
 pub returns-in_err-records : goal.returns-in_err-records

@@ -1,13 +1,13 @@
 use Rattle.std.proofs.Common.{◌≡◌, ◌∙◌, rules, ap₂, codes}
 use Rattle.std.proofs.lemmas.Result.{IfOk-weaker}
 use Rattle.clap.specs.Words.{app_of, rule_of, with_rule}
-use Rattle.mmtel_words.specs.Rules.{bare, option_arg}
+use Rattle.mmtel_words.specs.Rules.{bare_command, option_arg}
 use Rattle.mmtel_words.proofs.commands.workload_command.Goals as goal
 
 pub returns : goal.returns
 returns c =
-    let start : app_of c.bare.result ≡ bare (codes "workload") = search rules in
+    let start : app_of c.bare_command.result ≡ bare_command (codes "workload") = search rules in
     let rule0 : rule_of c.option.result ≡ option_arg (codes "calls") = search rules in
     let rule1 : rule_of c.option-2.result ≡ option_arg (codes "salt") = search rules in
-    let app0 : app_of c.in_ok-arg.field-0 ≡ with_rule (bare (codes "workload")) (option_arg (codes "calls")) = c.in_ok-arg.ensures.shape c.option.ensures.local ∙ ap₂ with_rule start rule0 in
+    let app0 : app_of c.in_ok-arg.field-0 ≡ with_rule (bare_command (codes "workload")) (option_arg (codes "calls")) = c.in_ok-arg.ensures.shape c.option.ensures.local ∙ ap₂ with_rule start rule0 in
     IfOk-weaker c.arg-2.result _ _ (λ r h. h.shape c.option-2.ensures.local ∙ ap₂ with_rule app0 rule1) c.arg-2.ensures

@@ -2,42 +2,42 @@ use Rattle.std.proofs.Common.{◌≡◌, ◌<◌, Bool, List, Some, length, subs
 use Rattle.std.specs.Prelude.{ℕ, slice_get, set, sum_by}
 use Rattle.std.specs.Box.{with_value}
 use Rattle.mmtel_b2bua.specs.Entries.{is_live}
-use Rattle.mmtel_b2bua.specs.Kept.{AreKept, keeps_busy, number_of, one_if, unboxed}
+use Rattle.mmtel_b2bua.specs.Invariant.{TableInvariant, box_values, busy_count, number_of, one_if}
 use Rattle.mmtel_b2bua.specs.Tables.{Table}
 use Rattle.mmtel_b2bua.specs.declared.entries.Entry.{Entry}
 use Rattle.mmtel_call.specs.declared.calls.Call.{Call}
-use Rattle.mmtel_b2bua.specs.Lending.{put_back, put_back_at}
-use Rattle.mmtel_b2bua.proofs.Away.{busy_back, live_back, number_back}
+use Rattle.mmtel_b2bua.specs.Detaching.{entry_after_restore, restored_at}
+use Rattle.mmtel_b2bua.proofs.DetachedLegs.{busy_after_restore, live_after_restore, number_after_restore}
 use Rattle.mmtel_b2bua.proofs.Keeping.{left_kept, set_boxes, stands_at, table_after}
 use Rattle.mmtel_b2bua.proofs.call_table.CallTable.restore_at.Goals as goal
 
 pub invariant_of-self : goal.invariant_of-self
 invariant_of-self c =
     let bs = c.self.inside.entries.items in
-    let es = unboxed bs in
+    let es = box_values bs in
     let k = c.args.place in
     let e = c.deref_mut-entry.result.now in
     let within : k < length es = subst (λ (t : Table). k < length t.entries) (sym c.self.view_is) c.requires.place in
     let is : slice_get es k ≡ Some e = stands_at bs k c.index_mut.result.now e within c.index_mut.ensures.value c.deref_mut-entry.ensures.value in
     let y : Entry = record { call = c.restore.new.self; invites = e.invites } in
-    let made : y ≡ put_back c.args.away e = ap (λ (call : Call). let x : Entry = record { call = call; invites = e.invites } in x) c.restore.ensures in
+    let made : y ≡ entry_after_restore c.args.leg e = ap (λ (call : Call). let x : Entry = record { call = call; invites = e.invites } in x) c.restore.ensures in
     let now = set_boxes bs k (with_value c.index_mut.result.now y) in
-    let live : is_live y ≡ is_live e = ap is_live made ∙ live_back c.args.away e in
-    let again = λ (n : ℕ). ap (λ (m : ℕ). m + keeps_busy n e) (c.self.invariant.counts n) ∙ ap (λ (m : ℕ). sum_by (keeps_busy n) es + m) (sym (ap (keeps_busy n) made ∙ busy_back n c.args.away e)) in
-    subst (λ (l : List Entry). AreKept l c.self.inside.opened c.self.inside.alive c.put_call-2.new.index c.self.inside.busy) (sym now)
-    (left_kept es c.self.inside.opened c.self.inside.alive c.self.inside.index c.self.inside.busy k e y c.self.invariant is false c.self.inside.alive c.put_call.new.index c.put_call-2.new.index c.self.inside.busy c.put_call.ensures c.put_call-2.ensures (λ stays. ap number_of made ∙ number_back e.call.phase c.args.away e.call)
-    (ap (λ (b : Bool). c.self.inside.alive + one_if b) (sym live)) again)
+    let live : is_live y ≡ is_live e = ap is_live made ∙ live_after_restore c.args.leg e in
+    let again = λ (n : ℕ). ap (λ (m : ℕ). m + busy_count n e) (c.self.invariant.counts n) ∙ ap (λ (m : ℕ). sum_by (busy_count n) es + m) (sym (ap (busy_count n) made ∙ busy_after_restore n c.args.leg e)) in
+    subst (λ (l : List Entry). TableInvariant l c.self.inside.opened c.self.inside.live_count c.put_call-2.new.index c.self.inside.busy) (sym now)
+    (left_kept es c.self.inside.opened c.self.inside.live_count c.self.inside.index c.self.inside.busy k e y c.self.invariant is false c.self.inside.live_count c.put_call.new.index c.put_call-2.new.index c.self.inside.busy c.put_call.ensures c.put_call-2.ensures (λ stays. ap number_of made ∙ number_after_restore e.call.phase c.args.leg e.call)
+    (ap (λ (b : Bool). c.self.inside.live_count + one_if b) (sym live)) again)
 
 pub returns : goal.returns
 returns c =
     let bs = c.self.inside.entries.items in
-    let es = unboxed bs in
+    let es = box_values bs in
     let k = c.args.place in
     let e = c.deref_mut-entry.result.now in
     let within : k < length es = subst (λ (t : Table). k < length t.entries) (sym c.self.view_is) c.requires.place in
     let is : slice_get es k ≡ Some e = stands_at bs k c.index_mut.result.now e within c.index_mut.ensures.value c.deref_mut-entry.ensures.value in
     let y : Entry = record { call = c.restore.new.self; invites = e.invites } in
-    let made : y ≡ put_back c.args.away e = ap (λ (call : Call). let x : Entry = record { call = call; invites = e.invites } in x) c.restore.ensures in
+    let made : y ≡ entry_after_restore c.args.leg e = ap (λ (call : Call). let x : Entry = record { call = call; invites = e.invites } in x) c.restore.ensures in
     let now = set_boxes bs k (with_value c.index_mut.result.now y) in
     let t : Table = record { entries = es; opened = c.self.inside.opened; rows = c.self.inside.rows } in
-    table_after t c.args.self.now c.self.view_is k e is (λ o xs. put_back_at c.args.away k o xs) _ (now ∙ ap (λ (x : Entry). set es k x) made)
+    table_after t c.args.self.now c.self.view_is k e is (λ o xs. restored_at c.args.leg k o xs) _ (now ∙ ap (λ (x : Entry). set es k x) made)

@@ -1,11 +1,11 @@
 use Rattle.std.proofs.Common.{ap}
 use Rattle.mmtel_b2bua.specs.Tables.{Table}
-use Rattle.mmtel_b2bua.proofs.Away.{away_after, fits_after}
+use Rattle.mmtel_b2bua.proofs.DetachedLegs.{detached_after_release, fits_after}
 use Rattle.mmtel_b2bua.proofs.tables.Calls.release.Goals as goal
 
 pub returns-clause-away : goal.returns-clause-away
 returns-clause-away c =
-    away_after c.args.call.0 c.args.side c.self.inside.table.entries c.release.new.table.entries c.release.result _ (ap (λ (t : Table). t.entries) c.release.ensures.table) c.release.ensures.leg
+    detached_after_release c.args.call.0 c.args.side c.self.inside.table.entries c.release.new.table.entries c.release.result _ (ap (λ (t : Table). t.entries) c.release.ensures.table) c.release.ensures.leg
 
 pub returns-clause-fits : goal.returns-clause-fits
 returns-clause-fits c =

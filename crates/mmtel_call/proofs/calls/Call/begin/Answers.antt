@@ -3,8 +3,8 @@ use Rattle.mmtel_call.proofs.calls.Call.begin.Goals as goal
 
 pub returns-in-Ok-clause-call : goal.returns-in-Ok-clause-call
 returns-in-Ok-clause-call c =
-    rw (c.in-Ok.ensures.refusal, c.in-Ok.ensures.caller, c.in-Ok.ensures.desk) at c.come_unless_refused.ensures.call
+    rw (c.in-Ok.ensures.refusal, c.in-Ok.ensures.caller, c.in-Ok.ensures.output) at c.reach_unless_refused.ensures.call
 
-pub returns-in-Ok-clause-desk : goal.returns-in-Ok-clause-desk
-returns-in-Ok-clause-desk c =
-    rw (c.in-Ok.ensures.refusal, c.in-Ok.ensures.caller, c.in-Ok.ensures.desk) at c.come_unless_refused.ensures.desk
+pub returns-in-Ok-clause-output : goal.returns-in-Ok-clause-output
+returns-in-Ok-clause-output c =
+    rw (c.in-Ok.ensures.refusal, c.in-Ok.ensures.caller, c.in-Ok.ensures.output) at c.reach_unless_refused.ensures.output

@@ -3,7 +3,7 @@ use Rattle.std.proofs.lemmas.List.Sums.{count_by-le-length}
 use Rattle.std.proofs.Common.{◌≡◌, arith, ◌∙◌, ap, List}
 use Rattle.mmtel_history.specs.HistoryInfo.{diversions_in}
 use Rattle.mmtel_history.specs.declared.entries.Entry.{Entry}
-use Rattle.mmtel_history.proofs.ListLaws.{after_counts}
+use Rattle.mmtel_history.proofs.ListTheorems.{after_counts}
 use Rattle.mmtel_history.proofs.histories.History.diversions.Goals as goal
 
 pub returns-clause-each : goal.returns-clause-each

@@ -2,8 +2,8 @@ use Rattle.std.proofs.Common.{◌≡◌, ◌∙◌, ap, subst, sym, List, length
 use Rattle.std.specs.Prelude.{map}
 use Rattle.mmtel_history.specs.HistoryInfo.{diversions_in, masked_list, AreReadable}
 use Rattle.mmtel_history.specs.declared.entries.Entry.{Entry}
-use Rattle.mmtel_history.proofs.ListLaws.{length-masked, masked_alike, masked_counts, masked_keeps, masked_once}
-use Rattle.mmtel_history.proofs.ReadableLaws.{masked_readable}
+use Rattle.mmtel_history.proofs.ListTheorems.{length-masked, masked_counts, masked_equal, masked_keeps, masked_once}
+use Rattle.mmtel_history.proofs.ReadableTheorems.{masked_readable}
 use Rattle.mmtel_history.proofs.histories.History.masked.Goals as goal
 use Rattle.mmtel_history.proofs.histories.History.masked.Goals.{In_ok-entries}
 
@@ -11,7 +11,7 @@ are : (c : In_ok-entries) → c.in_ok-entries.entries.items ≡ masked_list c.ar
 are c = c.in_ok-entries.ensures ∙ ap (λ (h : List Entry). masked_list c.args.all h) (c.as_slice.ensures.value ∙ c.self.view_is)
 
 pub returns-clause-alike : goal.returns-clause-alike
-returns-clause-alike c = λ other same. are c ∙ masked_alike c.args.all c.args.self.now other same
+returns-clause-alike c = λ other same. are c ∙ masked_equal c.args.all c.args.self.now other same
 
 pub returns-clause-causes : goal.returns-clause-causes
 returns-clause-causes c = ap (λ (h : List Entry). map (λ e. e.cause) h) (are c) ∙ masked_keeps (λ e. e.cause) (λ e uri. refl) c.args.all c.args.self.now

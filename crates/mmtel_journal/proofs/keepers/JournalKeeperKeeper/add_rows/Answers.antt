@@ -1,7 +1,7 @@
 use Rattle.std.proofs.Common.{List, ◌++◌, ◌∙◌, refl, ap, arith, length}
 use Rattle.mmtel_charging.specs.declared.rows.Row.{Row}
 use Rattle.mmtel_journal.specs.Payloads.{payload_of_rows}
-use Rattle.mmtel_journal.proofs.Methods.{untouched_trying, tried_kept, rows_added, rows_form}
+use Rattle.mmtel_journal.proofs.KeeperCalls.{untouched_trying, tried_kept, rows_added, rows_form}
 use Rattle.mmtel_journal.proofs.Records.{body_long}
 use Rattle.mmtel_journal.proofs.keepers.JournalKeeperKeeper.add_rows.Goals as goal
 
@@ -23,6 +23,6 @@ pub returns-clause-done : goal.returns-clause-done
 returns-clause-done g c = record {
   log = c.in_ok-add.ensures.done (payload_of_rows c.args.rows.now) (c.as_slice.ensures.value ∙ c.in_ok-body.ensures.body);
   form = rows_form c.args.rows.now (omega arith) c.in_ok-body.ensures.fits;
-  held = λ once. rows_added _ _ c.args.rows.now (omega arith) c.in_ok-body.ensures.fits refl
+  contents = λ once. rows_added _ _ c.args.rows.now (omega arith) c.in_ok-body.ensures.fits refl
       (c.add_reserved.ensures.added ∙ ap (λ (l : List Row). l ++ c.args.rows.now) c.grow_rows.ensures.same);
 }

@@ -1,5 +1,5 @@
 use Rattle.std.proofs.Common.{refl}
-use Rattle.mmtel_journal.proofs.Methods.{untouched_kept}
+use Rattle.mmtel_journal.proofs.KeeperCalls.{untouched_kept}
 use Rattle.mmtel_journal.proofs.keepers.JournalKeeperKeeper.load.Goals as goal
 
 pub returns-in_err-sheets-clause-refused : goal.returns-in_err-sheets-clause-refused

@@ -1,10 +1,10 @@
 use Rattle.std.proofs.Common.{List, ℕ, ◌<◌, ◌^◌, ◌∙◌, Some, refl, ap, subst, arith, length}
 use Rattle.std.specs.Prelude.{All}
 use Rattle.mmtel_types.specs.declared.numbers.Account.{Account}
-use Rattle.mmtel_journal.specs.Logs.{body_of}
+use Rattle.mmtel_journal.specs.Logs.{body_bytes}
 use Rattle.mmtel_journal.specs.Migrating.{AreReplacements, sheets_in}
 use Rattle.mmtel_journal.specs.Payloads.{IsSheet, payload_of_sheets}
-use Rattle.mmtel_journal.proofs.Methods.{untouched_some, tried_some, sheets_given, sheets_form}
+use Rattle.mmtel_journal.proofs.KeeperCalls.{untouched_some, tried_some, sheets_given, sheets_form}
 use Rattle.mmtel_journal.proofs.Records.{body_long}
 use Rattle.mmtel_journal.proofs.keepers.JournalKeeperKeeper.migrate.Goals as goal
 
@@ -33,9 +33,9 @@ returns-clause-done g c =
       Some payload,
       record {
         log = c.in_ok-add.ensures.done payload
-            (c.as_slice.ensures.value ∙ c.in_ok-body.ensures.body ∙ ap (λ (l : List (ℕ × (Account × List ℕ))). body_of (payload_of_sheets (sheets_in l))) c.items-2.ensures);
+            (c.as_slice.ensures.value ∙ c.in_ok-body.ensures.body ∙ ap (λ (l : List (ℕ × (Account × List ℕ))). body_bytes (payload_of_sheets (sheets_in l))) c.items-2.ensures);
         form = sheets_form found many fits;
-        held = λ once. sheets_given _ _ found
+        contents = λ once. sheets_given _ _ found
             (subst (λ (l : List (Account × List ℕ)). AreReplacements l found) c.items.ensures.all c.in_ok-found.ensures.replaced) many fits c.put_all.ensures.put refl once;
       },
     )

@@ -1,4 +1,4 @@
-use Rattle.mmtel_journal.proofs.Calls.{add_done, add_refused}
+use Rattle.mmtel_journal.proofs.LogCalls.{add_done, add_refused}
 use Rattle.mmtel_journal.proofs.logs.Log.add.Goals as goal
 
 pub returns-clause-done : goal.returns-clause-done

@@ -1,12 +1,12 @@
 use Rattle.std.proofs.Common.{◌++◌, ◌∷◌, []}
 use Rattle.mmtel_journal.specs.Journal.{IsJournalOrMore}
 use Rattle.mmtel_journal.proofs.Moments.{weaker, then_more, on_err}
-use Rattle.mmtel_journal.proofs.Records.{more_left, more_right, stands_left, stands_right}
+use Rattle.mmtel_journal.proofs.Records.{log_left, log_right, more_left, more_right}
 use Rattle.mmtel_journal.proofs.logs.Log.write.Goals as goal
 
 pub returns-in_err-settle-clause-err : goal.returns-in_err-settle-clause-err
 returns-in_err-settle-clause-err g c = λ payloads others more honest is stands.
-    on_err _ _ (stands_left g.D.Disk.may_leave payloads others (more ∷ []) c.settle.new.self (c.in_err-settle.ensures.err payloads others honest stands))
+    on_err _ _ (log_left g.D.Disk.may_leave payloads others (more ∷ []) c.settle.new.self (c.in_err-settle.ensures.err payloads others honest stands))
 
 pub returns-in_err-settle-clause-any_moment : goal.returns-in_err-settle-clause-any_moment
 returns-in_err-settle-clause-any_moment g c = λ payloads others more honest is stands.
@@ -17,7 +17,7 @@ pub returns-in_err-append-clause-err : goal.returns-in_err-append-clause-err
 returns-in_err-append-clause-err g c = λ payloads others more honest is stands.
     let still = c.settle.ensures.honest.0 honest in
     let settled = c.in_ok-settle.ensures.ok payloads others honest stands in
-    on_err _ _ (stands_right g.D.Disk.may_leave payloads others (more ∷ []) c.append.new.self
+    on_err _ _ (log_right g.D.Disk.may_leave payloads others (more ∷ []) c.append.new.self
     (c.in_err-append.ensures.err payloads more still c.in_ok-settle.ensures.closed is settled))
 
 pub returns-in_err-append-clause-any_moment : goal.returns-in_err-append-clause-any_moment

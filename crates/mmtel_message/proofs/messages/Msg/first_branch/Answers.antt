@@ -1,5 +1,5 @@
 use Rattle.std.proofs.Common.{sym, ◌∙◌}
-use Rattle.mmtel_message.proofs.AnsweredLaws.{branch_at, branch_nowhere}
+use Rattle.mmtel_message.proofs.TransactionNameTheorems.{branch_at, branch_nowhere}
 use Rattle.mmtel_message.proofs.messages.Msg.first_branch.Goals as goal
 
 pub returns-in-None : goal.returns-in-None

@@ -1,5 +1,5 @@
 use Rattle.std.proofs.Common.{ℕ, List, Some, ap, sym, ◌∙◌}
-use Rattle.mmtel_message.proofs.AnsweredLaws.{known_method}
+use Rattle.mmtel_message.proofs.TransactionNameTheorems.{known_method}
 use Rattle.mmtel_message.proofs.messages.Msg.first_method.Goals as goal
 
 pub returns-in-Some : goal.returns-in-Some

@@ -1,7 +1,7 @@
 use Rattle.std.proofs.Common.{ap, ◌∙◌}
 use Rattle.std.specs.FinMap.{insert}
 use Rattle.mmtel_mwi.specs.Boxes.{Mailboxes}
-use Rattle.mmtel_mwi.proofs.Mailing.{inserted}
+use Rattle.mmtel_mwi.proofs.MailboxMaps.{inserted}
 use Rattle.mmtel_mwi.proofs.mailboxes.Mailboxes.put.Goals as goal
 
 pub returns-clause-put : goal.returns-clause-put

@@ -4,21 +4,21 @@ use Rattle.std.specs.List.{AllByRecursion}
 use Rattle.std.proofs.lemmas.Option.{slice_get_read}
 use Rattle.mmtel_timers.specs.declared.shelves.Slot.{Slot}
 use Rattle.mmtel_timers.specs.Ranks.{item_of, IsRanked}
-use Rattle.mmtel_timers.proofs.Mapped.{put_in, read_mapped, taken_out}
+use Rattle.mmtel_timers.proofs.Mapped.{put_in, queue_without, read_mapped}
 use Rattle.mmtel_timers.proofs.Ordered.{all_in, all_out}
 use Rattle.mmtel_timers.proofs.shelves.Shelf.exchange.Goals as goal
 
 pub seek-place-requires : goal.seek-place-requires
 seek-place-requires g c =
-    let left = taken_out item_of c.self.inside.items.items c.remove.new.self.items c.args.from c.args.self.now c.self.view_is c.in-Some.ensures.items in
-    subst (IsPartitionedBy (g.M.Mark.before c.args.mark.now)) (sym left) c.requires.parted
+    let left = queue_without item_of c.self.inside.items.items c.remove.new.self.items c.args.from c.args.self.now c.self.view_is c.in-Some.ensures.items in
+    subst (IsPartitionedBy (g.M.SearchKey.before c.args.key.now)) (sym left) c.requires.parted
 
 pub invariant_of-self-2 : goal.invariant_of-self-2
 invariant_of-self-2 g c =
     let ranked = IsRanked g.T.Ranked.rank in
     let left = subst (AllByRecursion ranked) (sym c.in-Some.ensures.items) (all_out ranked c.args.from c.self.inside.items.items c.self.invariant) in
     let slot : Slot g.row.T.Denot = record { rank = c.rank-rank.result; block = c.replace-taken.new.b } in
-    subst (AllByRecursion ranked) (sym c.in-Ok.ensures.items) (all_in ranked c.seek-place.result.place slot c.remove.new.self.items left (c.rank-rank.ensures ∙ ap g.T.Ranked.rank (sym c.replace-taken.ensures.after)))
+    subst (AllByRecursion ranked) (sym c.in-Ok.ensures.items) (all_in ranked c.seek-place.result.position slot c.remove.new.self.items left (c.rank-rank.ensures ∙ ap g.T.Ranked.rank (sym c.replace-taken.ensures.after)))
 
 pub returns-clause-taken : goal.returns-clause-taken
 returns-clause-taken g c =
@@ -30,12 +30,12 @@ returns-clause-taken g c =
 
 pub returns-clause-place : goal.returns-clause-place
 returns-clause-place g c =
-    let before = g.M.Mark.before c.args.mark.now in
-    let left = taken_out item_of c.self.inside.items.items c.remove.new.self.items c.args.from c.args.self.now c.self.view_is c.in-Some.ensures.items in
-    subst (λ ys. IsPartitionPoint (λ x. before x ≡ true) (λ x. before x ≡ false) ys c.seek-place.result.place) left c.seek-place.ensures.parted
+    let before = g.M.SearchKey.before c.args.key.now in
+    let left = queue_without item_of c.self.inside.items.items c.remove.new.self.items c.args.from c.args.self.now c.self.view_is c.in-Some.ensures.items in
+    subst (λ ys. IsPartitionPoint (λ x. before x ≡ true) (λ x. before x ≡ false) ys c.seek-place.result.position) left c.seek-place.ensures.parted
 
 pub returns-clause-rest : goal.returns-clause-rest
 returns-clause-rest g c =
-    let left = taken_out item_of c.self.inside.items.items c.remove.new.self.items c.args.from c.args.self.now c.self.view_is c.in-Some.ensures.items in
+    let left = queue_without item_of c.self.inside.items.items c.remove.new.self.items c.args.from c.args.self.now c.self.view_is c.in-Some.ensures.items in
     let slot : Slot g.row.T.Denot = record { rank = c.rank-rank.result; block = c.replace-taken.new.b } in
-    put_in item_of c.remove.new.self.items c.insert.new.self.items c.seek-place.result.place slot c.args.item (remove c.args.self.now c.args.from) left c.replace-taken.ensures.after c.in-Ok.ensures.items
+    put_in item_of c.remove.new.self.items c.insert.new.self.items c.seek-place.result.position slot c.args.item (remove c.args.self.now c.args.from) left c.replace-taken.ensures.after c.in-Ok.ensures.items

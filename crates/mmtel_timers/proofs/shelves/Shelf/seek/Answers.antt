@@ -11,7 +11,7 @@ use Rattle.mmtel_timers.proofs.shelves.Shelf.seek.Goals as goal
 pub loop-low-preserved-then-comes_before : goal.loop-low-preserved-then-comes_before
 loop-low-preserved-then-comes_before g c =
     let i = c.loop-low.invariant in
-    let p = g.M.Mark.before c.args.mark.now in
+    let p = g.M.SearchKey.before c.args.key.now in
     let xs = c.args.self.now in
     let low = c.loop-low.low in
     let high = c.loop-low.high in
@@ -38,7 +38,7 @@ loop-low-preserved-then-comes_before g c =
 pub loop-low-preserved : goal.loop-low-preserved
 loop-low-preserved g c =
     let i = c.loop-low.invariant in
-    let p = g.M.Mark.before c.args.mark.now in
+    let p = g.M.SearchKey.before c.args.key.now in
     let xs = c.args.self.now in
     let low = c.loop-low.low in
     let high = c.loop-low.high in

@@ -1,12 +1,12 @@
 use Rattle.std.proofs.Common.{List, sym, subst}
 use Rattle.mmtel_trust.specs.Accounts.{is_of}
 use Rattle.mmtel_trust.specs.Hashes.{uri_hash}
-use Rattle.mmtel_trust.specs.Places.{Covers}
+use Rattle.mmtel_trust.specs.HashIndex.{Covers}
 use Rattle.mmtel_trust.specs.declared.accounts.AccountIdentity.{AccountIdentity}
 use Rattle.mmtel_trust.proofs.Indexing.{covers_uri}
 use Rattle.mmtel_trust.proofs.accounts.Accounts.has_identity.Goals as goal
 
-pub is_there-requires : goal.is_there-requires
-is_there-requires c =
-    subst (λ (es : List AccountIdentity). Covers (is_of c.args.u.now) (uri_hash c.args.u.now) es c.self.inside.by_uri) (sym c.items.ensures)
-    (covers_uri c.self.inside.identities c.self.inside.by_uri c.self.inside.by_account c.args.u.now c.self.invariant)
+pub has_item-requires : goal.has_item-requires
+has_item-requires c =
+    subst (λ (es : List AccountIdentity). Covers (is_of c.args.uri.now) (uri_hash c.args.uri.now) es c.self.inside.by_uri) (sym c.items.ensures)
+    (covers_uri c.self.inside.identities c.self.inside.by_uri c.self.inside.by_account c.args.uri.now c.self.invariant)

@@ -1,11 +1,11 @@
 use Rattle.std.proofs.Common.{List, sym, subst}
 use Rattle.mmtel_trust.specs.Peers.{is_number}
-use Rattle.mmtel_trust.specs.Places.{Covers}
-use Rattle.mmtel_trust.specs.declared.parties.KnownPeer.{KnownPeer}
+use Rattle.mmtel_trust.specs.HashIndex.{Covers}
+use Rattle.mmtel_trust.specs.declared.known_peers.KnownPeer.{KnownPeer}
 use Rattle.mmtel_trust.proofs.Indexing.{covers_number}
 use Rattle.mmtel_trust.proofs.peers.PeerTable.has_number.Goals as goal
 
-pub is_there-requires : goal.is_there-requires
-is_there-requires c =
-    subst (λ (xs : List KnownPeer). Covers (is_number c.args.p) c.args.p.0 xs c.self.inside.by_number) (sym c.items.ensures)
-    (covers_number c.self.inside.peers c.self.inside.by_number c.args.p c.self.invariant.numbers)
+pub has_item-requires : goal.has_item-requires
+has_item-requires c =
+    subst (λ (xs : List KnownPeer). Covers (is_number c.args.peer) c.args.peer.0 xs c.self.inside.by_number) (sym c.items.ensures)
+    (covers_number c.self.inside.peers c.self.inside.by_number c.args.peer c.self.invariant.numbers)

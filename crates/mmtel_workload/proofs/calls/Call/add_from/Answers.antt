@@ -1,5 +1,5 @@
 use Rattle.std.proofs.Common.{◌∙◌, append_assoc}
-use Rattle.mmtel_workload.proofs.Behind.{on_ok_by}
+use Rattle.mmtel_workload.proofs.CallAfter.{on_ok_by}
 use Rattle.mmtel_workload.proofs.calls.Call.add_from.Goals as goal
 
 pub returns : goal.returns

@@ -1,3 +1,0 @@
-pub mod RepeatLaws
-pub mod AnswerLaws
-pub mod HiddenCallers

@@ -1,0 +1,18 @@
+use Rattle.std.proofs.Common.{◌∙◌}
+use Rattle.mmtel_b2bua.specs.Entries.{has_received_key}
+use Rattle.mmtel_b2bua.specs.Invariant.{box_values}
+use Rattle.mmtel_b2bua.specs.Marks.{marks_of}
+use Rattle.mmtel_output.proofs.Marking.{place_fits, place_found}
+use Rattle.mmtel_output.specs.declared.marks.Mark.TheVariants.{ClientTransaction}
+use Rattle.mmtel_b2bua.proofs.Finding.{received_marked}
+use Rattle.mmtel_b2bua.proofs.Keeping.{position_boxes}
+use Rattle.mmtel_b2bua.proofs.dispatch.place_by_client_key.Goals as goal
+
+pub absolute_place-requires : goal.absolute_place-requires
+absolute_place-requires c =
+    place_fits marks_of (has_received_key c.args.key) c.args.table.now.entries c.first_place_for-start.result c.first_place_for-start.ensures.within (box_values c.entries_from.result.now) c.entries_from.ensures c.box_by_client_key-place.result (c.box_by_client_key-place.ensures ∙ position_boxes (has_received_key c.args.key) c.entries_from.result.now)
+
+pub returns : goal.returns
+returns c =
+    place_found marks_of (has_received_key c.args.key) c.args.table.now.entries c.first_place_for-start.result c.first_place_for-start.ensures.within (box_values c.entries_from.result.now) c.entries_from.ensures c.box_by_client_key-place.result (c.box_by_client_key-place.ensures ∙ position_boxes (has_received_key c.args.key) c.entries_from.result.now)
+    (ClientTransaction c.args.key.0) (received_marked c.args.key) c.first_place_for-start.ensures.none c.absolute_place.result c.absolute_place.ensures

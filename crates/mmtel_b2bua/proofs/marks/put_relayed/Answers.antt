@@ -1,0 +1,9 @@
+use Rattle.std.proofs.Common.{ℕ, [], ◌∷◌, subst, List, ap, ◌∙◌}
+use Rattle.mmtel_output.specs.Marks.{MarkUpdate}
+use Rattle.mmtel_transaction.specs.Hashes.{hash_of}
+use Rattle.mmtel_output.specs.declared.marks.Mark.TheVariants.{Branch}
+use Rattle.mmtel_b2bua.proofs.marks.put_relayed.Goals as goal
+
+pub returns : goal.returns
+returns c =
+    subst (λ (n : ℕ). MarkUpdate c.args.stays c.args.call.0 (Branch n ∷ []) c.args.index.now c.put.new.self) (c.hash_of.ensures ∙ ap (λ (l : List ℕ). hash_of l) c.bytes.ensures) c.put.ensures

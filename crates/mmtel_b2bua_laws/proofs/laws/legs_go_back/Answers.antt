@@ -1,5 +1,0 @@
-use Rattle.mmtel_b2bua_laws.proofs.Legs.{legs_back}
-use Rattle.mmtel_b2bua_laws.proofs.laws.legs_go_back.Goals as goal
-
-pub returns : goal.returns
-returns c = record { law = legs_back }

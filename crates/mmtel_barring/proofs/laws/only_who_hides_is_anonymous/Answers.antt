@@ -1,5 +1,0 @@
-use Rattle.mmtel_barring.proofs.BarringLaws.{nobody, opened, unasked}
-use Rattle.mmtel_barring.proofs.laws.only_who_hides_is_anonymous.Goals as goal
-
-pub returns : goal.returns
-returns c = record { nobody = nobody; shown = opened; unasked = unasked }

@@ -1,8 +1,0 @@
-use Rattle.std.proofs.Common.{[], ap, sym, ◌∙◌}
-use Rattle.std.specs.FinMap.{from_entries}
-use Rattle.mmtel_call_decisions.specs.Busy.{calls_of}
-use Rattle.mmtel_call_decisions.proofs.Counting.{counted}
-use Rattle.mmtel_call_decisions.proofs.busy.Busy.new.Goals as goal
-
-pub returns : goal.returns
-returns c = record { none = λ number. ap (λ es. calls_of (from_entries es) number) c.new.ensures.empty ∙ sym (counted [] number) }

@@ -1,3 +1,0 @@
--- What the theorems cite here: the INVITEs of a call, and its requests in flight, were sent, each once.
-pub mod Sent
-pub mod Laws

@@ -1,3 +1,0 @@
--- What the theorems cite here: what a call keeps of its attempt is what was sent and received.
-pub mod Seen
-pub mod Laws

@@ -1,0 +1,2 @@
+pub mod UntrustedSenders
+pub mod Numbers

@@ -1,0 +1,15 @@
+pub mod Bytes
+pub mod Splitting
+pub mod Reading
+pub mod Building
+pub mod ReceivedMessages
+pub mod Sending
+pub mod CallState
+pub mod Deciding
+pub mod Diversions
+pub mod RelayedRequests
+pub mod Ringing
+pub mod AbandonedInvites
+pub mod Established
+pub mod Traces
+pub mod Canonical

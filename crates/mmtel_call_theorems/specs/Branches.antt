@@ -1,0 +1,3 @@
+-- What the theorems cite here: the INVITEs of a call, and its requests in flight, were sent, each once.
+pub mod SentRequests
+pub mod Theorems

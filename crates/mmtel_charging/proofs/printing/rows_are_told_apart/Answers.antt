@@ -1,5 +1,0 @@
-use Rattle.mmtel_charging.proofs.Telling.{row-again}
-use Rattle.mmtel_charging.proofs.printing.rows_are_told_apart.Goals as goal
-
-pub returns : goal.returns
-returns c = record { told_apart = row-again c.causes_are_told_apart.ensures.told_apart c.args.one c.args.other c.numbers_fit.ensures.in_range c.numbers_fit-2.ensures.in_range }

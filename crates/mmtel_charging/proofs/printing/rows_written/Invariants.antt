@@ -1,7 +1,0 @@
-use Rattle.std.proofs.Common.{◌≡◌, take}
-use Rattle.mmtel_charging.specs.Rows.{text_of}
-use Rattle.mmtel_charging.specs.Writing.{IsReady, records_text, written}
-use Rattle.mmtel_charging.proofs.printing.rows_written.Given as goal
-
-abbrev pub invariant-loop-row : goal.invariant-loop-row
-invariant-loop-row l = IsReady l.writer × (written l.writer ≡ text_of (take l.row-index l.rows)) × (written l.writer ≡ records_text (take l.row-index l.rows))

@@ -1,0 +1,3 @@
+pub mod InviteCopyTheorems
+pub mod ResponseTheorems
+pub mod HiddenCallers

@@ -1,5 +1,0 @@
-use Rattle.std.proofs.Common.{arith}
-use Rattle.mmtel_desk.proofs.index.Index.first.Goals as goal
-
-pub returns : goal.returns
-returns c number there = omega arith

@@ -1,0 +1,16 @@
+use Rattle.std.proofs.Common.{◌≡◌, Some, ap, subst, sym, ◌∙◌}
+use Rattle.std.specs.Prelude.{slice_get}
+use Rattle.mmtel_focus.specs.Joining.{new_conference}
+use Rattle.mmtel_focus.specs.Marks.{LiveConferencesView}
+use Rattle.mmtel_focus.specs.Conferences.{Conference}
+use Rattle.mmtel_focus.proofs.TableInvariant.{waits}
+use Rattle.mmtel_focus.proofs.Numbering.{after_notify_to_keeps}
+use Rattle.mmtel_focus.proofs.entering.notify_at.Goals as goal
+
+pub put_back-requires : goal.put_back-requires
+put_back-requires c =
+    let k = c.args.place in
+    let x = c.take_out-room.result in
+    let y = c.notify.new.self in
+    let same = ap (λ (r : Conference). r.number) c.in-Ok.ensures.room ∙ after_notify_to_keeps c.args.step.now.config 0 c.args.is_active c.args.status_line.now c.args.seat (record { conference = x; effects = c.args.effects.now }) in
+    subst (λ (t : LiveConferencesView). slice_get t.items k ≡ Some (new_conference y.number)) (sym c.take_out-room.ensures.live) (waits c.args.live.now.items k x y c.take_out-room.ensures.room same)

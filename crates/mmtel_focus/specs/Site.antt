@@ -1,2 +1,0 @@
--- The server's configuration, as each step of a conference needs it.
-pub use Rattle.mmtel_seats.specs.Site.{Site}

@@ -1,8 +1,0 @@
-//! Theorems about what is passed: each is the contract of a function that does nothing.
-ghost use Rattle.mmtel_giving.specs.Laws.{NothingIsGiven, PartsAreGiven};
-
-/// What is passed to a link for one list of outputs and then for another is what is passed for both.
-pub fn parts_are_given()
-    ensures none { NothingIsGiven }
-    ensures both { PartsAreGiven }
-{}

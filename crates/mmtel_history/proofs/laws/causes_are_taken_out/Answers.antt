@@ -1,5 +1,0 @@
-use Rattle.mmtel_history.proofs.CauseLaws.{without_params, without_user, without_headers, without_mark, without_plain, without_once}
-use Rattle.mmtel_history.proofs.laws.causes_are_taken_out.Goals as goal
-
-pub returns : goal.returns
-returns c = record { params = without_params; user = without_user; headers = without_headers; mark = without_mark; plain = without_plain; once = without_once }

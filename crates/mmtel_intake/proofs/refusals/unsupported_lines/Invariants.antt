@@ -1,6 +1,0 @@
-use Rattle.std.proofs.Common.{◌≡◌, filter, map, take}
-use Rattle.mmtel_run.specs.Answers.{is_unsupported, unsupported_line}
-use Rattle.mmtel_intake.proofs.refusals.unsupported_lines.Given as goal
-
-abbrev pub invariant-loop-option : goal.invariant-loop-option
-invariant-loop-option l = l.lines ≡ map unsupported_line (filter (λ option. is_unsupported l.directory option) (take l.option-index l.option-items))

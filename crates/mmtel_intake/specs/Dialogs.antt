@@ -1,6 +1,0 @@
--- The name of a dialog that the code read, as that of the definitions.
-use Rattle.mmtel_run.specs.Calls.{DialogName}
-use Rattle.mmtel_intake.specs.declared.dialogs.DialogName as declared
-
-abbrev pub name_in : declared.DialogName → DialogName
-name_in name = record { call_id = name.call_id; local = name.local; remote = name.remote }

@@ -1,5 +1,0 @@
-use Rattle.mmtel_leg.proofs.OrderLaws as order
-use Rattle.mmtel_leg.proofs.laws.numbers_read_back.Goals as goal
-
-pub returns : goal.returns
-returns c = record { request = order.request_reads; ack = order.ack_reads }

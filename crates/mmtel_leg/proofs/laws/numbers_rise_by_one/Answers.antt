@@ -1,5 +1,0 @@
-use Rattle.mmtel_leg.proofs.DeedLaws as deeds
-use Rattle.mmtel_leg.proofs.laws.numbers_rise_by_one.Goals as goal
-
-pub returns : goal.returns
-returns c = record { counted = deeds.counted; last = deeds.last }

@@ -1,5 +1,0 @@
-use Rattle.mmtel_leg.proofs.HeardLaws as heard
-use Rattle.mmtel_leg.proofs.laws.refusals_change_nothing.Goals as goal
-
-pub returns : goal.returns
-returns c = record { refused = heard.refused; last = heard.last }

@@ -1,8 +1,0 @@
-use Rattle.std.proofs.Common.{◌≡◌, ◌++◌, length, reverse}
-use Rattle.mmtel_leg.proofs.remotes.reversed.Given as goal
-
-abbrev pub invariant-values : goal.invariant-values
-invariant-values l = l.back ++ reverse l.values ≡ reverse l.fn.values
-
-abbrev pub decreases-values : goal.decreases-values
-decreases-values l = length l.values

@@ -1,5 +1,0 @@
-use Rattle.mmtel_lex.proofs.SameIdentityLaws.{identity_is, is_identity}
-use Rattle.mmtel_lex.proofs.laws.identity_is_tested.Goals as goal
-
-pub returns : goal.returns
-returns c = record { exact = λ u v. (identity_is u v, is_identity u v) }

@@ -1,6 +1,0 @@
-use Rattle.std.proofs.lemmas.Result.{IfOk-weaker}
-use Rattle.mmtel_lex.proofs.PercentLaws.{broken_by}
-use Rattle.mmtel_lex.proofs.percent.percent_decoded.Goals as goal
-
-pub returns-clause-broken : goal.returns-clause-broken
-returns-clause-broken c = IfOk-weaker c.decoded.result _ _ (λ t same. broken_by c.args.bytes.now t same) c.decoded.ensures

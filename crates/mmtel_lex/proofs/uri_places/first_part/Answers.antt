@@ -1,8 +1,0 @@
-use Rattle.mmtel_lex.proofs.UriPlaceLaws.{first_by, shorter_by}
-use Rattle.mmtel_lex.proofs.uri_places.first_part.Goals as goal
-
-pub returns-clause-parts : goal.returns-clause-parts
-returns-clause-parts c = first_by c.args.byte c.args.bytes.now c.part.result (λ x. (x.0.now, x.1.now)) c.part.ensures
-
-pub returns-clause-shorter : goal.returns-clause-shorter
-returns-clause-shorter c = shorter_by c.args.byte c.args.bytes.now c.part.result (λ x. (x.0.now, x.1.now)) c.part.ensures

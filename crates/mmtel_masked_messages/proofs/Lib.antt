@@ -1,0 +1,5 @@
+pub mod HeadTheorems
+pub mod ResponseTheorems
+pub mod DialogTheorems
+pub mod RequestTheorems
+pub mod WorkedExampleTheorems

@@ -1,0 +1,6 @@
+-- What the theorems, which are public, state.
+pub mod Heads
+pub mod Responses
+pub mod Dialogs
+pub mod Requests
+pub mod WorkedExample

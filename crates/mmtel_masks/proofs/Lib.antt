@@ -1,5 +1,0 @@
-pub mod HeadLaws
-pub mod ResponseLaws
-pub mod DialogLaws
-pub mod RequestLaws
-pub mod WorkedLaws

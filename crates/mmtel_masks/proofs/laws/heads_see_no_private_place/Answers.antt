@@ -1,7 +1,0 @@
-use Rattle.mmtel_masks.proofs.HeadLaws.{alike, heard_alike, lines_keep, messages_keep}
-use Rattle.mmtel_masks.proofs.laws.heads_see_no_private_place.Goals as goal
-
-pub returns : goal.returns
-returns c =
-    let fields = c.heads_rest_on_five_names.ensures.fields in
-    record { messages = messages_keep fields; lines = lines_keep fields; alike = alike fields; heard = heard_alike fields }

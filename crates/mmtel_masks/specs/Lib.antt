@@ -1,6 +1,0 @@
--- What the theorems, which are public, state.
-pub mod Heads
-pub mod Responses
-pub mod Dialogs
-pub mod Requests
-pub mod Worked

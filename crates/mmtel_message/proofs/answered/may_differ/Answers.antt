@@ -1,6 +1,0 @@
-use Rattle.std.proofs.Common.{sym, ◌∙◌}
-use Rattle.mmtel_message.proofs.AnsweredLaws.{known_if}
-use Rattle.mmtel_message.proofs.answered.may_differ.Goals as goal
-
-pub returns : goal.returns
-returns c = known_if c.may_part.result c.args.branch.now c.args.value.now (sym c.is_empty.ensures ∙ c.if-is_empty.false) c.may_part.ensures

@@ -1,8 +1,0 @@
-use Rattle.mmtel_message.proofs.PromiseLaws.{read_contact, read_contact_line}
-use Rattle.mmtel_message.proofs.laws.an_invite_has_one_contact.Goals as goal
-
-pub returns : goal.returns
-returns c = record {
-  one = read_contact;
-  first = read_contact_line;
-}

@@ -1,8 +1,0 @@
-use Rattle.mmtel_message.proofs.PromiseLaws.{five_read, read_via_line}
-use Rattle.mmtel_message.proofs.laws.fields_are_read.Goals as goal
-
-pub returns : goal.returns
-returns c = record {
-  five = five_read;
-  via = read_via_line;
-}

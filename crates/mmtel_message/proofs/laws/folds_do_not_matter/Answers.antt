@@ -1,7 +1,0 @@
-use Rattle.mmtel_message.proofs.SpellingLaws.{same_folded}
-use Rattle.mmtel_message.proofs.laws.folds_do_not_matter.Goals as goal
-
-pub returns : goal.returns
-returns c = record {
-  reading = same_folded;
-}

@@ -1,8 +1,0 @@
-use Rattle.mmtel_message.proofs.EntryLaws.{read_entries, read_few}
-use Rattle.mmtel_message.proofs.laws.histories_are_readable.Goals as goal
-
-pub returns : goal.returns
-returns c = record {
-  entries = read_entries;
-  few = read_few;
-}

@@ -1,7 +1,0 @@
-use Rattle.mmtel_message.proofs.RoundTrip.{reads_lines}
-use Rattle.mmtel_message.proofs.laws.lines_decide.Goals as goal
-
-pub returns : goal.returns
-returns c = record {
-  lines = reads_lines;
-}

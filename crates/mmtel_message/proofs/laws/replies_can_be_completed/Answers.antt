@@ -1,9 +1,0 @@
-use Rattle.mmtel_message.proofs.ResponseLaws.{completed_again, bare_is, late}
-use Rattle.mmtel_message.proofs.laws.replies_can_be_completed.Goals as goal
-
-pub returns : goal.returns
-returns c = record {
-  completed = completed_again;
-  bare = bare_is;
-  late = late;
-}

@@ -1,7 +1,0 @@
-use Rattle.mmtel_message.proofs.SpellingLaws.{same_line}
-use Rattle.mmtel_message.proofs.laws.spelling_does_not_matter.Goals as goal
-
-pub returns : goal.returns
-returns c = record {
-  line = same_line;
-}

@@ -1,6 +1,0 @@
-use Rattle.std.proofs.Common.{◌≡◌, drop}
-use Rattle.mmtel_outside.specs.Shelf.{text_at}
-use Rattle.mmtel_outside.proofs.memory_files.find.Given as goal
-
-abbrev pub invariant-loop-given : goal.invariant-loop-given
-invariant-loop-given l = text_at (drop l.given-index l.files) l.name ≡ text_at l.files l.name

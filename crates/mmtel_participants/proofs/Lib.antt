@@ -1,0 +1,2 @@
+mod ReferResults
+mod EmptyAppends

@@ -1,8 +1,0 @@
-use Rattle.mmtel_parties.proofs.Believed.{parties-masked, parties-public}
-use Rattle.mmtel_parties.proofs.laws.parties_rest_on_the_mask.Goals as goal
-
-pub returns : goal.returns
-returns c = record {
-  public = parties-public;
-  masked = λ restricts accounts m n e. parties-masked restricts accounts m n (c.equal_masks_decide_alike.ensures.alike restricts accounts accounts m n e);
-}

@@ -1,6 +1,0 @@
--- What public clauses cite, the theorems among them.
-pub mod Laws
-pub mod Parties
-pub mod Routing
--- What private functions cite.
-pub mod Named

@@ -1,8 +1,0 @@
-use Rattle.std.proofs.Common.{ap, ◌∙◌}
-use Rattle.std.specs.Prelude.{is_some}
-use Rattle.mmtel_rules.specs.Circumstances.{known}
-use Rattle.mmtel_precedence.proofs.Barrings.{is_some-outgoing}
-use Rattle.mmtel_precedence.proofs.deciding.bars_outgoing.Goals as goal
-
-pub returns : goal.returns
-returns c = c.is_some.ensures ∙ ap is_some c.outgoing.ensures.exact ∙ is_some-outgoing c.barred_where_no_rule_allows.ensures.barred (known c.args.f.now) c.args.s.now

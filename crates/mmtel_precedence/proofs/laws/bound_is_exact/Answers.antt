@@ -1,5 +1,0 @@
-use Rattle.mmtel_precedence.proofs.Bounded.{is_bound_exact}
-use Rattle.mmtel_precedence.proofs.laws.bound_is_exact.Goals as goal
-
-pub returns : goal.returns
-returns c = record { law = is_bound_exact }

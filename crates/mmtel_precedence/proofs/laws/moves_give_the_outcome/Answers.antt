@@ -1,5 +1,0 @@
-use Rattle.mmtel_precedence.proofs.Settling.{moves_give_outcome}
-use Rattle.mmtel_precedence.proofs.laws.moves_give_the_outcome.Goals as goal
-
-pub returns : goal.returns
-returns c = record { law = moves_give_outcome }

@@ -1,8 +1,0 @@
-use Rattle.mmtel_reliable.proofs.AnswerLaws.{all_awaited, numbers_rise}
-use Rattle.mmtel_reliable.proofs.laws.answers_are_acknowledged_in_order.Goals as goal
-
-pub returns-clause-once : goal.returns-clause-once
-returns-clause-once c = numbers_rise
-
-pub returns-clause-awaited : goal.returns-clause-awaited
-returns-clause-awaited c = all_awaited

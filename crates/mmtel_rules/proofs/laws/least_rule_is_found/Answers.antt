@@ -1,9 +1,0 @@
-use Rattle.mmtel_rules.specs.Rules.{rule_holds}
-use Rattle.mmtel_rules.proofs.Places.{is_some-position, position_is_least}
-use Rattle.mmtel_rules.proofs.laws.least_rule_is_found.Goals as goal
-
-pub returns : goal.returns
-returns c = record {
-  least = λ k when rules. position_is_least (rule_holds k when) rules;
-  some = λ k when rules. is_some-position (rule_holds k when) rules;
-}

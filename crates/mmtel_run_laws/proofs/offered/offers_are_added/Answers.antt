@@ -1,5 +1,0 @@
-use Rattle.mmtel_run_laws.proofs.Adding.{deadlines_add, events_add, runs_add}
-use Rattle.mmtel_run_laws.proofs.offered.offers_are_added.Goals as goal
-
-pub returns : goal.returns
-returns c = record { events = events_add; deadlines = deadlines_add; runs = runs_add }

@@ -1,5 +1,0 @@
-use Rattle.mmtel_run_laws.proofs.Sources.{configurations_are_read}
-use Rattle.mmtel_run_laws.proofs.secrecy.configurations_are_read.Goals as goal
-
-pub returns : goal.returns
-returns c = record { read = configurations_are_read }

@@ -1,0 +1,7 @@
+use Rattle.mmtel_run_theorems.proofs.Lookups.{nobody_is_renamed, renamed_are_looked_up_equally}
+use Rattle.mmtel_run_theorems.proofs.noninterference.renamed_are_looked_up_equally.Goals as goal
+
+pub returns : goal.returns
+returns c =
+    let passed = c.lookups_skip_other_accounts.ensures in
+    record { looks = renamed_are_looked_up_equally passed.agree; nobody = nobody_is_renamed passed.none }

@@ -1,0 +1,12 @@
+use Rattle.mmtel_run_theorems.proofs.RunTheorems.{sends_no_injection}
+use Rattle.mmtel_run_theorems.proofs.theorems.runs_send_no_injection.Goals as goal
+
+pub returns : goal.returns
+returns c =
+    let lines = c.no_injection_keeps_own_fields.ensures in
+    let sends = c.tables_send_no_injection.ensures in
+    record {
+      law =
+          sends_no_injection sends.deeds sends.legs c.conferences_send_no_injection.ensures.clean c.records_are_those_kept.ensures.reported c.reading_leaves_no_injection.ensures.law
+          (λ m clean. record { parted = lines.split m clean; clean = lines.clean m clean });
+    }

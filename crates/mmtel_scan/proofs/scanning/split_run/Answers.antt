@@ -1,7 +1,0 @@
-use Rattle.mmtel_scan.specs.Scanning.{run}
-use Rattle.mmtel_scan.proofs.Runs.{run_each}
-use Rattle.mmtel_scan.proofs.scanning.split_run.Goals as goal
-
-pub returns-clause-each : goal.returns-clause-each
-unfolding run
-returns-clause-each c = rw c.split_at.ensures.front (rw c.run_len.ensures.place (run_each c.args.class c.args.bytes.now))

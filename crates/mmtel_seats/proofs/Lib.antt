@@ -1,2 +1,0 @@
-mod Bids
-mod Dropped

@@ -1,0 +1,24 @@
+use Rattle.std.proofs.Common.{List, ℕ, ap, ◌∙◌}
+use Rattle.std.proofs.lemmas.Result.{on_ok_weaker}
+use Rattle.mmtel_directory.specs.declared.directories.Directory.{Directory}
+use Rattle.mmtel_message.specs.Message.{Message}
+use Rattle.mmtel_message.specs.declared.messages.Start.{Start}
+use Rattle.mmtel_run_definitions.specs.OwnResponses.{StatusResponse, response_to}
+use Rattle.mmtel_run_definitions.specs.Subscriptions.{grant_response}
+use Rattle.mmtel_run_definitions.specs.Transitions.{with_emit}
+use Rattle.mmtel_transaction.specs.declared.words.Emit.TheVariants as emit
+use Rattle.mmtel_server.proofs.Owners.{follows_so}
+use Rattle.mmtel_server.proofs.servers.Server.accept_subscribe.Goals as goal
+
+pub returns-clause-done : goal.returns-clause-done
+returns-clause-done g c = on_ok_weaker c.send_response-done.result (λ follows.
+    let s = c.args.self.now in
+    let said = c.args.request.now in
+    follows_so c.in_ok-response.response (λ d w. response_to d.sip c.args.tag.now said (grant_response c.args.seconds)) (λ (m : Message Start) d token. with_emit c.args.context.now.at (emit.Reply c.args.key m)) s c.args.out.now
+    (λ d token w have.
+    c.in_ok-response.ensures.message
+    ∙ (ap (λ (a : StatusResponse). response_to s.directory.sip c.bytes.result.now said a) c.in_ok-status_response.ensures.answer
+    ∙ (ap (λ (t : List ℕ). response_to s.directory.sip t said (grant_response c.args.seconds)) c.bytes.ensures
+    ∙ ap (λ (x : Directory). response_to x.sip c.args.tag.now said (grant_response c.args.seconds)) have.same_directory)))
+    c.send_response-done.new.self c.send_response-done.new.out follows)
+    c.send_response-done.ensures.done

@@ -1,5 +1,0 @@
-pub mod Arming
-mod Leading
-mod Queueing
-mod Ranking
-mod Sooner

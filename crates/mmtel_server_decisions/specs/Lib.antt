@@ -1,6 +1,0 @@
--- What public clauses cite: timers of calls, participants and subscriptions, the owner of a request, and the CDRs that wait.
-pub mod Arming
-pub mod Belonging
-pub mod Handed
--- What private functions alone cite: the timers as they are stored.
-pub mod Queue

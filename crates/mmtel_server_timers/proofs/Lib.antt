@@ -1,0 +1,5 @@
+pub mod PendingTimers
+mod Leading
+mod Queueing
+mod Ranking
+mod Sooner

@@ -1,5 +1,0 @@
-use Rattle.std.proofs.Common.{refl}
-use Rattle.mmtel_sheet_reader.proofs.rules.no_keys.Goals as goal
-
-pub returns : goal.returns
-returns c = rw c.new.ensures refl

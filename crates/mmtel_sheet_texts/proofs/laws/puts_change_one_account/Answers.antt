@@ -1,8 +1,0 @@
-use Rattle.mmtel_sheet_texts.proofs.Alone.{its, others}
-use Rattle.mmtel_sheet_texts.proofs.laws.puts_change_one_account.Goals as goal
-
-pub returns-clause-its : goal.returns-clause-its
-returns-clause-its c = its
-
-pub returns-clause-others : goal.returns-clause-others
-returns-clause-others c = others

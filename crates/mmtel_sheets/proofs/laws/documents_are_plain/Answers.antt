@@ -1,5 +1,0 @@
-use Rattle.mmtel_sheets.proofs.Plain.{document_plain}
-use Rattle.mmtel_sheets.proofs.laws.documents_are_plain.Goals as goal
-
-pub returns : goal.returns
-returns c = record { depth = λ s. (document_plain s).shallow; dates = λ s. (document_plain s).dateless }

@@ -1,5 +1,0 @@
-use Rattle.mmtel_sheets.proofs.FirstVersion.{document_same, text_same}
-use Rattle.mmtel_sheets.proofs.laws.first_version_reads_as_before.Goals as goal
-
-pub returns : goal.returns
-returns c = record { document = document_same; text = text_same }

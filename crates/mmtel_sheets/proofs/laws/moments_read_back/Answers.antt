@@ -1,5 +1,0 @@
-use Rattle.mmtel_sheets.proofs.ReadTimes.{moment_back}
-use Rattle.mmtel_sheets.proofs.laws.moments_read_back.Goals as goal
-
-pub returns : goal.returns
-returns c = moment_back

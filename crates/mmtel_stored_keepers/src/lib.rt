@@ -1,0 +1,7 @@
+//! A keeper over a journal or a database, by the path: the boundary, of whose contents no clause says anything.
+#![tactic(auto)]
+
+mod backends;
+mod keepers;
+
+pub use keepers::StoreKeeper;

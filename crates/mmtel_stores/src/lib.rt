@@ -1,7 +1,0 @@
-//! A keeper over a journal or a database, by the path: the boundary, of whose contents no clause says anything.
-#![tactic(auto)]
-
-mod keepers;
-mod places;
-
-pub use keepers::StoreKeeper;

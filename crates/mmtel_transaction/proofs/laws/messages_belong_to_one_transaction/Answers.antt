@@ -1,6 +1,0 @@
-use Rattle.mmtel_transaction.proofs.AcksOwn.{acks_belong}
-use Rattle.mmtel_transaction.proofs.Belongs.{hears_by_owner, owners_are_live}
-use Rattle.mmtel_transaction.proofs.laws.messages_belong_to_one_transaction.Goals as goal
-
-pub returns : goal.returns
-returns c = record { says = hears_by_owner; live = owners_are_live; acks = acks_belong }

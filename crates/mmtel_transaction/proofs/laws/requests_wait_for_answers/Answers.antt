@@ -1,5 +1,0 @@
-use Rattle.mmtel_transaction.proofs.Among.{ringing, unanswered}
-use Rattle.mmtel_transaction.proofs.laws.requests_wait_for_answers.Goals as goal
-
-pub returns : goal.returns
-returns c = record { unanswered = unanswered; ringing = ringing }

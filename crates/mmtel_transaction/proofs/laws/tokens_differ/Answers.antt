@@ -1,5 +1,0 @@
-use Rattle.mmtel_transaction.proofs.Drawn.{differ}
-use Rattle.mmtel_transaction.proofs.laws.tokens_differ.Goals as goal
-
-pub returns : goal.returns
-returns c = record { differ = differ }

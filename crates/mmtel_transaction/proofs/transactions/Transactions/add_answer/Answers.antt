@@ -1,9 +1,0 @@
-use Rattle.std.proofs.Common.{◌≡◌, map, ap, subst, sym}
-use Rattle.mmtel_transaction.specs.Changes.{hit, with_answers}
-use Rattle.mmtel_transaction.proofs.Changing.{hit_none}
-use Rattle.mmtel_transaction.proofs.transactions.Transactions.add_answer.Goals as goal
-
-pub returns-in-None-clause-ok : goal.returns-in-None-clause-ok
-returns-in-None-clause-ok g c =
-    let old = c.args.self.now in
-    subst (λ answer. old ≡ record old { entries = map (hit c.args.key (with_answers answer)) old.entries }) (sym c.in-None.is) (ap (λ es. record old { entries = es }) (hit_none c.args.key old.entries))

@@ -1,0 +1,10 @@
+pub mod WorkedHeads
+pub mod Stages
+pub mod CallPlain
+pub mod Sequences
+pub mod Successive
+pub mod HeadExamples
+pub mod PeerExamples
+pub mod MatchingExamples
+pub mod RetransmissionExamples
+pub mod FewSteps

@@ -1,7 +1,0 @@
-use Rattle.std.proofs.Common.{◌≡◌, drop}
-use Rattle.std.specs.Str.{str_to_ascii_lowercase}
-use Rattle.mmtel_trust.specs.Hashes.{hashed}
-use Rattle.mmtel_trust.proofs.hashes.hashed_lower.Given as goal
-
-abbrev pub invariant-loop-byte : goal.invariant-loop-byte
-invariant-loop-byte l = hashed l.hash (str_to_ascii_lowercase l.bytes) ≡ hashed l.so_far (str_to_ascii_lowercase (drop l.byte-index l.bytes))

@@ -1,6 +1,0 @@
-use Rattle.mmtel_trust.proofs.HeardLaws.{hide_again}
-use Rattle.mmtel_trust.proofs.Masked.{masked_again, lines_again}
-use Rattle.mmtel_trust.proofs.laws.masking_is_once.Goals as goal
-
-pub returns : goal.returns
-returns c = record { message = masked_again; lines = lines_again; heard = hide_again }

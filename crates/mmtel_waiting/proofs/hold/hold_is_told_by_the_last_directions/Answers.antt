@@ -1,5 +1,0 @@
-use Rattle.mmtel_waiting.proofs.HoldLaws.{holds_of-state_after, holds-state_after}
-use Rattle.mmtel_waiting.proofs.hold.hold_is_told_by_the_last_directions.Goals as goal
-
-pub returns : goal.returns
-returns c = record { law = record { sides = holds_of-state_after; count = holds-state_after } }

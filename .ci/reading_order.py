@@ -124,6 +124,6 @@ def wrong_reading(top):
     """Files that are reached and are in no portion, and files of a portion that nothing reaches."""
     there, order = reached(top), listed(top)
     for module in sorted(set(there) - order):
-        yield f"reading order: {module} is in no sitting, and `run` reaches its `{there[module]}`"
+        yield f"reading order: {module} is in no portion, and `run` reaches its `{there[module]}`"
     for module in sorted(order - set(there) - set(READ_ANYWAY)):
-        yield f"reading order: {module} is in a sitting, and `run` reaches none of its words"
+        yield f"reading order: {module} is in a portion, and `run` reaches none of its words"

@@ -3,7 +3,7 @@ import pathlib
 import re
 
 TOP = pathlib.Path(__file__).resolve().parent.parent
-TESTS = re.compile(r"mmtel_(told|rows|transaction_rows|units(_\w+)?)$")
+TESTS = re.compile(r"mmtel_(test_tables|rows|transaction_examples|units(_\w+)?)$")
 
 HIDDEN = re.compile(r"""//[^\n]*|br?"(?:[^"\\]|\\[\s\S])*"|r#"[\s\S]*?"#|"(?:[^"\\]|\\[\s\S])*"|b?'(?:[^'\\\n]|\\[^\n]{1,4})'|^[ ]*(?:pub )?ghost [^\n]*$""", re.M)
 BLOCK = re.compile(r"^(?:pub )?(?:unsafe )?(impl|trait)\b(?:<.*?>(?= ))? (.*?) ?(?:where\b.*)?\{", re.M | re.S)
@@ -115,7 +115,7 @@ def owner_of(kind, head):
     return name, name if kind == "trait" else None
 
 
-def stands_on(top):
+def dependencies(top):
     """All crates on which each crate depends, itself included."""
     below = {line.split(":")[0]: line.split(":")[1].split() for line in (top / "crates.txt").read_text().splitlines() if ":" in line and not line.startswith("#")}
     whole = {}
@@ -132,4 +132,4 @@ def stands_on(top):
 
 def files_of(top):
     """All sources of the crates of crates.txt."""
-    return [File(crate, path) for crate in sorted(stands_on(top)) for path in sorted((top / "crates" / crate / "src").glob("**/*.rt"))]
+    return [File(crate, path) for crate in sorted(dependencies(top)) for path in sorted((top / "crates" / crate / "src").glob("**/*.rt"))]

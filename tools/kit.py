@@ -1,11 +1,11 @@
-"""What the tools of this folder share: which crates stand on which, and the words of a call of the prover over libraries that are built."""
+"""What the tools of this folder share: the dependencies of crates, and the arguments of a call of the prover over libraries that are built."""
 import pathlib
 
 KIT = "/opt/rattle"
 
 
-def stands_on(top):
-    """The crates that each crate of crates.txt stands on, in its order, and the kit's among them."""
+def dependencies(top):
+    """The direct dependencies of each crate of crates.txt, in its order, those of the kit included."""
     found = {}
     for line in (pathlib.Path(top) / "crates.txt").read_text().splitlines():
         line = line.split("#")[0].strip()
@@ -15,22 +15,22 @@ def stands_on(top):
     return found
 
 
-def below(name, stands):
-    """All crates of the repository on which this one stands, also through others."""
+def below(name, direct):
+    """All crates of the repository on which this one depends, directly or indirectly."""
     found = set()
-    for one in stands.get(name, ()):
-        if one in stands and one not in found:
-            found |= {one} | below(one, stands)
+    for one in direct.get(name, ()):
+        if one in direct and one not in found:
+            found |= {one} | below(one, direct)
     return found
 
 
-def words(top, name, verb, links):
-    """The words that have the prover check or build the crate in the current folder over the libraries in the `out` folders of the checkout, with one job."""
-    stands = stands_on(top)
-    said = [f"{KIT}/bin/rattle", verb, "--crate-name", name, "src/lib.rt", "--extern", f"std={KIT}/rlibs/std.rlib"]
-    for one in stands[name]:
-        place = f"{top}/crates/{one}/out/rlib" if one in stands else f"{KIT}/rlibs"
-        said += ["--extern", f"{one}={place}/{one}.rlib"]
-    for place in [f"{KIT}/rlibs", *(f"{top}/crates/{one}/out/rlib" for one in sorted(below(name, stands)))]:
-        said += ["-L", f"dependency={place}"]
-    return said + ["--antt-project", f"{KIT}/rattle/logic/antt-project.json", "--logic-built", f"{KIT}/logic_built", "--links", f"{name}={links}", "--jobs", "1"]
+def arguments(top, name, verb, links):
+    """The arguments by which the prover checks or builds the crate in the current folder over the libraries in the `out` folders of the checkout, with one job."""
+    direct = dependencies(top)
+    given = [f"{KIT}/bin/rattle", verb, "--crate-name", name, "src/lib.rt", "--extern", f"std={KIT}/rlibs/std.rlib"]
+    for one in direct[name]:
+        place = f"{top}/crates/{one}/out/rlib" if one in direct else f"{KIT}/rlibs"
+        given += ["--extern", f"{one}={place}/{one}.rlib"]
+    for place in [f"{KIT}/rlibs", *(f"{top}/crates/{one}/out/rlib" for one in sorted(below(name, direct)))]:
+        given += ["-L", f"dependency={place}"]
+    return given + ["--antt-project", f"{KIT}/rattle/logic/antt-project.json", "--logic-built", f"{KIT}/logic_built", "--links", f"{name}={links}", "--jobs", "1"]

@@ -47,7 +47,7 @@ position_boxes p bs =
     ap (λ n. cond (nat_lt n (length bs)) (Some n) None) (placed_boxes p bs)
     ∙ ap (λ m. cond (nat_lt (position_or_len p (box_values bs)) m) (Some (position_or_len p (box_values bs))) None) (sym (length-map bs (λ b. b.value)))
 
--- ---- numbers that ascend: what holds for all owners of marks is in `mmtel_desk`
+-- ---- numbers that ascend: what holds for all owners of marks is in `mmtel_output`
 
 raised : (low high higher : ℕ) (es : List Entry) → high ≤ higher → Ascend number_of low es high → Ascend number_of low es higher
 raised low high higher [] e a = omega arith

@@ -1,4 +1,4 @@
--- The index of the calls by their marks: all marks of a call are inserted, or removed, kind after kind. What holds for all owners of marks is in `mmtel_desk`.
+-- The index of the calls by their marks: all marks of a call are inserted, or removed, kind after kind. What holds for all owners of marks is in `mmtel_output`.
 use Rattle.std.proofs.Common.{ℕ, Bool}
 use Rattle.std.specs.Prelude.{flat_map}
 use Rattle.mmtel_call.specs.Table.{current_invite}

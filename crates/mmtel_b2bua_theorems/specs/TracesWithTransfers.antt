@@ -1,5 +1,5 @@
 -- The trace of one call of a table: how it opened, and what happened to it after that.
--- It is a trace as in `mmtel_call_laws` in which a leg of the call may also be detached, put back, or the call ended without it (RFC 4579 §5.6, RFC 3891 §3).
+-- It is a trace as in `mmtel_call_theorems` in which a leg of the call may also be detached, put back, or the call ended without it (RFC 4579 §5.6, RFC 3891 §3).
 use Rattle.std.specs.Prelude.{ℕ, if◌then◌else◌, List, [], ◌∷◌, ◌++◌}
 use Rattle.mmtel_charging.specs.declared.rows.Row.{Row}
 use Rattle.mmtel_output.specs.declared.outputs.StepOutput.{StepOutput}

@@ -143,8 +143,8 @@ impl Opening {
         copied_by(alloc, config, diversions, &facing, peer, message)
     }
 
-    /// The header fields of the INVITE that opened the call which are copied to the target of an attempt behind a peer: as those of `shown_to`, except that provisional responses
-    /// to this INVITE may be reliable (RFC 3262 §3), and those to an INVITE within the call may not.
+    /// The header fields of the INVITE that opened the call which are copied to the target of an attempt behind a peer: as those of `copied_lines`, except that provisional
+    /// responses to this INVITE may be reliable (RFC 3262 §3), and those to an INVITE within the call may not.
     ///
     /// # Errors
     ///

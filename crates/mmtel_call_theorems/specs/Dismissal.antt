@@ -73,8 +73,8 @@ other_dialogue (Detached detached) side = None
 other_dialogue (Over cause) side = None
 
 -- the request is the one that is received, and is sent in the dialog of the other side
-pub record IsRelayedAcross (received : Signal) (c : Call) (flight : RelayedTransaction) : Type 0 where
-  pub received : received ≡ signal.Request flight.side flight.exchange.key flight.exchange.request
+pub record IsRelayedAcross (input : Signal) (c : Call) (flight : RelayedTransaction) : Type 0 where
+  pub received : input ≡ signal.Request flight.side flight.exchange.key flight.exchange.request
   pub dialogue : Dialogue
   pub other : other_dialogue c.phase flight.side ≡ Some dialogue
   pub sent : flight.exchange.invite.dialogue ≡ after_request dialogue (method_of flight.kind)

@@ -80,7 +80,7 @@ record WholeOf (d : Directory) (events : List Event) (happened : List EventRecor
   asked : (old new : KeeperState) → EachKeeperResult d.names happened old new → EachKeeperResult d.names whole old new
 
 whole_none : (d : Directory) → WholeOf d [] []
-whole_none d = record { whole = []; heard = refl; read = refl; uploads = refl; counted = λ faults. λ count. λ e. e; asked = λ old. λ new. λ e. e }
+whole_none d = record { whole = []; received = refl; read = refl; uploads = refl; counted = λ faults. λ count. λ e. e; asked = λ old. λ new. λ e. e }
 
 -- a notice of this moment and parsed event
 abbrev timed_event_cut : (at : ℕ) → ParsedEvent → (took : Bool) → TimedEvent
@@ -98,7 +98,7 @@ module _ (all : ReadOutHasAllBytes) (d : Directory) where
       let call : call_of d.names one.event ≡ call_of d.names e = ap (call_of d.names) is ∙ call_cut all d n e read in
       record {
         whole = this ∷ rest.whole;
-        heard = ap (λ (l : List Event). e ∷ l) rest.heard;
+        received = ap (λ (l : List Event). e ∷ l) rest.received;
         read =
             ap (λ (m : ℕ). timed_event_cut m (parsed_record d this) one.accepted ∷ timed_events d rest.whole) moment
             ∙ (ap (λ (x : ParsedEvent). timed_event_cut (moment_of one.event) x one.accepted ∷ timed_events d rest.whole) said ∙ ap (λ (l : List TimedEvent). timed_event_of d one ∷ l) rest.read);
@@ -352,7 +352,7 @@ module _ (unfailed : UnfailedAreReadOut) (all : ReadOutHasAllBytes) (keeps : Off
       let count_whole : CountsEachFault w.whole old.keeper.faults new.keeper.faults = w.counted old.keeper.faults new.keeper.faults driven.effect.keeper.counts in
       record {
         happened = w.whole;
-        received = w.heard;
+        received = w.received;
         counts = count_whole;
         exact = exact;
         noninterference = λ short. keeps d token loaded w.whole now (exact short);

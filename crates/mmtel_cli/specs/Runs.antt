@@ -181,7 +181,7 @@ pub record FilesRead (told : Option FileStore) (asked : ReplayArgs) : Type 0 whe
   pub exposed_config : IfSome told (λ shelf. config ≡ next_read shelf asked.config)
   pub exposed_script : IfSome told (λ shelf. script ≡ next_read (with_next_call shelf) asked.script)
 
--- the arguments are a `replay`, and it ended as the contents of the files and of the keeper determine; or memory ran out, after these calls of the keeper (`Stopped`)
+-- the arguments are a `replay`, and it ended as the contents of the files and of the keeper determine; or memory ran out, after these calls of the keeper (`Aborts`)
 pub record ReplayRun (told : Option FileStore) (old new : KeeperState) (words : List (List ℕ)) (written : WriteEffect) : Type 0 where
   pub args : ReplayArgs
   pub spelled : IsOnly (Replay args) words

@@ -57,7 +57,7 @@ pub fn own_response_with_contact(
     )
 }
 
-/// The response of the server's own, with its own Contact where one is due; the other parameters are as in `own_answer_at`.
+/// The response of the server's own, with its own Contact where one is due; the other parameters are as in `own_response_with_contact`.
 ///
 /// # Errors
 ///

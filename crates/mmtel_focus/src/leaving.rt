@@ -20,7 +20,7 @@ impl Conference {
         ensures effects { OnOk result (effects.new
             ≡ (after_close step.now.config step.now.at self.old.participants (in_step self.old effects.old)).effects) }
     {
-        'seats: while !self.participants.is_empty() {
+        'participants: while !self.participants.is_empty() {
             let seat = self.participants.remove(0);
             seat.dismiss(step, effects)?;
         }

@@ -80,10 +80,10 @@ abbrev pub next_seat_of : (room : ℕ) → List Conference → ℕ
 next_seat_of room live = next_number (last_seat_of (conference_of room live))
 
 -- a participant of this conference, of this number, with this account
-pub record IsParticipantOf (room number : ℕ) (account : Option Account) (place : ChargedParticipant) : Type 0 where
+pub record IsParticipantOf (room number : ℕ) (owner : Option Account) (place : ChargedParticipant) : Type 0 where
   pub of_room : place.room.0 ≡ room
   pub numbered : place.seat ≡ number
-  pub account : place.account ≡ account
+  pub account : place.account ≡ owner
 
 -- a REFER invites a party, whose account is that of the URI of its Refer-To (RFC 3515 §2.1)
 abbrev pub Invites : ConferenceConfigView → RoomSignal → (before : Table) → ChargedParticipant → Type 0

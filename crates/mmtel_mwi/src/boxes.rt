@@ -46,7 +46,7 @@ impl Model for Boxes {
     ghost use Rattle.mmtel_types.specs.declared.addrs.Addr.{Addr};
     ghost use Rattle.mmtel_mwi.specs.Boxes.{BoxesView, Mailboxes};
     ghost use Rattle.mmtel_mwi.specs.contracts.mailboxes.Mailboxes as boxes;
-    ghost use Rattle.mmtel_mwi.specs.contracts.subscriptions.Asked as notice;
+    ghost use Rattle.mmtel_mwi.specs.contracts.subscriptions.PendingNotify as pending_notify;
     ghost use Rattle.mmtel_mwi.specs.contracts.subscriptions.Subscription as subscription;
     ghost use Rattle.mmtel_mwi.specs.declared.subscriptions.PendingNotify.{PendingNotify};
     ghost use Rattle.mmtel_mwi.specs.declared.subscriptions.Subscription.{Subscription};
@@ -54,7 +54,7 @@ impl Model for Boxes {
     ghost Value = { BoxesView };
 
     ghost coded = { code_by (Addr × (Mailboxes × (ℕ × (List Subscription × List PendingNotify))))
-        (coded× addr.the_row.coded (coded× boxes.the_row.coded (coded× coded_ℕ (coded× (coded_list subscription.the_row.coded) (coded_list notify_request.the_row.coded)))))
+        (coded× addr.the_row.coded (coded× boxes.the_row.coded (coded× coded_ℕ (coded× (coded_list subscription.the_row.coded) (coded_list pending_notify.the_row.coded)))))
         (λ b. (b.sip, (b.table.mailboxes, (b.table.made, (b.table.live, b.table.pending)))))
         (λ p. record { sip = p.0; table = record { mailboxes = p.1.0; made = p.1.1.0; live = p.1.1.1.0; pending = p.1.1.1.1 } }) (λ _. refl) };
 

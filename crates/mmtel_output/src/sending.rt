@@ -167,7 +167,7 @@ impl StepOutput {
     ///
     /// # Errors
     ///
-    /// As in `ask_with`.
+    /// As in `send_own_request`.
     pub fn send_bare_request<P>(
         &mut self,
         alloc: Global,
@@ -189,7 +189,7 @@ impl StepOutput {
     ///
     /// # Errors
     ///
-    /// As in `ask_with`.
+    /// As in `send_own_request`.
     pub fn send_bye<P>(
         &mut self,
         alloc: Global,
@@ -208,7 +208,7 @@ impl StepOutput {
     ///
     /// # Errors
     ///
-    /// As in `ask_with`.
+    /// As in `send_own_request`.
     pub fn relay_request<P, S: InDialog>(
         &mut self,
         alloc: Global,
@@ -304,7 +304,7 @@ impl StepOutput {
     ///
     /// # Errors
     ///
-    /// As in `ask_with`.
+    /// As in `send_own_request`.
     pub fn send_bye_in(
         &mut self,
         alloc: Global,

@@ -177,7 +177,7 @@ fn called_account<'a>(call_facts: &CallFacts, sheet: &'a Sheet) -> ServedAccount
 ///
 /// On arrival, in this order: anonymous communication rejection; incoming barring; the diversion rules without an event and for not-registered; a target that is not registered;
 /// where the account has as many calls as it may have, its busy rules and then network determined user busy. After an attempt the rules for its ending come first, then its cause.
-/// It decides what `turn_at` and `turn_on` decide, and allocates nothing.
+/// It decides what `next_step_at` and `step_after_attempt` decide, and allocates nothing.
 pub fn verdict<'a>(call_facts: &CallFacts, sheet: &'a Sheet, ending: Ending) -> Verdict<'a>
     ensures exact { let call = call_facts.entry.now in verdict_view result ≡ verdict_of (facts_view call.facts) (called_account call sheet.now) ending }
 {

@@ -15,18 +15,18 @@ pub fn moves_give_the_outcome()
     ensures law { MovesGiveTheOutcome }
 {}
 
-/// The next step at a target is the move there: it is decided by `turn_at`, and by `go_on` for a diversion that is due, alone.
+/// The next step at a target is the move there: it is decided by `next_step_at`, and by `go_on` for a diversion that is due, alone.
 pub fn next_steps_are_moves()
     ensures law { NextStepsAreMoves }
 {}
 
-/// The next step after an attempt is the move on its end: it is decided by `turn_on`, and by `go_on` for a diversion that is due, alone.
+/// The next step after an attempt is the move on its end: it is decided by `step_after_attempt`, and by `go_on` for a diversion that is due, alone.
 pub fn endings_are_moves()
     ensures law { EndingsAreMoves }
 {}
 
 /// However the attempts of a call end, and whatever the states at the targets that it reaches:
-/// a call that takes its next steps one by one, by `turn_at`, `turn_on` and `go_on` over its state, has exactly its Outcome.
+/// a call that takes its next steps one by one, by `next_step_at`, `step_after_attempt` and `go_on` over its state, has exactly its Outcome.
 pub fn next_steps_give_the_outcome()
     ensures law { NextStepsGiveTheOutcome }
 {}

@@ -95,7 +95,7 @@ impl Records {
         Ok(shared)
     }
 
-    /// Puts a text in place of the account's previous one, and its sheet in force. It allocates nothing: `make_room` reserved the space.
+    /// Puts a text in place of the account's previous one, and its sheet in force. It allocates nothing: `reserve` reserved the space.
     pub fn replace(&mut self, account: Account, text: Text, sheet: SharedSheet)
         requires room { IsTrue (may_put self.old account) }
         requires its { sheet ≡ stored_sheet text }

@@ -1,4 +1,4 @@
--- A message without its private places, by the values of Privacy alone (RFC 3323 §4.1, RFC 3325 §7). `mmtel_run_laws` defines by which places two runs are compared.
+-- A message without its private places, by the values of Privacy alone (RFC 3323 §4.1, RFC 3325 §7). `mmtel_run_theorems` defines by which places two runs are compared.
 use Rattle.std.specs.Prelude.{Bool, ◌||◌, [], None, if◌then◌else◌}
 use Rattle.mmtel_trust.specs.ParsedMessage.{ParsedMessage}
 use Rattle.mmtel_trust.specs.MaskedMessages as trust

@@ -135,7 +135,7 @@ module _ (d : Directory) (whole : List EventRecord) where
   -- the message that one more operation builds is sent
   with_action_good : (c : TransactionOp) (w : RunState) (offers : List Offer) → IsGoodAction c w.actions → Each (IsOwnOffer d whole (c ∷ w.actions) w.call_ops) offers → Good w → Good (with_offers offers (with_action c w))
   with_action_good c w offers good own g = record {
-    deeds = g.deeds;
+    ops = g.ops;
     acked = g.acked;
     rooms = g.rooms;
     boxes = g.boxes;
@@ -146,7 +146,7 @@ module _ (d : Directory) (whole : List EventRecord) where
   -- the same operations on calls and transactions, and the same outputs
   alike : (w v : RunState) → v.call_ops ≡ w.call_ops → v.conference_ops ≡ w.conference_ops → v.mailbox_ops ≡ w.mailbox_ops → v.actions ≡ w.actions → v.offers ≡ w.offers → Good w → Good v
   alike w v ops seats mailboxes acts offers g = record {
-    deeds = subst (Each OpAndLegHaveNoInjection) (sym ops) g.deeds;
+    ops = subst (Each OpAndLegHaveNoInjection) (sym ops) g.ops;
     acked = subst (λ (h : List TableOp). AreHeard d whole (acked_after (call_config d) h)) (sym ops) g.acked;
     rooms = subst (Each heads.OpHasNoInjection) (sym seats) g.rooms;
     boxes = subst (Each IsCleanBoxDeed) (sym mailboxes) g.boxes;
@@ -160,7 +160,7 @@ module _ (d : Directory) (whole : List EventRecord) where
   silent_good : (c : TransactionOp) (w v : RunState) → IsGoodAction c w.actions → v.call_ops ≡ w.call_ops → v.conference_ops ≡ w.conference_ops → v.mailbox_ops ≡ w.mailbox_ops → v.actions ≡ c ∷ w.actions → v.offers ≡ w.offers → Good w → Good v
   silent_good c w v good ops seats mailboxes acts offers g =
       alike (with_action c w) v ops seats mailboxes acts offers
-      (record { deeds = g.deeds; acked = g.acked; rooms = g.rooms; boxes = g.boxes; acts = (good, g.acts); offers = offers_still c w.actions w.call_ops w.offers g.offers })
+      (record { ops = g.ops; acked = g.acked; rooms = g.rooms; boxes = g.boxes; acts = (good, g.acts); offers = offers_still c w.actions w.call_ops w.offers g.offers })
 
   -- a text is sent to a peer by no transaction
   abbrev IsOwnText : List TransactionOp → List TableOp → List ℕ → Type 0
@@ -168,7 +168,7 @@ module _ (d : Directory) (whole : List EventRecord) where
 
   plain_good : (at : ℕ) (peer : Peer) (text : List ℕ) (w : RunState) → IsOwnText w.actions w.call_ops text → Good w → Good (with_offers (offer.To peer at text ∷ []) w)
   plain_good at peer text w t g = record {
-    deeds = g.deeds;
+    ops = g.ops;
     acked = g.acked;
     rooms = g.rooms;
     boxes = g.boxes;
@@ -198,8 +198,8 @@ module _ (d : Directory) (whole : List EventRecord) (own_law : (m : Message Star
       with_action_good d whole (DidAck key.0 message) w (to_peer at (message_text message) (peer_of key.0 (live w.actions))) c
       (peer_own (DidAck key.0 message) w.actions w.call_ops message at (peer_of key.0 (live w.actions)) refl) g
   emit_good at (emit.Settled key own) w c g = silent_good d whole (DidSettle key.0 own) w (with_emit at (emit.Settled key own) w) tt refl refl refl refl refl g
-  emit_good at (emit.Arm call what when) w c g = record { deeds = g.deeds; acked = g.acked; rooms = g.rooms; boxes = g.boxes; acts = g.acts; offers = g.offers }
-  emit_good at (emit.ArmSeat room seat what when) w c g = record { deeds = g.deeds; acked = g.acked; rooms = g.rooms; boxes = g.boxes; acts = g.acts; offers = g.offers }
+  emit_good at (emit.Arm call what when) w c g = record { ops = g.ops; acked = g.acked; rooms = g.rooms; boxes = g.boxes; acts = g.acts; offers = g.offers }
+  emit_good at (emit.ArmSeat room seat what when) w c g = record { ops = g.ops; acked = g.acked; rooms = g.rooms; boxes = g.boxes; acts = g.acts; offers = g.offers }
 
   same_deeds : (at : ℕ) (x : Emit) (w : RunState) → (with_emit at x w).call_ops ≡ w.call_ops
   same_deeds at (emit.Ask peer message) w = refl
@@ -225,7 +225,7 @@ module _ (d : Directory) (whole : List EventRecord) (own_law : (m : Message Star
     came_in : (earlier : List EventRecord) (event : EventRecord) (later : List EventRecord) → whole ≡ earlier ++ event ∷ later → IsMet (events.parsed_record d event)
     came_in earlier event later is = record {
       own = λ tag m replies clean. record { earlier = earlier; event = event; later = later; in_order = is; tag = tag; message = m; replies = replies; lines = own_law m clean; is = refl };
-      heard = λ said digest. record { earlier = earlier; event = event; later = later; in_order = is; is = digest };
+      received = λ said digest. record { earlier = earlier; event = event; later = later; in_order = is; is = digest };
     }
 
     -- ---- an operation on calls
@@ -239,7 +239,7 @@ module _ (d : Directory) (whole : List EventRecord) (own_law : (m : Message Star
     bringing_good at op output w out c acked g =
         with_emits_good at output.out (record w { call_ops = Drops (length output.rows) ∷ op ∷ w.call_ops; drawn = output.tokens.drawn; waiting = w.waiting ++ output.rows }) out
         (record {
-          deeds = (tt, (c, g.deeds));
+          ops = (tt, (c, g.ops));
           acked = each_append (λ (x : ReceivedAck). IsAckOfEvent d whole x.ack) (acks_of op w) (acked_after (call_config d) w.call_ops) acked g.acked;
           rooms = g.rooms;
           boxes = g.boxes;
@@ -255,16 +255,16 @@ module _ (d : Directory) (whole : List EventRecord) (own_law : (m : Message Star
     signalled_good at x w c acked g =
         let is : ReceivedHasNoInjection (received_now token at x w) = hearing_clean at x w c in
         bringing_good at (Receives (received_now token at x w)) (step_on_receive_after (call_config d) w.call_ops (received_now token at x w)).output w
-        (sends (call_config d) w.call_ops (Receives (received_now token at x w)) home (is, g.deeds)) is acked g
+        (sends (call_config d) w.call_ops (Receives (received_now token at x w)) home (is, g.ops)) is acked g
 
     finishing_good : (at : ℕ) (call : CallNo) (w : RunState) → Good d whole w → Good d whole (after_call_end d token at call w)
     finishing_good at call w g =
         bringing_good at (Finishes call.0 at (tokens_now token w)) (step_on_finish (call_config d) call.0 at (tokens_now token w) (calls_in d w)).output w
-        (sends (call_config d) w.call_ops (Finishes call.0 at (tokens_now token w)) home (clean_token, g.deeds)) clean_token tt g
+        (sends (call_config d) w.call_ops (Finishes call.0 at (tokens_now token w)) home (clean_token, g.ops)) clean_token tt g
 
     lending_good : (op : TableOp) (w : RunState) → OpAndLegHaveNoInjection op → AreHeard d whole (acks_of op w) → Good d whole w → Good d whole (with_call_op op w)
     lending_good op w c acked g = record {
-      deeds = (c, g.deeds);
+      ops = (c, g.ops);
       acked = each_append (λ (x : ReceivedAck). IsAckOfEvent d whole x.ack) (acks_of op w) (acked_after (call_config d) w.call_ops) acked g.acked;
       rooms = g.rooms;
       boxes = g.boxes;
@@ -277,7 +277,7 @@ module _ (d : Directory) (whole : List EventRecord) (own_law : (m : Message Star
     lodging_good : (at : ℕ) (op : rooms.TableOp) (output : StepOutput) (w : RunState) → Each (EmitHasNoInjection []) output.out → heads.OpHasNoInjection op → Good d whole w → Good d whole (with_conference_output at op output w)
     lodging_good at op output w out c g =
         with_emits_good at output.out (record w { conference_ops = rooms.Drops (length output.rows) ∷ op ∷ w.conference_ops; waiting = w.waiting ++ output.rows })
-        (emits_more (acked_after (call_config d) w.call_ops) output.out out) (record { deeds = g.deeds; acked = g.acked; rooms = (tt, (c, g.rooms)); boxes = g.boxes; acts = g.acts; offers = g.offers })
+        (emits_more (acked_after (call_config d) w.call_ops) output.out out) (record { ops = g.ops; acked = g.acked; rooms = (tt, (c, g.rooms)); boxes = g.boxes; acts = g.acts; offers = g.offers })
 
     housed_good : (at : ℕ) (op : rooms.TableOp) (w : RunState) → heads.OpHasNoInjection op → Good d whole w → Good d whole (after_conference_op d at op w)
     housed_good at op w c g =
@@ -293,7 +293,7 @@ module _ (d : Directory) (whole : List EventRecord) (own_law : (m : Message Star
     -- ---- an operation on mailboxes, and a NOTIFY
 
     noted_good : (op : boxes.TableOp) (w : RunState) → IsCleanBoxDeed op → Good d whole w → Good d whole (with_mailbox_op op w)
-    noted_good op w c g = record { deeds = g.deeds; acked = g.acked; rooms = g.rooms; boxes = (c, g.boxes); acts = g.acts; offers = g.offers }
+    noted_good op w c g = record { ops = g.ops; acked = g.acked; rooms = g.rooms; boxes = (c, g.boxes); acts = g.acts; offers = g.offers }
 
     abbrev StaysGood : RunState → RunState → Type 0
     StaysGood w v = Good d whole w → Good d whole v
@@ -421,7 +421,7 @@ module _ (d : Directory) (whole : List EventRecord) (own_law : (m : Message Star
       with_good room seat call side false w g = noticed_good at room seat 481 w g
       with_good room seat call side true w g =
           taken_good room seat call (other_side side) (account_of_side call (other_side side) (calls_in d w).entries) (released_leg_of call.0 (other_side side) (calls_in d w).entries) w
-          (legs (call_config d) w.call_ops call.0 (other_side side) home g.deeds) g
+          (legs (call_config d) w.call_ops call.0 (other_side side) home g.ops) g
 
       by_good : (peer : Peer) (room : RoomNo) (seat : ℕ) (o : Option (CallNo × Side)) (w : RunState) → Good d whole w → Good d whole (after_replacing_named d token at peer room seat o w)
       by_good peer room seat None w g = noticed_good at room seat 481 w g
@@ -484,7 +484,7 @@ module _ (d : Directory) (whole : List EventRecord) (own_law : (m : Message Star
       acknowledging_good None w ack g = g
       acknowledging_good (Some (InCall call side)) w ack g =
           signalled_good at (signal.Ack call side s) w well.of
-          (acked_heard d whole (call_config d) side s (entry_of call.0 (calls_in d w).entries) (record { heard = met.heard s refl; is_ack = ack })) g
+          (acked_heard d whole (call_config d) side s (entry_of call.0 (calls_in d w).entries) (record { heard = met.received s refl; is_ack = ack })) g
       acknowledging_good (Some (InConference room seat)) w ack g = seated_good at (of_room.Ack room seat s) w well.of g
       acknowledging_good (Some (InSubscription sub)) w ack g = g
 
@@ -571,7 +571,7 @@ module _ (d : Directory) (whole : List EventRecord) (own_law : (m : Message Star
     met_good at (events.WebRequested request kept rows) w c e g =
         let replied : RunState = after_web_reply d at request kept rows w in
         steps.puts d token at StaysGood (steps_good at) (λ account counts v. noted_good (boxes.Puts account counts) v tt) (counts_put_in d.names request kept) replied (record {
-          deeds = g.deeds;
+          ops = g.ops;
           acked = g.acked;
           rooms = g.rooms;
           boxes = g.boxes;
@@ -650,5 +650,5 @@ module _ (d : Directory) (whole : List EventRecord) (own_law : (m : Message Star
     all_own loaded fuel =
         let good : Good d whole (after_all loaded fuel) =
         after_good fuel (timed_events d whole) (initial_state loaded) (notices_good [] whole refl)
-        (record { deeds = tt; acked = tt; rooms = tt; boxes = tt; acts = tt; offers = tt }) in
+        (record { ops = tt; acked = tt; rooms = tt; boxes = tt; acts = tt; offers = tt }) in
         record { built = own_acts (after_all loaded fuel).actions good.acts; offered = good.offers }

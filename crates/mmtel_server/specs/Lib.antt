@@ -5,7 +5,7 @@ pub mod States
 pub mod StepEffects
 pub mod DriveEffects
 pub mod Theorems
--- What private functions alone cite, but for `AllDrawOn` of `Follows`, which is one of the theorems about runs.
+-- What private functions alone cite, but for `NumbersNeverFall` of `Follows`, which is one of the theorems about runs.
 pub mod Follows
 pub mod DialogOwners
 pub mod Turns

@@ -16,7 +16,7 @@ pub record LinkState : Type 0 where
   pub delivery_faults : ℕ
 
 abbrev pub link_state : {N : Type 0} → Link N → N → LinkState
-link_state told link = record { input = told.ear link; output = told.given link; calls = told.calls link; arrival_faults = told.taking link; delivery_faults = told.giving link }
+link_state told link = record { input = told.input link; output = told.given link; calls = told.calls link; arrival_faults = told.arrival_faults link; delivery_faults = told.delivery_faults link }
 
 -- of a keeper: its contents and its calls, where it exposes them, and the count of its faults
 pub record KeeperState : Type 0 where
@@ -25,7 +25,7 @@ pub record KeeperState : Type 0 where
   pub faults : ℕ
 
 abbrev pub keeper_state : {K : Type 0} → Keeper K → K → KeeperState
-keeper_state told keeper = record { contents = told.held keeper; calls = told.calls keeper; faults = told.faults keeper }
+keeper_state told keeper = record { contents = told.contents keeper; calls = told.calls keeper; faults = told.faults keeper }
 
 -- a server, its outputs, and its keeper
 pub record StepState : Type 0 where

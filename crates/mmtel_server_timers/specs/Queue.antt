@@ -100,3 +100,8 @@ pub record TimersInvariant (next step : ℕ) (ranks : Ranks) (entries : List Num
   pub caps : ranks.caps ≡ of_rank 2 entries
   pub no_acks : ranks.no_acks ≡ of_rank 3 entries
   pub expiries : ranks.expiries ≡ of_rank 4 entries
+
+-- and the first one of all is stored
+pub record TimersKept (next step : ℕ) (ranks : Ranks) (entries : List NumberedTimer) (first : Option NumberedTimer) : Type 0 where
+  pub timers : TimersInvariant next step ranks entries
+  pub earliest : first ≡ earliest_timer ranks entries

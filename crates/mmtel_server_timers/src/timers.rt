@@ -20,6 +20,8 @@ pub struct Timers {
     alloc: Global,
     pending: BTreeMap<u64, PendingTimer>,
     ranks: Ranks,
+    /// The first of all, due or not, with the number of its arming: each event queries it, while it changes only as a timer is armed or removed.
+    first: Option<(u64, PendingTimer)>,
     next: u64,
     step: u64,
 }
@@ -28,13 +30,13 @@ impl Model for Timers {
     ghost use Rattle.std.specs.Prelude.{List};
     ghost use Rattle.std.specs.Map.{values_of};
     ghost use Rattle.mmtel_server_timers.specs.declared.pending_timers.PendingTimer.{PendingTimer};
-    ghost use Rattle.mmtel_server_timers.specs.Queue.{TimersInvariant};
+    ghost use Rattle.mmtel_server_timers.specs.Queue.{TimersKept};
 
     ghost Value = { List PendingTimer };
 
     ghost view = { λ a. values_of a.pending.entries };
 
-    ghost invariant = { λ a. TimersInvariant a.next a.step a.ranks a.pending.entries };
+    ghost invariant = { λ a. TimersKept a.next a.step a.ranks a.pending.entries a.first };
 }
 
 impl Timers {
@@ -46,6 +48,7 @@ impl Timers {
             alloc,
             pending: BTreeMap::new(alloc),
             ranks: Ranks::new(),
+            first: None,
             next: 0,
             step: 0,
         }
@@ -86,6 +89,7 @@ impl Timers {
                 return Err(NoMemory);
             }
         }
+        self.first = earliest_timer(&self.ranks, &self.pending);
         self.next += 1;
         self.step = timer.step;
         Ok(())
@@ -95,7 +99,7 @@ impl Timers {
     pub fn first_due(&self, now: u64) -> Option<PendingTimer>
         ensures { option_map (λ a. pending_in a) result ≡ first_in (first_due_timer now (queue_of self.now)) }
     {
-        match due_by(earliest_timer(&self.ranks, &self.pending), now) {
+        match due_by(self.first, now) {
             Some((_, armed)) => Some(armed),
             None => None,
         }
@@ -107,11 +111,12 @@ impl Timers {
         ensures none { IfNone result (self.new ≡ self.old) }
         ensures cost { steps.new ≡ steps.old }
     {
-        match due_by(earliest_timer(&self.ranks, &self.pending), now) {
+        match due_by(self.first, now) {
             None => None,
             Some((number, armed)) => {
                 self.ranks.disarm(number, steps);
                 self.pending.remove(&number);
+                self.first = earliest_timer(&self.ranks, &self.pending);
                 Some(armed)
             }
         }

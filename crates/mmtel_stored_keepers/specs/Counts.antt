@@ -1,4 +1,4 @@
--- The count of a keeper over a journal or a database.
+-- The count of a keeper in memory, or over a journal or a database.
 use Rattle.std.specs.Prelude.{ℕ}
 use Rattle.mmtel_stored_keepers.specs.declared.keepers.StoreKeeper.{StoreKeeper}
 

@@ -3,7 +3,7 @@
 use mmtel_base::{List, Text};
 use mmtel_charging::Row;
 use mmtel_journal::{Disk, FileDisk, JournalFault, JournalKeeper, make};
-use mmtel_keeper::{KeepFault, Keeper};
+use mmtel_keeper::{KeepFault, Keeper, MemoryKeeper};
 use mmtel_sqlite::SqliteKeeper;
 use mmtel_types::Account;
 use std::alloc::Global;
@@ -11,6 +11,8 @@ use std::alloc::Global;
 /// The store that a path names.
 #[derive(Drop)]
 pub enum Backend<'a> {
+    /// Memory alone.
+    Memory(MemoryKeeper),
     /// A journal in a file.
     Journal(JournalKeeper<FileDisk>),
     /// A database.
@@ -31,6 +33,16 @@ pub fn journal_name(path: &[u8]) -> Option<&[u8]> {
         [b'j', b'o', b'u', b'r', b'n', b'a', b'l', b':', name @ ..] => Some(name),
         _ => None,
     }
+}
+
+/// Whether a path names no file: what is stored is then in memory alone.
+pub fn is_in_memory(path: &[u8]) -> bool {
+    path == b":memory:".as_slice()
+}
+
+/// An empty store in memory.
+pub fn open_memory<'a>() -> Backend<'a> {
+    Backend::Memory(MemoryKeeper::new(List::new()))
 }
 
 /// Whether a file begins as each journal does that a server wrote: with a gate (commit mark) that is closed or open. In the format any other byte is a closed gate too; but a file
@@ -92,6 +104,7 @@ pub fn open_database<'a>(
 impl Backend<'_> {
     pub fn migrate(&mut self, alloc: Global) -> Result<u64, KeepFault> {
         match self {
+            Backend::Memory(keeper) => keeper.migrate(alloc),
             Backend::Journal(keeper) => keeper.migrate(alloc),
             Backend::Database(keeper) => keeper.migrate(alloc),
         }
@@ -99,6 +112,7 @@ impl Backend<'_> {
 
     pub fn load(&mut self, alloc: Global) -> Result<List<(Account, Text)>, KeepFault> {
         match self {
+            Backend::Memory(keeper) => keeper.load(alloc),
             Backend::Journal(keeper) => keeper.load(alloc),
             Backend::Database(keeper) => keeper.load(alloc),
         }
@@ -106,6 +120,7 @@ impl Backend<'_> {
 
     pub fn store(&mut self, alloc: Global, account: Account, text: &[u8]) -> Result<(), KeepFault> {
         match self {
+            Backend::Memory(keeper) => keeper.store(alloc, account, text),
             Backend::Journal(keeper) => keeper.store(alloc, account, text),
             Backend::Database(keeper) => keeper.store(alloc, account, text),
         }
@@ -113,6 +128,7 @@ impl Backend<'_> {
 
     pub fn add_rows(&mut self, alloc: Global, rows: &[Row]) -> Result<(), KeepFault> {
         match self {
+            Backend::Memory(keeper) => keeper.add_rows(alloc, rows),
             Backend::Journal(keeper) => keeper.add_rows(alloc, rows),
             Backend::Database(keeper) => keeper.add_rows(alloc, rows),
         }
@@ -120,6 +136,7 @@ impl Backend<'_> {
 
     pub fn rows(&mut self, alloc: Global) -> Result<List<Row>, KeepFault> {
         match self {
+            Backend::Memory(keeper) => keeper.rows(alloc),
             Backend::Journal(keeper) => keeper.rows(alloc),
             Backend::Database(keeper) => keeper.rows(alloc),
         }

@@ -3,7 +3,9 @@ ghost use Rattle.std.specs.Prelude.{◌≡◌, None};
 ghost use Rattle.mmtel_keeper.specs.Causes.{HasKeepCause};
 ghost use Rattle.mmtel_stored_keepers.specs.Counts.{store_faults};
 
-use crate::backends::{Backend, journal_name, open_database, open_journal};
+use crate::backends::{
+    Backend, is_in_memory, journal_name, open_database, open_journal, open_memory,
+};
 use mmtel_base::{List, Text};
 use mmtel_charging::Row;
 use mmtel_keeper::{KeepFault, Keeper};
@@ -11,8 +13,8 @@ use mmtel_sqlite::SqliteKeeper;
 use mmtel_types::Account;
 use std::alloc::Global;
 
-/// A keeper over the journal in a file, where the path is `journal:` and the name of the file, and over a database for any other path. It has one count of faults for both. A call
-/// before the first `bind` that returned Ok is a fault.
+/// A keeper in memory, where the path is `:memory:`; over the journal in a file, where it is `journal:` and the name of the file; and over a database for any other path. It has
+/// one count of faults for all of them. A call before the first `bind` that returned Ok is a fault.
 #[derive(Drop)]
 pub struct StoreKeeper<'a> {
     rt: &'a HostRuntime,
@@ -52,6 +54,10 @@ impl<'a> StoreKeeper<'a> {
         ensures { self.new.faults ≡ self.old.faults }
     {
         self.backend = Backend::Database(SqliteKeeper::new(self.rt));
+        if is_in_memory(path) {
+            self.backend = open_memory();
+            return Ok(());
+        }
         self.backend = match journal_name(path) {
             Some(name) => open_journal(self.rt, alloc, name)?,
             None => open_database(self.rt, alloc, path)?,

@@ -1,4 +1,4 @@
-//! A keeper over a journal or a database, by the path: the boundary, of whose contents no clause says anything.
+//! A keeper in memory, over a journal or over a database, by the path: the boundary, of whose contents no clause says anything.
 #![tactic(auto)]
 
 mod backends;

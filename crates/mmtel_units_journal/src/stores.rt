@@ -1,4 +1,4 @@
-//! A keeper over a journal or a database in files, by the path: bound again, and to a path of neither.
+//! A keeper in memory, or over a journal or a database in files, by the path: bound again, and to a path of none of these.
 
 use crate::keeping::{add_contents, add_record, add_result, add_rows};
 use mmtel_keeper::Keeper;
@@ -71,6 +71,22 @@ ok
 ok
 > h
 3:38.34
+> b:memory:
+ok
+> h
+
+> s5
+ok
+> a78
+ok
+> o:memory:
+ok
+> h
+5:38.78
+> b:memory:
+ok
+> h
+
 > bjournal:no/folder/keeper.journal
 failed
 > s4

@@ -22,7 +22,7 @@ entries_of (Word w ∷ pieces) (id ∷ left) ws = (id, w) ∷ entries_of pieces 
 entries_of (Apart k v ∷ pieces) left ws = (k, v) ∷ entries_of pieces left ws
 entries_of (Joined k v ∷ pieces) left ws = (k, v) ∷ entries_of pieces left ws
 
--- as `MayStand`, but `-` may be a separate value
+-- as `MayAppear`, but `-` may be a separate value
 abbrev pub MayAppearSpelled : List Text → Piece → Type 0
 MayAppearSpelled names (Word w) = is_positional w ≡ true
 MayAppearSpelled names (Apart k v) = (is_among names k ≡ true) × (is_positional v ≡ true)

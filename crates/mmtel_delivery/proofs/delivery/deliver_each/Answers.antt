@@ -10,9 +10,9 @@ loop-offer-init g c = record {
   gave = delivered_none c.args.peers.now.known (g.L.Link.given c.args.link.now);
   lost = lost_none (g.L.Link.given c.args.link.now) (g.L.Link.delivery_faults c.args.link.now);
   counted = counted_none (g.L.Link.given c.args.link.now) (g.L.Link.delivery_faults c.args.link.now);
-  heard = refl;
+  received = refl;
   bound = refl;
-  taking = refl;
+  arrival_faults = refl;
 }
 
 pub loop-offer-preserved : goal.loop-offer-preserved
@@ -26,9 +26,9 @@ loop-offer-preserved g c =
           (delivered_more known (take i es) (c.offer-item.result ∷ []) _ _ _ c.loop-offer.invariant.gave c.in_ok-deliver.ensures.gave);
       lost = lost_then _ _ _ _ _ _ c.loop-offer.invariant.lost c.deliver.ensures.lost;
       counted = counted_then _ _ _ _ _ _ c.loop-offer.invariant.counted c.deliver.ensures.counted;
-      heard = c.deliver.ensures.received ∙ c.loop-offer.invariant.heard;
+      received = c.deliver.ensures.received ∙ c.loop-offer.invariant.received;
       bound = c.deliver.ensures.bound ∙ c.loop-offer.invariant.bound;
-      taking = c.deliver.ensures.arrival_faults ∙ c.loop-offer.invariant.taking;
+      arrival_faults = c.deliver.ensures.arrival_faults ∙ c.loop-offer.invariant.arrival_faults;
     }
 
 pub returns-in_err-deliver-clause-gave : goal.returns-in_err-deliver-clause-gave

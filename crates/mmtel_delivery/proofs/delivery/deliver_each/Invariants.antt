@@ -10,5 +10,5 @@ invariant-loop-offer g l = record {
   counted : RoseBy (new_losses (g.L.Link.given l.fn.link) (g.L.Link.given l.link)) (g.L.Link.delivery_faults l.fn.link) (g.L.Link.delivery_faults l.link);
   received : g.L.Link.input l.link ≡ g.L.Link.input l.fn.link;
   bound : IsBoundStill (g.L.Link.calls l.fn.link) (g.L.Link.calls l.link);
-  taking : g.L.Link.arrival_faults l.link ≡ g.L.Link.arrival_faults l.fn.link;
+  arrival_faults : g.L.Link.arrival_faults l.link ≡ g.L.Link.arrival_faults l.fn.link;
 }

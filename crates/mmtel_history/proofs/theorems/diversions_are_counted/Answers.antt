@@ -8,7 +8,7 @@ returns c = record {
   one_more = λ h made. omega arith;
   appended = appended_counts;
   marked = marked_counts;
-  told = for_caller_counts;
+  reported = for_caller_counts;
   list = after_counts;
   never_fewer = after_most;
 }

@@ -6,6 +6,6 @@ pub returns : goal.returns
 returns c = record {
   texts = texts_are_those_kept;
   last = last_is_in_force c.puts_change_one_account.ensures.its c.puts_change_one_account.ensures.others;
-  told = after_message_what_is_in_force;
+  reported = after_message_what_is_in_force;
   seen = seen_alone;
 }

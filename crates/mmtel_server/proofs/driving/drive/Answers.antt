@@ -9,8 +9,8 @@ turns-init g c = record {
   drove = begun c.theorems_of_runs_hold.ensures _ _;
   calls = none_within _ _;
   given = refl;
-  giving = no_rise _;
-  taking = refl;
+  delivery_faults = no_rise _;
+  arrival_faults = refl;
 }
 
 pub turns-preserved : goal.turns-preserved
@@ -19,8 +19,8 @@ turns-preserved g c = record {
       (rw c.in-Ok-Some.field-0-is at c.in-Ok-Some.ensures.received) c.in-Ok.ensures.done;
   calls = within_more _ _ _ _ (omega arith) (within_then _ _ _ _ _ c.turns.invariant.calls c.next_event.ensures.calls);
   given = c.next_event.ensures.given ∙ c.turns.invariant.given;
-  giving = rise_then _ _ _ c.turns.invariant.giving c.next_event.ensures.delivery_faults;
-  taking = c.in-Ok-Some.ensures.cause ∙ c.turns.invariant.taking;
+  delivery_faults = rise_then _ _ _ c.turns.invariant.delivery_faults c.next_event.ensures.delivery_faults;
+  arrival_faults = c.in-Ok-Some.ensures.cause ∙ c.turns.invariant.arrival_faults;
 }
 
 pub returns-in-Err-step_event-clause-driven : goal.returns-in-Err-step_event-clause-driven

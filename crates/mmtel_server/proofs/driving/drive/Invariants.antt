@@ -10,6 +10,6 @@ invariant-turns g l = record {
       (serving_state g.N.Link l.link g.K.Keeper l.keeper l.server) l.fn.out l.out;
   calls : IsCalledWithin (g.N.Link.calls l.fn.link) (g.N.Link.calls l.link) (l._turn * most_calls_a_turn);
   given : g.N.Link.given l.link ≡ g.N.Link.given l.fn.link;
-  giving : StaysOrRises (g.N.Link.delivery_faults l.fn.link) (g.N.Link.delivery_faults l.link);
-  taking : g.N.Link.arrival_faults l.link ≡ g.N.Link.arrival_faults l.fn.link;
+  delivery_faults : StaysOrRises (g.N.Link.delivery_faults l.fn.link) (g.N.Link.delivery_faults l.link);
+  arrival_faults : g.N.Link.arrival_faults l.link ≡ g.N.Link.arrival_faults l.fn.link;
 }

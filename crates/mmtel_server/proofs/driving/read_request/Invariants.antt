@@ -10,8 +10,8 @@ invariant-loop-read g l = record {
   reading : (input : Option LinkInput) → IsReading input (g.N.Link.input l.fn.link) [] → IsReading input (g.N.Link.input l.link) l.bytes;
   long : l._read ≤ length l.bytes;
   needed : IsNeeded (length l.bytes) l.bytes;
-  giving : g.N.Link.delivery_faults l.link ≡ g.N.Link.delivery_faults l.fn.link;
+  delivery_faults : g.N.Link.delivery_faults l.link ≡ g.N.Link.delivery_faults l.fn.link;
   given : g.N.Link.given l.link ≡ g.N.Link.given l.fn.link;
   calls : IsCalledTimes (g.N.Link.calls l.fn.link) (g.N.Link.calls l.link) l._read;
-  taking : g.N.Link.arrival_faults l.link ≡ g.N.Link.arrival_faults l.fn.link;
+  arrival_faults : g.N.Link.arrival_faults l.link ≡ g.N.Link.arrival_faults l.fn.link;
 }

@@ -9,7 +9,7 @@ pub returns : goal.returns
 returns c =
     let xs = c.args.responses.now in
     let old = c.replace-answer.result in
-    let new : ReliableResponse = record old { retransmissions = old.shots + 1; step = c.args.step } in
+    let new : ReliableResponse = record old { retransmissions = old.retransmissions + 1; step = c.args.step } in
     c.replace.ensures.items
     ∙ (ap (λ ys. slice_set ys c.args.place new) c.replace-answer.ensures.items
     ∙ (set-set xs c.args.place c.blank.result new ∙ ap (λ o. after_retransmission c.args.step c.args.place o xs) (sym c.replace-answer.ensures.handed_out)))

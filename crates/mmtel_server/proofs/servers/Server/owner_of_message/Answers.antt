@@ -8,4 +8,4 @@ returns-in-None c = named_nobody c.args.self.now c.args.message.now.parsed c.in_
 
 pub returns-in-Some : goal.returns-in-Some
 returns-in-Some c =
-    named_owner c.args.self.now c.args.message.now.parsed c.in_ok-name.name c.in-Some.name (option_map holder_of c.owner_of_dialog-owner_of_dialog.result) c.in_ok-name.ensures.name c.in-Some.is c.owner_of_dialog-owner_of_dialog.ensures
+    named_owner c.args.self.now c.args.message.now.parsed c.in_ok-name.name c.in-Some.name (option_map holder_of c.owner_of_dialog-owner.result) c.in_ok-name.ensures.name c.in-Some.is c.owner_of_dialog-owner.ensures

@@ -47,15 +47,15 @@ pub returns-clause-met : goal.returns-clause-met
 returns-clause-met g c =
     let m = IfErr-at_err _ c.in-Err.is c.step_unfailed-done.ensures.met in
     record {
-      outcome = m.kept;
+      outcome = m.outcome;
       rows = m.rows;
       broke = λ took. (
-        breaks_off c.args.self.now c.args.out.now c.step_unfailed-done.new.out (event_record c.args.event.now m.kept m.rows took) (m.broke took),
-        adds_front c.offers_are_added.ensures.events c.offers_are_added.ensures.deadlines c.args.self.now c.args.out.now c.step_unfailed-done.new.out (event_record c.args.event.now m.kept m.rows took) (m.broke took),
+        breaks_off c.args.self.now c.args.out.now c.step_unfailed-done.new.out (event_record c.args.event.now m.outcome m.rows took) (m.broke took),
+        adds_front c.offers_are_added.ensures.events c.offers_are_added.ensures.deadlines c.args.self.now c.args.out.now c.step_unfailed-done.new.out (event_record c.args.event.now m.outcome m.rows took) (m.broke took),
       );
       between = m.between;
-      asks = λ took. asked_then c.offers_are_added.ensures.events c.offers_are_added.ensures.deadlines c.args.self.now c.args.out.now (event_record c.args.event.now m.kept m.rows took)
-          (λ (x : Directory). IsKeeperResult (call_of x.names c.args.event.now) m.kept m.rows (g.K.Keeper.contents c.args.keeper.now) m.between.contents (g.K.Keeper.calls c.args.keeper.now) m.between.calls)
+      asks = λ took. asked_then c.offers_are_added.ensures.events c.offers_are_added.ensures.deadlines c.args.self.now c.args.out.now (event_record c.args.event.now m.outcome m.rows took)
+          (λ (x : Directory). IsKeeperResult (call_of x.names c.args.event.now) m.outcome m.rows (g.K.Keeper.contents c.args.keeper.now) m.between.contents (g.K.Keeper.calls c.args.keeper.now) m.between.calls)
           c.enough_firings_exist.ensures.always (m.asks took);
       counts = m.counts;
       handover_aborted = m.handover_aborted;

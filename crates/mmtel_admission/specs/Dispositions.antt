@@ -3,26 +3,26 @@ use Rattle.mmtel_run_definitions.specs.OwnResponses.{StatusResponse}
 use Rattle.mmtel_run_definitions.specs.Refusals.{Disposition, Respond, Enter, EnterConference, OpenCall, OpenConference, JoinConference, Register, Subscribe, EnterSubscription}
 use Rattle.mmtel_run_definitions.specs.Ownership.{DialogOwner, InCall, InConference, InSubscription}
 use Rattle.mmtel_admission.specs.declared.status_responses.StatusResponse as declared
-use Rattle.mmtel_admission.specs.declared.status_responses.Disposition as courses
-use Rattle.mmtel_admission.specs.declared.status_responses.Disposition.TheVariants as course
-use Rattle.mmtel_admission.specs.declared.status_responses.DialogOwner as holders
-use Rattle.mmtel_admission.specs.declared.status_responses.DialogOwner.TheVariants as holder
+use Rattle.mmtel_admission.specs.declared.status_responses.Disposition as dispositions
+use Rattle.mmtel_admission.specs.declared.status_responses.Disposition.TheVariants as disposition
+use Rattle.mmtel_admission.specs.declared.status_responses.DialogOwner as owners
+use Rattle.mmtel_admission.specs.declared.status_responses.DialogOwner.TheVariants as owner
 
 abbrev pub response_in : declared.StatusResponse → StatusResponse
 response_in answer = record { code = answer.code; lines = answer.lines }
 
-abbrev pub dialog_owner_in : holders.DialogOwner → DialogOwner
-dialog_owner_in (holder.InCall call side) = InCall call side
-dialog_owner_in (holder.InConference room seat) = InConference room seat
-dialog_owner_in (holder.InSubscription sub) = InSubscription sub
+abbrev pub dialog_owner_in : owners.DialogOwner → DialogOwner
+dialog_owner_in (owner.InCall call side) = InCall call side
+dialog_owner_in (owner.InConference room seat) = InConference room seat
+dialog_owner_in (owner.InSubscription sub) = InSubscription sub
 
-abbrev pub disposition_in : courses.Disposition → Disposition
-disposition_in (course.Respond answer) = Respond (response_in answer)
-disposition_in (course.Enter call side) = Enter call side
-disposition_in (course.EnterConference room seat) = EnterConference room seat
-disposition_in course.OpenCall = OpenCall
-disposition_in course.OpenConference = OpenConference
-disposition_in (course.JoinConference room) = JoinConference room
-disposition_in (course.Register account seconds) = Register account seconds
-disposition_in course.Subscribe = Subscribe
-disposition_in (course.EnterSubscription sub) = EnterSubscription sub
+abbrev pub disposition_in : dispositions.Disposition → Disposition
+disposition_in (disposition.Respond answer) = Respond (response_in answer)
+disposition_in (disposition.Enter call side) = Enter call side
+disposition_in (disposition.EnterConference room seat) = EnterConference room seat
+disposition_in disposition.OpenCall = OpenCall
+disposition_in disposition.OpenConference = OpenConference
+disposition_in (disposition.JoinConference room) = JoinConference room
+disposition_in (disposition.Register account seconds) = Register account seconds
+disposition_in disposition.Subscribe = Subscribe
+disposition_in (disposition.EnterSubscription sub) = EnterSubscription sub

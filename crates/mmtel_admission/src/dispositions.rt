@@ -321,11 +321,11 @@ pub fn disposition(
     context: &RequestContext,
     request: &ReceivedMessage,
 ) -> Result<Disposition, NoMemory>
-    ensures course { IfOk result (λ c. disposition_in c ≡ disposition directory.now context.now.is_merged context.now.is_full (option_map dialog_owner_in context.now.owner) request.now.parsed) }
+    ensures disposition { IfOk result (λ c. disposition_in c ≡ disposition directory.now context.now.is_merged context.now.is_full (option_map dialog_owner_in context.now.owner) request.now.parsed) }
     // An INVITE that opens a conference or asks to join one offers audio.
     ensures audio { IfOk result (λ c. is_for_conference (disposition_in c) ≡ true → offers_audio request.now.parsed.body ≡ true) }
 {
     conferences_are_for_audio();
-    let course = disposition_by_refusals(alloc, directory, context, request)?;
-    Ok(course)
+    let decided = disposition_by_refusals(alloc, directory, context, request)?;
+    Ok(decided)
 }

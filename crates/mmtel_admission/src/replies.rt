@@ -81,7 +81,7 @@ pub fn completed_reply(
 ) -> Result<Msg, NoMemory>
     ensures message { IfOk result (λ m. m ≡ completed_reply tag.now source reply.now) }
 {
-    let said = Reply {
+    let completed = Reply {
         code: status_of(reply.start()),
         phrase: phrase_in(reply.start()),
         tag,
@@ -91,5 +91,5 @@ pub fn completed_reply(
         named: &[],
         body: &[],
     };
-    response(alloc, reply.start(), &reply.lines(), &said)
+    response(alloc, reply.start(), &reply.lines(), &completed)
 }

@@ -83,7 +83,7 @@ pub enum Disposition {
 
 /// A response that has no header fields of its own.
 pub fn plain_response(code: u16) -> StatusResponse
-    ensures answer { response_in result ≡ plain_response code }
+    ensures response { response_in result ≡ plain_response code }
 {
     StatusResponse {
         code,

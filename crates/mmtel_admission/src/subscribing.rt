@@ -106,7 +106,7 @@ pub fn granted_expires(request: &ReceivedMessage) -> u64
 /// Out of memory only.
 #[tactic(auto, unfolding(mmtel_message::specs::Message::line))]
 pub fn refusal_response(alloc: Global, code: u16) -> Result<StatusResponse, NoMemory>
-    ensures answer { IfOk result (λ answer. response_in answer ≡ refusal_response code) }
+    ensures response { IfOk result (λ answer. response_in answer ≡ refusal_response code) }
 {
     if code != 489 {
         return Ok(plain_response(code));
@@ -123,7 +123,7 @@ pub fn refusal_response(alloc: Global, code: u16) -> Result<StatusResponse, NoMe
 /// Out of memory only.
 #[tactic(auto, unfolding(mmtel_message::specs::Message::line))]
 pub fn grant_response(alloc: Global, seconds: u64) -> Result<StatusResponse, NoMemory>
-    ensures answer { IfOk result (λ answer. response_in answer ≡ grant_response seconds) }
+    ensures response { IfOk result (λ answer. response_in answer ≡ grant_response seconds) }
 {
     let mut lines = List::new();
     add_decimal(alloc, &mut lines, b"Expires", seconds)?;
@@ -140,7 +140,7 @@ pub fn other_response(
     directory: &Directory,
     request: &ReceivedMessage,
 ) -> Result<StatusResponse, NoMemory>
-    ensures answer { IfOk result (λ answer. response_in answer ≡ other_response directory.now request.now.parsed) }
+    ensures response { IfOk result (λ answer. response_in answer ≡ other_response directory.now request.now.parsed) }
 {
     let start = request.message.start();
     if is_method(b"OPTIONS", start) {

@@ -57,7 +57,7 @@ impl Model for CallTable {
 /// The number of live calls after one of them, which was live before or not, is live now or not.
 fn new_live_count(live_count: usize, old_live: bool, new_live: bool) -> usize
     requires there { one_if old_live ≤ live_count }
-    requires room { live_count + one_if new_live < 2 ^ 64 + one_if old_live }
+    requires capacity { live_count + one_if new_live < 2 ^ 64 + one_if old_live }
     ensures { result + one_if old_live ≡ live_count + one_if new_live }
 {
     match (old_live, new_live) {
@@ -187,7 +187,7 @@ fn place_after(from: usize, places: usize, count: usize) -> Option<usize>
 fn keep_at(entries: &mut Vec<Box<Entry>>, place: usize, gone: bool, at: Moment) -> bool
     requires { place < length entries.old.items }
     ensures entries { entries.new.items ≡ (if gone then remove entries.old.items place else entries.old.items) }
-    ensures lives { (e : Entry) → slice_get (box_values entries.old.items) place ≡ Some e → result ≡ lives_on gone e }
+    ensures live { (e : Entry) → slice_get (box_values entries.old.items) place ≡ Some e → result ≡ lives_on gone e }
 {
     if gone {
         give_up_entry(Box::into_inner(entries.remove(place)), at);
@@ -429,7 +429,7 @@ impl CallTable {
         output: &mut StepOutput,
     ) -> Result<(), NoMemory>
         requires place { place < length self.old.entries }
-        requires away { has_detached_leg (slice_get self.old.entries place) ≡ true }
+        requires detached { has_detached_leg (slice_get self.old.entries place) ≡ true }
         ensures table { OnOk result (self.new ≡ record self.old { entries = (step_of_finish_at config.now at place (slice_get self.old.entries place) self.old.entries output.old).entries }) }
         ensures output { OnOk result (output.new ≡ (step_of_finish_at config.now at place
             (slice_get self.old.entries place) self.old.entries output.old).output) }

@@ -401,7 +401,7 @@ impl Calls {
             config_of self.new peers accounts ≡ config_of self.old peers accounts }
         ensures leg { MatchResult result (λ leg. released_leg_of call.0 side self.old.table.entries ≡ Some leg)
             (λ refused. released_leg_of call.0 side self.old.table.entries ≡ None) }
-        ensures away { IfOk result (λ leg. has_detached_leg (entry_of call.0 self.new.table.entries) ≡ true) }
+        ensures detached { IfOk result (λ leg. has_detached_leg (entry_of call.0 self.new.table.entries) ≡ true) }
         ensures fits { IfOk result (λ leg. can_restore leg (entry_of call.0 self.new.table.entries) ≡ true) }
         ensures meter { IfOk result (λ leg. (released_leg leg).meter ≡ None) }
     {

@@ -15,7 +15,7 @@ use Rattle.mmtel_call_theorems.specs.NoInjection.Traces.{AreAmong, EmitsHaveNoIn
 use Rattle.mmtel_call_theorems.proofs.NoInjection.Traces.{back_among, own_among}
 use Rattle.mmtel_call_theorems.specs.Continuation.{CallsContinue}
 use Rattle.mmtel_call_theorems.specs.Theorems.{ChargingIsExact}
-use Rattle.mmtel_call_theorems.specs.CallTrace as story
+use Rattle.mmtel_call_theorems.specs.CallTrace as traces
 use Rattle.mmtel_call_theorems.specs.CallTrace.{TraceStart, items_added}
 use Rattle.mmtel_b2bua.specs.Operations.{Drops, Finishes, Receives, Releases, Restores, TableOp, table_after}
 use Rattle.mmtel_b2bua.specs.Tables.{Table}
@@ -119,12 +119,12 @@ trace-no-injection acks config (op ∷ earlier) n trace home given h =
 
 -- ---- a trace of signals alone
 
-plain-call : (s : TraceStart) (received : List story.TraceStep) → call_after s (signals received) ≡ story.call_after s received
-unfolding call_after story.call_after
+plain-call : (s : TraceStart) (received : List traces.TraceStep) → call_after s (signals received) ≡ traces.call_after s received
+unfolding call_after traces.call_after
 plain-call s [] = refl
-plain-call s (x ∷ earlier) = ap (λ (c : Call). (story.next_step s x c).call) (plain-call s earlier)
+plain-call s (x ∷ earlier) = ap (λ (c : Call). (traces.next_step s x c).call) (plain-call s earlier)
 
-plain-no-injection : (acks : List ReceivedAck) (received : List story.TraceStep) → Each (EventHasNoInjection acks) (signals received) → Each (TraceStepHasNoInjection acks) received
+plain-no-injection : (acks : List ReceivedAck) (received : List traces.TraceStep) → Each (EventHasNoInjection acks) (signals received) → Each (TraceStepHasNoInjection acks) received
 plain-no-injection acks [] h = tt
 plain-no-injection acks (x ∷ earlier) h = (h.0, plain-no-injection acks earlier h.1)
 
@@ -143,23 +143,23 @@ own-added P before after e h = subst (Each P) (ap (λ (l : List Emit). drop (len
 
 -- so is each that is sent in a trace, in which each ACK that was received is one of these
 abbrev OfStories : (acks : List ReceivedAck) → (Emit → Type 0) → Type 0
-OfStories acks P = (s : TraceStart) (received : List story.TraceStep) → TraceStartHasNoInjection acks s → Each (TraceStepHasNoInjection acks) received → AreAmong (received_acks_after s received) acks → Each P (output_after s received).out
+OfStories acks P = (s : TraceStart) (received : List traces.TraceStep) → TraceStartHasNoInjection acks s → Each (TraceStepHasNoInjection acks) received → AreAmong (received_acks_after s received) acks → Each P (output_after s received).out
 
 plain-emits : (acks : List ReceivedAck) (P : Emit → Type 0) → OfStories acks P →
-    (s : TraceStart) (received : List story.TraceStep) → HaveEmptyOutputs s (signals received) → TraceStartHasNoInjection acks s → Each (TraceStepHasNoInjection acks) received → AreAmong (received_acks_after s received) acks →
+    (s : TraceStart) (received : List traces.TraceStep) → HaveEmptyOutputs s (signals received) → TraceStartHasNoInjection acks s → Each (TraceStepHasNoInjection acks) received → AreAmong (received_acks_after s received) acks →
     Each P (emits_after s (signals received))
 unfolding emits_after
 plain-emits acks P law s [] desks start given among = own-added P s.output.out _ desks (law s [] start tt tt)
 plain-emits acks P law s (x ∷ earlier) desks start given among =
-    let before = back_among acks (received_acks_by s.config x.signal (story.call_after s earlier)) (received_acks_after s earlier) among in
+    let before = back_among acks (received_acks_by s.config x.signal (traces.call_after s earlier)) (received_acks_after s earlier) among in
     each-append P (emits_after s (signals earlier)) _ (plain-emits acks P law s earlier desks.1 start given.1 before)
-    (subst (λ (c : Call). Each P (items_added x.output.out (story.next_step s x c).output.out)) (sym (plain-call s earlier)) (own-added P x.output.out _ desks.0 (law s
+    (subst (λ (c : Call). Each P (items_added x.output.out (traces.next_step s x c).output.out)) (sym (plain-call s earlier)) (own-added P x.output.out _ desks.0 (law s
     (x ∷ earlier) start given among)))
 
 -- ---- of a table
 
 sends : (P : List ReceivedAck → Emit → Type 0) → ((acks : List ReceivedAck) → OfStories acks (P acks)) → CallsContinue → ChargingIsExact →
-    (config : CallConfigView) (ops : List TableOp) (number : ℕ) (start : TraceStart) (received : List story.TraceStep) → HasNumbers config ops → HasNoInjection config.home → Each OpHasNoInjection ops →
+    (config : CallConfigView) (ops : List TableOp) (number : ℕ) (start : TraceStart) (received : List traces.TraceStep) → HasNumbers config ops → HasNoInjection config.home → Each OpHasNoInjection ops →
     trace_of config number ops ≡ Some (record { start = start; events = signals received }) → Each (P (received_acks_after start received)) (emits_of config number ops)
 sends P law goes charged config ops number start received few home given is =
     let acks : List ReceivedAck = received_acks_after start received in
@@ -168,7 +168,7 @@ sends P law goes charged config ops number start received few home given is =
     subst (Each (P acks)) (sym own.emits) (plain-emits acks (P acks) (law acks) start received own.outputs c.0 (plain-no-injection acks received c.1) (own_among acks))
 
 ends-no-injection : EmitsHaveNoInjection → FinishEmitsHaveNoInjection → CallsContinue → ChargingIsExact →
-    (config : CallConfigView) (ops : List TableOp) (number : ℕ) (start : TraceStart) (received : List story.TraceStep) (side : Side) (at : ℕ) (output : StepOutput) → HasNumbers config ops →
+    (config : CallConfigView) (ops : List TableOp) (number : ℕ) (start : TraceStart) (received : List traces.TraceStep) (side : Side) (at : ℕ) (output : StepOutput) → HasNumbers config ops →
     HasNoInjection config.home → Each OpHasNoInjection ops →
     trace_of config number ops ≡ Some (record { start = start; events = lives.Finishes at output ∷ lives.Releases side ∷ signals received }) →
     Each (EmitHasNoInjection (received_acks_after start received)) (emits_of config number ops)

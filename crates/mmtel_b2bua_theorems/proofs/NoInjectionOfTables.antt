@@ -21,7 +21,7 @@ use Rattle.mmtel_call_theorems.specs.NoInjection.Messages.{HasNoInjection}
 use Rattle.mmtel_call_theorems.specs.NoInjection.Emits.{Each, EmitHasNoInjection, OutputHasNoInjection}
 use Rattle.mmtel_call_theorems.specs.NoInjection.Inputs.{ParsedHasNoInjection}
 use Rattle.mmtel_call_theorems.specs.NoInjection.CallState.{LegHasNoInjection}
-use Rattle.mmtel_call_theorems.specs.NoInjection.Traces as stories
+use Rattle.mmtel_call_theorems.specs.NoInjection.Traces as traces
 use Rattle.mmtel_call_theorems.specs.NoInjection.Traces.{AreAmong}
 use Rattle.mmtel_call_theorems.proofs.NoInjection.Diversions.{IsGood}
 use Rattle.mmtel_call_theorems.proofs.NoInjection.CallState.{StepHasNoInjection}
@@ -82,7 +82,7 @@ abbrev AckIsAmong : (acks : List ReceivedAck) → CallConfigView → calls.Signa
 AckIsAmong acks config s e = AreAmong (of_story.received_acks_by config s e.call) acks
 
 at-no-injection : (acks : List ReceivedAck) (config : CallConfigView) (at : ℕ) (view : SheetsInForce) (s : calls.Signal) (invites : List InviteKey) (place : ℕ) (o : Option Entry) (es : List Entry) (output : StepOutput) →
-    HasNoInjection config.home → RecordsHaveNoInjection view → stories.SignalHasNoInjection s → IfSome o (AckIsAmong acks config s) → OutputHasNoInjection acks output → Each (EntryHasNoInjection acks) es → IfSome o (EntryHasNoInjection acks) →
+    HasNoInjection config.home → RecordsHaveNoInjection view → traces.SignalHasNoInjection s → IfSome o (AckIsAmong acks config s) → OutputHasNoInjection acks output → Each (EntryHasNoInjection acks) es → IfSome o (EntryHasNoInjection acks) →
     TableStepHasNoInjection acks (step_of_entry_at config at view s invites place o es output)
 unfolding call_step
 at-no-injection acks config at view s invites place None es output home records given among had all is = record { entries_in = all; out_in = had.out_in }
@@ -92,13 +92,13 @@ at-no-injection acks config at view s invites place (Some e) es output home reco
     (step_no_injection acks config (snapshot_at at view busy) s e.call output (good config at view busy home records) given among is.phase is.kept had)
 
 in-no-injection : (acks : List ReceivedAck) (config : CallConfigView) (at : ℕ) (view : SheetsInForce) (s : calls.Signal) (invites : List InviteKey) (o : Option ℕ) (es : List Entry) (output : StepOutput) →
-    HasNoInjection config.home → RecordsHaveNoInjection view → stories.SignalHasNoInjection s → IfSome (entry_at o es) (AckIsAmong acks config s) → OutputHasNoInjection acks output → Each (EntryHasNoInjection acks) es → TableStepHasNoInjection acks (step_in config at view s invites o es output)
+    HasNoInjection config.home → RecordsHaveNoInjection view → traces.SignalHasNoInjection s → IfSome (entry_at o es) (AckIsAmong acks config s) → OutputHasNoInjection acks output → Each (EntryHasNoInjection acks) es → TableStepHasNoInjection acks (step_in config at view s invites o es output)
 in-no-injection acks config at view s invites None es output home records given among had all = record { entries_in = all; out_in = had.out_in }
 in-no-injection acks config at view s invites (Some place) es output home records given among had all =
     at-no-injection acks config at view s invites place (slice_get es place) es output home records given among had all (each_get (EntryHasNoInjection acks) es place all)
 
 received-no-injection : (acks : List ReceivedAck) (config : CallConfigView) (at : ℕ) (view : SheetsInForce) (whose : Entry → Bool) (s : calls.Signal) (invites : List InviteKey) (es : List Entry) (output : StepOutput) →
-    HasNoInjection config.home → RecordsHaveNoInjection view → stories.SignalHasNoInjection s → IfSome (entry_at (position whose es) es) (AckIsAmong acks config s) → OutputHasNoInjection acks output → Each (EntryHasNoInjection acks) es → TableStepHasNoInjection acks (step_of_receiver config at view whose s invites es output)
+    HasNoInjection config.home → RecordsHaveNoInjection view → traces.SignalHasNoInjection s → IfSome (entry_at (position whose es) es) (AckIsAmong acks config s) → OutputHasNoInjection acks output → Each (EntryHasNoInjection acks) es → TableStepHasNoInjection acks (step_of_receiver config at view whose s invites es output)
 received-no-injection acks config at view whose s invites es output home records given among had all =
     in-no-injection acks config at view s invites (position whose es) es output home records given among had all
 

@@ -24,7 +24,7 @@ use Rattle.mmtel_call_theorems.specs.Continuation.{CallsContinue, is_established
 use Rattle.mmtel_call_theorems.specs.Outcomes.{last_record}
 use Rattle.mmtel_call_theorems.specs.Theorems.{CallHasOtherKeys, ChargingIsExact, ShowsItsOutcome, ShowsNothingLater}
 use Rattle.mmtel_call_theorems.specs.Labels.{HasOtherKey, InFlightHasOtherKeys, PhaseHasOtherKey, is_offered, labels_of, labels_of_step}
-use Rattle.mmtel_call_theorems.specs.CallTrace as story
+use Rattle.mmtel_call_theorems.specs.CallTrace as traces
 use Rattle.mmtel_call_theorems.specs.CallTrace.{TraceStart, TraceStep, items_added, next_step, opening_in}
 use Rattle.mmtel_call_theorems.specs.Attempts.Theorems as story_trace
 use Rattle.mmtel_call_theorems.specs.Attempts.Theorems.{AttemptsAreObserved, EndingsAreObserved, PhaseIsObserved}
@@ -80,7 +80,7 @@ record ObservedEqual (s : TraceStart) (events : List CallEvent) (received : List
 
 module _ (attempts : AttemptsAreObserved) (s : TraceStart) where
   -- of a signal that the trace of signals has too
-  same-observed : (x : TraceStep) (earlier : List CallEvent) (received : List TraceStep) → call_after s earlier ≡ story.call_after s received → ObservedEqual s earlier received → ObservedEqual s (Receives x ∷ earlier) (x ∷ received)
+  same-observed : (x : TraceStep) (earlier : List CallEvent) (received : List TraceStep) → call_after s earlier ≡ traces.call_after s received → ObservedEqual s earlier received → ObservedEqual s (Receives x ∷ earlier) (x ∷ received)
   unfolding observed_after last_after endings_observed story_seen.observed_after story_seen.last_after_all story_seen.endings_observed
   same-observed x earlier received is r =
       let w = observed_after s earlier in
@@ -99,13 +99,13 @@ module _ (attempts : AttemptsAreObserved) (s : TraceStart) where
       }
 
   -- after a leg was detached
-  later-observed : (x : TraceStep) (earlier : List CallEvent) (received : List TraceStep) → is_established_in (story.call_after s received).phase ≡ true → ObservedEqual s earlier received → ObservedEqual s (Receives x ∷ earlier) (quiet x ∷ received)
+  later-observed : (x : TraceStep) (earlier : List CallEvent) (received : List TraceStep) → is_established_in (traces.call_after s received).phase ≡ true → ObservedEqual s earlier received → ObservedEqual s (Receives x ∷ earlier) (quiet x ∷ received)
   unfolding observed_after last_after endings_observed story_seen.observed_after story_seen.last_after_all story_seen.endings_observed
   later-observed x earlier received stands r =
       let w = observed_after s earlier in
       let told = story_seen.observed_after s received in
       let key = s.arrival.key in
-      let none-told : told.in_progress ≡ None = established-none s.config.bound (story_trace.no_reply_after s received) (story.call_after s received) (story.call_after s received).phase told stands (attempts s received) in
+      let none-told : told.in_progress ≡ None = established-none s.config.bound (story_trace.no_reply_after s received) (traces.call_after s received) (traces.call_after s received).phase told stands (attempts s received) in
       let none : w.in_progress ≡ None = ap (λ (w : ObservedAttempts). w.in_progress) r.watch ∙ none-told in
       let o = opening_in s in
       let still : observed_after s (Receives x ∷ earlier) ≡ w = none-next s.config o x.now.at w (last_after s earlier) x.signal _ none in
@@ -154,11 +154,11 @@ observed-at : AttemptsAreObserved → (s : TraceStart) (events : List CallEvent)
 observed-at attempts s events received l r (Same is rows over) =
     subst (λ w. PhaseIsObserved s.config.bound (no_reply_after s events) (call_after s events).acks (call_after s events).phase w) (sym r.watch)
     (subst (λ (c : Call). PhaseIsObserved s.config.bound (no_reply_after s events) c.acks c.phase (story_seen.observed_after s received)) (sym is)
-    (subst (λ time. PhaseIsObserved s.config.bound time (story.call_after s received).acks (story.call_after s received).phase (story_seen.observed_after s received)) (sym (time-same s events received l))
+    (subst (λ time. PhaseIsObserved s.config.bound time (traces.call_after s received).acks (traces.call_after s received).phase (story_seen.observed_after s received)) (sym (time-same s events received l))
     (attempts s received)))
 observed-at attempts s events received l r (Later stands kept after) =
-    let none = established-none s.config.bound (story_trace.no_reply_after s received) (story.call_after s received) (story.call_after s received).phase (story_seen.observed_after s received) stands (attempts s received) in
-    unoffered s.config.bound (no_reply_after s events) (call_after s events) (call_after s events).phase (observed_after s events) (after-offered _ _ (story.call_after s received) (call_after s events) _ after)
+    let none = established-none s.config.bound (story_trace.no_reply_after s received) (traces.call_after s received) (traces.call_after s received).phase (story_seen.observed_after s received) stands (attempts s received) in
+    unoffered s.config.bound (no_reply_after s events) (call_after s events) (call_after s events).phase (observed_after s events) (after-offered _ _ (traces.call_after s received) (call_after s events) _ after)
     (ap (λ (w : ObservedAttempts). w.in_progress) r.watch ∙ none)
 
 pub attempts_observed : CallsContinue → ChargingIsExact → AttemptsAreObserved → TraceAttemptsAreObserved

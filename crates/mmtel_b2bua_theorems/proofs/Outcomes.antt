@@ -17,7 +17,7 @@ use Rattle.mmtel_call_theorems.specs.Outcomes.{call_inputs_of, initially_remaini
 use Rattle.mmtel_call_theorems.specs.Theorems as story_laws
 use Rattle.mmtel_call_theorems.specs.Theorems.{ChargingIsExact, DiversionsAreCounted, ReachesItsOutcome, ShowsItsOutcome}
 use Rattle.mmtel_call_theorems.specs.Labels.{label_of_result, labels_of, labels_of_targets}
-use Rattle.mmtel_call_theorems.specs.CallTrace as story
+use Rattle.mmtel_call_theorems.specs.CallTrace as traces
 use Rattle.mmtel_call_theorems.specs.CallTrace.{TraceStart, TraceStep, is_over, opening_in}
 use Rattle.mmtel_precedence.specs.Outcome.{outcome}
 use Rattle.mmtel_b2bua_theorems.specs.Outcomes.{AreFitting, call_inputs_after, charges_due_after, endings_after, outcome_after, parts_after}
@@ -34,7 +34,7 @@ pub outcome-same : (s : TraceStart) (events : List CallEvent) (received : List T
 outcome-same s events received l = λ i. outcome (call_inputs_of s.config s.now (opening_in s) (λ k. l.snapshot k i)) (l.endings i)
 
 -- what does not change of the trace's call
-stays-same : (s : TraceStart) (events : List CallEvent) (received : List TraceStep) → Place s events received → StaysSame (story.call_after s received) (call_after s events)
+stays-same : (s : TraceStart) (events : List CallEvent) (received : List TraceStep) → Place s events received → StaysSame (traces.call_after s received) (call_after s events)
 stays-same s events received (Same is rows over) = record {
   opening = ap (λ (c : Call). c.opening) is;
   diversions = ap (λ (c : Call). c.diversions) is;
@@ -58,15 +58,15 @@ over-answered : (answered : Option ℕ) (result : precedence.CallResult) → is_
 over-answered None result h = absurd (let e : false ≡ true = h in cc)
 over-answered (Some at) result h = refl
 
-result-same : CallsContinue → (s : TraceStart) (events : List CallEvent) (received : List TraceStep) → Place s events received → result_of (call_after s events) ≡ result_of (story.call_after s received)
+result-same : CallsContinue → (s : TraceStart) (events : List CallEvent) (received : List TraceStep) → Place s events received → result_of (call_after s events) ≡ result_of (traces.call_after s received)
 result-same law s events received (Same is rows over) = ap result_of is
 result-same law s events received (Later stands kept (Runs on parts none)) =
     let c = call_after s events in
-    let d = story.call_after s received in
+    let d = traces.call_after s received in
     established-answered c.phase c.answered on ∙ sym (established-answered d.phase d.answered stands)
 result-same law s events received (Later stands kept (Gone over past flights is)) =
     let c = call_after s events in
-    let d = story.call_after s received in
+    let d = traces.call_after s received in
     let answered : is_some c.answered ≡ true = ap is_some kept.answered ∙ law.answered s received stands in
     ap (λ phase. result_in phase c.answered) over ∙ over-answered c.answered (precedence.Final causes.Ended) answered ∙ sym (established-answered d.phase d.answered stands)
 
@@ -123,7 +123,7 @@ runs-at law charged s events received l fits goes (Same is rows over) =
     (ap running_meters is ∙ run ∙ parts-same s events received l, rows ∙ none)
 runs-at law charged s events received l fits goes (Later stands kept (Runs on parts none)) =
     let c = call_after s events in
-    let begun = law.parts s received (established-on (story.call_after s received).phase stands) in
+    let begun = law.parts s received (established-on (traces.call_after s received).phase stands) in
     (running-is c.phase c.past on ∙ ap run_of (parts fits ∙ begun) ∙ parts-same s events received l, none)
 runs-at law charged s events received l fits goes (Later stands kept (Gone over past flights is)) = absurd (let e : true ≡ false = ap is_over (sym over) ∙ goes in cc)
 
@@ -145,7 +145,7 @@ filed-at law charged s events received cause l fits over_by_cause (Later stands 
     let c = call_after s events in
     let same_phase : Over causes.Ended ≡ Over cause = sym over ∙ over_by_cause in
     let same : causes.Ended ≡ cause = cc in
-    let begun = law.parts s received (established-on (story.call_after s received).phase stands) in (
+    let begun = law.parts s received (established-on (traces.call_after s received).phase stands) in (
       ap (λ phase. running_meters_in phase c.past) over ∙ past,
       is fits ∙ ap (λ (p : Parts). Rattle.mmtel_call_services.specs.ChargingRecords.charging_records (ending_at c (over_at s events)) p.past p.first p.last) begun ∙ (λ i.
           charging_records_of_parts (record { answered = c.answered; at = over_at s events; holds = c.hold.holds; cause = same i })

@@ -35,7 +35,7 @@ use Rattle.mmtel_call_theorems.specs.Outcomes.{diversions_made_in}
 use Rattle.mmtel_call_theorems.specs.Theorems.{ChargingIsExact}
 use Rattle.mmtel_call_theorems.specs.Labels as story_shown
 use Rattle.mmtel_call_theorems.specs.Labels.{is_offered}
-use Rattle.mmtel_call_theorems.specs.CallTrace as story
+use Rattle.mmtel_call_theorems.specs.CallTrace as traces
 use Rattle.mmtel_call_theorems.specs.CallTrace.{TraceStart, TraceStep, is_over, items_added, next_step}
 use Rattle.mmtel_b2bua_theorems.specs.Outcomes.{AreFitting, EventsHaveOtherKeys, HaveEmptyOutputs, IsFitting, endings_after, endings_by, snapshot_at_diversion, snapshot_by}
 use Rattle.mmtel_b2bua_theorems.specs.TracesWithTransfers.{CallEvent, Finishes, Receives, Releases, Restores, call_after}
@@ -238,10 +238,10 @@ no-end x c h = go c.phase h
 -- ---- a trace beside one of signals
 
 pub data Place (s : TraceStart) (events : List CallEvent) (received : List TraceStep) : Type 0 where
-  Same : call_after s events ≡ story.call_after s received → charging_records_after s events ≡ story.charging_records_after s received → (is_over (story.call_after s received).phase ≡ true →
-      over_at s events ≡ story.over_at s received) → Place s events received
-  Later : is_established_in (story.call_after s received).phase ≡ true → StaysSame (story.call_after s received) (call_after s events) →
-      After (AreFitting s events) (over_at s events) (story.call_after s received) (call_after s events) (charging_records_after s events) → Place s events received
+  Same : call_after s events ≡ traces.call_after s received → charging_records_after s events ≡ traces.charging_records_after s received → (is_over (traces.call_after s received).phase ≡ true →
+      over_at s events ≡ traces.over_at s received) → Place s events received
+  Later : is_established_in (traces.call_after s received).phase ≡ true → StaysSame (traces.call_after s received) (call_after s events) →
+      After (AreFitting s events) (over_at s events) (traces.call_after s received) (call_after s events) (charging_records_after s events) → Place s events received
 
 pub record MatchesTrace (s : TraceStart) (events : List CallEvent) (received : List TraceStep) : Type 0 where
   pub endings : endings_after s events ≡ story_endings.endings_after s received
@@ -253,11 +253,11 @@ pub record MatchesTrace (s : TraceStart) (events : List CallEvent) (received : L
 -- ---- an event that is no signal
 
 -- it continues from the established call of a trace of signals
-snapshot-same : (law : ChargingIsExact) (s : TraceStart) (earlier : List CallEvent) (received : List TraceStep) (c : Call) → c ≡ story.call_after s received →
-    charging_records_after s earlier ≡ story.charging_records_after s received → is_established_in c.phase ≡ true →
-    After (AreFitting s earlier) (over_at s earlier) (story.call_after s received) c (charging_records_after s earlier)
+snapshot-same : (law : ChargingIsExact) (s : TraceStart) (earlier : List CallEvent) (received : List TraceStep) (c : Call) → c ≡ traces.call_after s received →
+    charging_records_after s earlier ≡ traces.charging_records_after s received → is_established_in c.phase ≡ true →
+    After (AreFitting s earlier) (over_at s earlier) (traces.call_after s received) c (charging_records_after s earlier)
 snapshot-same law s earlier received c is rows stands =
-    let over : is_over (story.call_after s received).phase ≡ false = ap (λ (c : Call). is_over c.phase) (sym is) ∙ established-on c.phase stands in
+    let over : is_over (traces.call_after s received).phase ≡ false = ap (λ (c : Call). is_over c.phase) (sym is) ∙ established-on c.phase stands in
     Runs stands (λ p. ap parts_now is) (rows ∙ (law.runs s received over).1)
 
 equal-same : (c d : Call) → c ≡ d → StaysSame d c
@@ -273,8 +273,8 @@ place-of law s x earlier received turns (Later stands kept after) =
     let new = call_by s.config x c in
     let filed = filed_by s.config x c in
     let now = moment_by x (over_at s earlier) in
-    Later stands (both-same (story.call_after s received) c new kept (turns-same (IsFitting x c) now c new filed turns))
-    (after-turns (AreFitting s earlier) (IsFitting x c) (over_at s earlier) now (story.call_after s received) c new (charging_records_after s earlier) filed after turns)
+    Later stands (both-same (traces.call_after s received) c new kept (turns-same (IsFitting x c) now c new filed turns))
+    (after-turns (AreFitting s earlier) (IsFitting x c) (over_at s earlier) now (traces.call_after s received) c new (charging_records_after s earlier) filed after turns)
 place-of law s x earlier received turns (Same is rows over) =
     let c = call_after s earlier in
     let new = call_by s.config x c in
@@ -282,8 +282,8 @@ place-of law s x earlier received turns (Same is rows over) =
     let now = moment_by x (over_at s earlier) in
     let later : is_established_in c.phase ≡ true → Place s (x ∷ earlier) received = λ from.
     Later (ap (λ (c : Call). is_established_in c.phase) (sym is) ∙ from)
-    (both-same (story.call_after s received) c new (equal-same c (story.call_after s received) is) (turns-same (IsFitting x c) now c new filed turns))
-    (after-turns (AreFitting s earlier) (IsFitting x c) (over_at s earlier) now (story.call_after s received) c new (charging_records_after s earlier) filed
+    (both-same (traces.call_after s received) c new (equal-same c (traces.call_after s received) is) (turns-same (IsFitting x c) now c new filed turns))
+    (after-turns (AreFitting s earlier) (IsFitting x c) (over_at s earlier) now (traces.call_after s received) c new (charging_records_after s earlier) filed
     (snapshot-same law s earlier received c is rows from) turns) in
     elim turns as (λ t. Place s (x ∷ earlier) received) [
       | Keeps same_call nothing ↦ Same (same_call ∙ is) (no-more (charging_records_after s earlier) filed nothing ∙ rows) (λ h.
@@ -334,10 +334,10 @@ at-same false one two now h = refl
 if-then : (b : Bool) (one now : ℕ) → b ≡ true → (if b then one else now) ≡ one
 if-then b one now h = ap (λ b. if b then one else now) h
 
-signal-same : (s : TraceStart) (x : TraceStep) (earlier : List CallEvent) (received : List TraceStep) → call_after s earlier ≡ story.call_after s received →
-    charging_records_after s earlier ≡ story.charging_records_after s received →
-    (is_over (story.call_after s received).phase ≡ true → over_at s earlier ≡ story.over_at s received) → MatchesTrace s earlier received → MatchesTrace s (Receives x ∷ earlier) (x ∷ received)
-unfolding call_after charging_records_after over_at endings_after snapshot_at_diversion emits_while_offered story.call_after story.charging_records_after story.over_at story_endings.endings_after
+signal-same : (s : TraceStart) (x : TraceStep) (earlier : List CallEvent) (received : List TraceStep) → call_after s earlier ≡ traces.call_after s received →
+    charging_records_after s earlier ≡ traces.charging_records_after s received →
+    (is_over (traces.call_after s received).phase ≡ true → over_at s earlier ≡ traces.over_at s received) → MatchesTrace s earlier received → MatchesTrace s (Receives x ∷ earlier) (x ∷ received)
+unfolding call_after charging_records_after over_at endings_after snapshot_at_diversion emits_while_offered traces.call_after traces.charging_records_after traces.over_at story_endings.endings_after
     story_known.snapshot_at_diversion story_shown.emits_while_offered
 signal-same s x earlier received is rows over l = record {
   endings = λ i. l.endings i ++ ending_by x (is i);
@@ -346,18 +346,18 @@ signal-same s x earlier received is rows over l = record {
   own = λ others desks. (desks.0, others.0, l.own others.1 desks.1);
   place = Same (λ i. (next_step s x (is i)).call) (λ i. rows i ++ items_added x.output.rows (next_step s x (is i)).output.rows) (λ h.
       ap (λ (c : Call). if is_over c.phase then over_at s earlier else x.now.at) is
-      ∙ at-same (is_over (story.call_after s received).phase) (over_at s earlier) (story.over_at s received) x.now.at over);
+      ∙ at-same (is_over (traces.call_after s received).phase) (over_at s earlier) (traces.over_at s received) x.now.at over);
 }
 
-signal-later : (law : CallsContinue) (s : TraceStart) (x : TraceStep) (earlier : List CallEvent) (received : List TraceStep) → is_established_in (story.call_after s received).phase ≡ true →
-    StaysSame (story.call_after s received) (call_after s earlier) →
-    After (AreFitting s earlier) (over_at s earlier) (story.call_after s received) (call_after s earlier) (charging_records_after s earlier) → MatchesTrace s earlier received →
+signal-later : (law : CallsContinue) (s : TraceStart) (x : TraceStep) (earlier : List CallEvent) (received : List TraceStep) → is_established_in (traces.call_after s received).phase ≡ true →
+    StaysSame (traces.call_after s received) (call_after s earlier) →
+    After (AreFitting s earlier) (over_at s earlier) (traces.call_after s received) (call_after s earlier) (charging_records_after s earlier) → MatchesTrace s earlier received →
     MatchesTrace s (Receives x ∷ earlier) (quiet x ∷ received)
-unfolding call_after charging_records_after over_at endings_after snapshot_at_diversion emits_while_offered story.call_after story.charging_records_after story.over_at story_endings.endings_after
+unfolding call_after charging_records_after over_at endings_after snapshot_at_diversion emits_while_offered traces.call_after traces.charging_records_after traces.over_at story_endings.endings_after
     story_known.snapshot_at_diversion story_shown.emits_while_offered
 signal-later law s x earlier received stands kept after l =
     let c = call_after s earlier in
-    let d = story.call_after s received in
+    let d = traces.call_after s received in
     let offered : is_offered c.phase ≡ false = after-offered (AreFitting s earlier) (over_at s earlier) d c (charging_records_after s earlier) after in
     let still : d ≡ (next_step s (quiet x) d).call = ap (λ (t : StepResult). t.call) (sym (quiet-step s.config x d)) in
     let new = (step s.config x.now x.signal c x.output).call in
@@ -382,9 +382,9 @@ signal-later law s x earlier received stands kept after l =
 pub record Beside (s : TraceStart) (R : List CallEvent → List TraceStep → Type 0) : Type 0 where
   pub opens : R [] []
   -- the call is that of the trace of signals
-  pub same : (x : TraceStep) (earlier : List CallEvent) (received : List TraceStep) → call_after s earlier ≡ story.call_after s received → R earlier received → R (Receives x ∷ earlier) (x ∷ received)
+  pub same : (x : TraceStep) (earlier : List CallEvent) (received : List TraceStep) → call_after s earlier ≡ traces.call_after s received → R earlier received → R (Receives x ∷ earlier) (x ∷ received)
   -- a leg of it was detached once, and the trace of signals has a signal without effect
-  pub later : (x : TraceStep) (earlier : List CallEvent) (received : List TraceStep) → is_established_in (story.call_after s received).phase ≡ true → is_offered (call_after s earlier).phase ≡ false →
+  pub later : (x : TraceStep) (earlier : List CallEvent) (received : List TraceStep) → is_established_in (traces.call_after s received).phase ≡ true → is_offered (call_after s earlier).phase ≡ false →
       R earlier received → R (Receives x ∷ earlier) (quiet x ∷ received)
   -- what is no signal
   pub releases : (side : Side) (earlier : List CallEvent) (received : List TraceStep) → R earlier received → R (Releases side ∷ earlier) received
@@ -400,13 +400,13 @@ signal-matches law s R b x earlier received (Same is rows over) l r = (x ∷ rec
 signal-matches law s R b x earlier received (Later stands kept after) l r = (
   quiet x ∷ received,
   signal-later law s x earlier received stands kept after l,
-  b.later x earlier received stands (after-offered (AreFitting s earlier) (over_at s earlier) (story.call_after s received) (call_after s earlier) (charging_records_after s earlier) after) r,
+  b.later x earlier received stands (after-offered (AreFitting s earlier) (over_at s earlier) (traces.call_after s received) (call_after s earlier) (charging_records_after s earlier) after) r,
 )
 
 -- ---- every trace
 
 pub matches_trace_beside : CallsContinue → ChargingIsExact → (s : TraceStart) (R : List CallEvent → List TraceStep → Type 0) → Beside s R → (events : List CallEvent) → MatchesTraceBeside s R events
-unfolding call_after charging_records_after over_at endings_after snapshot_at_diversion emits_while_offered story.call_after story.charging_records_after story.over_at story_endings.endings_after
+unfolding call_after charging_records_after over_at endings_after snapshot_at_diversion emits_while_offered traces.call_after traces.charging_records_after traces.over_at story_endings.endings_after
     story_known.snapshot_at_diversion story_shown.emits_while_offered call_finish
 matches_trace_beside law charged s R b [] = ([], record { endings = refl; snapshot = λ k. refl; emits = refl; own = λ others desks. desks; place = Same refl refl (λ h. refl) }, b.opens)
 matches_trace_beside law charged s R b (Receives x ∷ earlier) = let (received, l, r) = matches_trace_beside law charged s R b earlier in signal-matches law s R b x earlier received l.place l r

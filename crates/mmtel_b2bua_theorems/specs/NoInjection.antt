@@ -5,13 +5,13 @@ use Rattle.mmtel_leg.specs.Dialogues.{request_uri}
 use Rattle.mmtel_sheet_values.specs.View.{SheetsInForce, sheet_in}
 use Rattle.mmtel_types.specs.declared.sides.Side.{Side}
 use Rattle.mmtel_call_services.specs.CallConfig.{CallConfigView}
-use Rattle.mmtel_call_theorems.specs.NoInjection.Acks as of_story
+use Rattle.mmtel_call_theorems.specs.NoInjection.Acks as acks
 use Rattle.mmtel_call_theorems.specs.NoInjection.Messages.{HasNoInjection}
 use Rattle.mmtel_call_theorems.specs.NoInjection.Emits.{Each, EmitHasNoInjection}
 use Rattle.mmtel_call_theorems.specs.NoInjection.Inputs.{ParsedHasNoInjection, SheetHasNoInjection}
 use Rattle.mmtel_call_theorems.specs.NoInjection.CallState.{LegHasNoInjection}
 use Rattle.mmtel_call_theorems.specs.NoInjection.Traces.{SendsOwnFields}
-use Rattle.mmtel_call_theorems.specs.CallTrace as story
+use Rattle.mmtel_call_theorems.specs.CallTrace as traces
 use Rattle.mmtel_b2bua.specs.Operations.{Drops, Finishes, ReceivedSignal, Receives, Releases, Restores, TableOp, table_after}
 use Rattle.mmtel_b2bua.specs.Detaching.{released_leg_of}
 use Rattle.mmtel_b2bua.specs.declared.signals.Signal.{Signal}
@@ -61,22 +61,22 @@ OpAndLegHaveNoInjection (Drops count) = Unit {0}
 -- ---- what is sent
 
 -- traces of signals alone
-abbrev pub signals : List story.TraceStep → List CallEvent
+abbrev pub signals : List traces.TraceStep → List CallEvent
 signals received = map lives.Receives received
 
 -- for a call of which no leg was detached, and for one that ended in the operation after that; an ACK of a 2xx has no header fields but those that are copied from an ACK that this
 -- call received
 pub record CallsSendNoInjection : Type 0 where
-  pub clean : (config : CallConfigView) (ops : List TableOp) (number : ℕ) (start : story.TraceStart) (received : List story.TraceStep) → HasNumbers config ops → HasNoInjection config.home →
+  pub clean : (config : CallConfigView) (ops : List TableOp) (number : ℕ) (start : traces.TraceStart) (received : List traces.TraceStep) → HasNumbers config ops → HasNoInjection config.home →
       Each OpHasNoInjection ops →
-      trace_of config number ops ≡ Some (record { start = start; events = signals received }) → Each (EmitHasNoInjection (of_story.received_acks_after start received)) (emits_of config number ops)
-  pub own_fields : (config : CallConfigView) (ops : List TableOp) (number : ℕ) (start : story.TraceStart) (received : List story.TraceStep) → HasNumbers config ops → HasNoInjection config.home →
+      trace_of config number ops ≡ Some (record { start = start; events = signals received }) → Each (EmitHasNoInjection (acks.received_acks_after start received)) (emits_of config number ops)
+  pub own_fields : (config : CallConfigView) (ops : List TableOp) (number : ℕ) (start : traces.TraceStart) (received : List traces.TraceStep) → HasNumbers config ops → HasNoInjection config.home →
       Each OpHasNoInjection ops →
-      trace_of config number ops ≡ Some (record { start = start; events = signals received }) → Each (SendsOwnFields (of_story.received_acks_after start received)) (emits_of config number ops)
-  pub finished : (config : CallConfigView) (ops : List TableOp) (number : ℕ) (start : story.TraceStart) (received : List story.TraceStep) (side : Side) (at : ℕ) (output : StepOutput) →
+      trace_of config number ops ≡ Some (record { start = start; events = signals received }) → Each (SendsOwnFields (acks.received_acks_after start received)) (emits_of config number ops)
+  pub finished : (config : CallConfigView) (ops : List TableOp) (number : ℕ) (start : traces.TraceStart) (received : List traces.TraceStep) (side : Side) (at : ℕ) (output : StepOutput) →
       HasNumbers config ops → HasNoInjection config.home → Each OpHasNoInjection ops →
       trace_of config number ops ≡ Some (record { start = start; events = lives.Finishes at output ∷ lives.Releases side ∷ signals received }) →
-      Each (EmitHasNoInjection (of_story.received_acks_after start received)) (emits_of config number ops)
+      Each (EmitHasNoInjection (acks.received_acks_after start received)) (emits_of config number ops)
 
 -- for each operation, whatever was done before; an ACK of a 2xx has no header fields but those that are copied from an ACK that was received in the call of its dialog
 abbrev pub OperationsSendNoInjection : Type 0

@@ -85,7 +85,7 @@ pub fn legs_go_back()
 /// received in the call of its dialog.
 pub fn tables_send_no_injection()
     ensures law { CallsSendNoInjection }
-    ensures deeds { OperationsSendNoInjection }
+    ensures operations { OperationsSendNoInjection }
     ensures legs { ReleasedLegsHaveNoInjection }
 {
     calls_send_no_injection();
@@ -96,7 +96,7 @@ pub fn tables_send_no_injection()
 /// Each reply of a call, in its whole trace, is in the server transaction of a request of its own: the INVITE that opened it, or one that it received (RFC 3261 §8.2.6, §17.2). So
 /// it is for everything that is sent in its operations on a table.
 pub fn table_calls_reply_in_their_own()
-    ensures lives { TracesReplyInTheirOwn }
+    ensures traces { TracesReplyInTheirOwn }
     ensures law { CallsReplyInTheirOwn }
 {
     calls_reply_in_their_own();

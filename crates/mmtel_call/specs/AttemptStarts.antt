@@ -28,32 +28,32 @@ next_attempt c = next_number c.attempts
 
 -- its dialog, before its INVITE is sent
 abbrev pub attempt_dialog_of : Opening → Destination → StepOutput → Dialogue
-attempt_dialog_of o aim output = attempt_dialog aim o.invite.parsed o.restricted output
+attempt_dialog_of o destination output = attempt_dialog destination o.invite.parsed o.restricted output
 
 -- the INVITE is sent, with what is copied to the target from the INVITE that opened the call, and the longest time starts
 abbrev pub with_attempt : CallConfigView → (at : ℕ) → Option Service → (waiting : Bool) → Destination → Call → StepOutput → StepOutput
-with_attempt config at service waiting aim c output =
+with_attempt config at service waiting destination c output =
     with_emit (emit.Arm c.opening.number (due.Cap (next_attempt c)) (at + max_attempt_time))
-    (with_attempt_invite config.sip aim c.opening.invite.parsed c.opening.restricted (attempt_lines config c.opening c.diversions service aim.peer) waiting output)
+    (with_attempt_invite config.sip destination c.opening.invite.parsed c.opening.restricted (attempt_lines config c.opening c.diversions service destination.peer) waiting output)
 
 -- the target's leg, with the meter of the account that is served there
 abbrev pub callee_of : (at : ℕ) → Option Service → Destination → Call → StepOutput → AttemptLegView
-callee_of at service aim c output = record {
-  leg = record { dialogue = as_callee (attempt_dialog_of c.opening aim output); meter = meter_for Terminating c at service };
+callee_of at service destination c output = record {
+  leg = record { dialogue = as_callee (attempt_dialog_of c.opening destination output); meter = meter_for Terminating c at service };
   is_early = false;
 }
 
 abbrev pub attempt_of : Option Service → Destination → Call → StepOutput → Attempt
-attempt_of service aim c output = record {
+attempt_of service destination c output = record {
   number = next_attempt c;
   service = service;
   rang = false;
-  invite = sent_invite (attempt_dialog_of c.opening aim output) 1 (token (after_draw (after_draw output)));
+  invite = sent_invite (attempt_dialog_of c.opening destination output) 1 (token (after_draw (after_draw output)));
 }
 
 -- the call is offered, as a waiting call or not
 abbrev pub attempt_start : CallConfigView → (at : ℕ) → Leg → Option Service → (waiting : Bool) → Destination → Call → StepOutput → StepResult
-attempt_start config at caller service waiting aim c output = record {
-  call = record c { attempts = next_attempt c; acks = Acks.next_attempt c.acks; phase = Offered (record { caller = caller; callee = callee_of at service aim c output; attempt = attempt_of service aim c output }) };
-  output = with_attempt config at service waiting aim c output;
+attempt_start config at caller service waiting destination c output = record {
+  call = record c { attempts = next_attempt c; acks = Acks.next_attempt c.acks; phase = Offered (record { caller = caller; callee = callee_of at service destination c output; attempt = attempt_of service destination c output }) };
+  output = with_attempt config at service waiting destination c output;
 }

@@ -99,7 +99,7 @@ impl OfferedAttempt {
         alloc: Global,
         message: &ReceivedMessage,
     ) -> Result<(Option<Remote>, Option<Remote>), NoMemory>
-        ensures said { IfOk result (λ r. r.0 ≡ early_remote_of self.now.callee message.now) }
+        ensures passed { IfOk result (λ r. r.0 ≡ early_remote_of self.now.callee message.now) }
         ensures kept { IfOk result (λ r. r.1 ≡ early_remote_of self.now.callee message.now) }
     {
         let said = self.callee.early_remote(alloc, message)?;
@@ -256,7 +256,7 @@ impl Call {
         ensures output { OnOk result (output.new
             ≡ with_no_reply_timer code step.now.snapshot.at offered.now.attempt self.now
             (with_relay_to_caller step.now.config.now self.now offered.now.attempt.service message.now output.old)) }
-        ensures said { IfOk result (λ r. r.0 ≡ early_remote_of offered.now.callee message.now) }
+        ensures passed { IfOk result (λ r. r.0 ≡ early_remote_of offered.now.callee message.now) }
         ensures kept { IfOk result (λ r. r.1 ≡ early_remote_of offered.now.callee message.now) }
     {
         let service = offered.attempt.service.as_ref();
@@ -278,7 +278,7 @@ impl Call {
         ensures output { OnOk result (output.new
             ≡ with_prack_timer own step.now.snapshot.at self.now (with_no_reply_timer code step.now.snapshot.at offered.now.attempt self.now
             (with_reliable_response step.now.config.now self.now offered.now.attempt.service own message.now output.old))) }
-        ensures said { IfOk result (λ r. r.0 ≡ early_remote_of offered.now.callee message.now) }
+        ensures passed { IfOk result (λ r. r.0 ≡ early_remote_of offered.now.callee message.now) }
         ensures kept { IfOk result (λ r. r.1 ≡ early_remote_of offered.now.callee message.now) }
     {
         let service = offered.attempt.service.as_ref();

@@ -38,8 +38,8 @@ fn with_meter<P, S>(leg: LegOf<P, S>, meter: Option<Meter>) -> LegOf<P, S>
 impl EstablishedLegs {
     /// Detaches the leg of a side, without its meter.
     fn detach(self, side: Side) -> (Released, DetachedLeg)
-        ensures away { result.0 ≡ removed_leg side self }
-        ensures loan { result.1 ≡ detached_of side self }
+        ensures leg { result.0 ≡ removed_leg side self }
+        ensures detached { result.1 ≡ detached_of side self }
     {
         let EstablishedLegs {
             caller,

@@ -33,7 +33,7 @@ pub fn receive<P, S>(
     request: &ReceivedMessage,
     busy: InFlight,
 ) -> Result<(), DialogueFault>
-    ensures answer { result ≡ request_check leg.old request.now busy }
+    ensures check { result ≡ request_check leg.old request.now busy }
     ensures received { OnOk result (leg.new ≡ leg_after_receiving leg.old request.now) }
     ensures refused { OnErr result (leg.new ≡ leg.old) }
 {
@@ -124,7 +124,7 @@ impl AttemptLeg {
             ≡ with_relayed_request step.now.config.now.sip method.now self.old.leg.dialogue lines.now message.now.parsed output.old) }
         ensures sent { IfOk result (λ i. i
             ≡ invite_sent_in (leg_after_request method.now self.old.leg).dialogue (token output.old)) }
-        ensures asked { OnOk result (self.new ≡ record self.old { leg = leg_after_request method.now self.old.leg }) }
+        ensures requested { OnOk result (self.new ≡ record self.old { leg = leg_after_request method.now self.old.leg }) }
         ensures meter { self.new.leg.meter ≡ self.old.leg.meter }
     {
         match &mut self.leg {
@@ -190,7 +190,7 @@ impl AttemptLeg {
         request: &ReceivedMessage,
         busy: InFlight,
     ) -> Result<(), DialogueFault>
-        ensures answer { result ≡ request_check self.old.leg request.now busy }
+        ensures check { result ≡ request_check self.old.leg request.now busy }
         ensures received { OnOk result (self.new ≡ record self.old { leg = leg_after_receiving self.old.leg request.now }) }
         ensures refused { OnErr result (self.new ≡ self.old) }
     {

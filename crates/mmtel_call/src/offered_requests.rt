@@ -234,7 +234,7 @@ impl Call {
 impl OfferedAttempt {
     /// Records the CSeq number of a request of a side, or refuses it.
     fn receive(&mut self, side: Side, message: &ReceivedMessage) -> Result<(), DialogueFault>
-        ensures answer { result ≡ offered_request_check self.old side message.now }
+        ensures check { result ≡ offered_request_check self.old side message.now }
         ensures received { OnOk result (self.new ≡ attempt_after_request side message.now self.old) }
         ensures refused { OnErr result (self.new ≡ self.old) }
     {

@@ -220,7 +220,7 @@ impl Call {
             (with_settled step.now.config.now (Some rack.now.answer) self.now output.old)) }
         ensures sent { IfOk result (λ i. i
             ≡ invite_sent_in (leg_after_request (codes "PRACK") offered.old.callee.leg).dialogue (token output.old)) }
-        ensures asked { OnOk result (offered.new ≡ attempt_after_early_request (codes "PRACK") offered.old) }
+        ensures requested { OnOk result (offered.new ≡ attempt_after_early_request (codes "PRACK") offered.old) }
     {
         self.settle(step.alloc, step.config, Some(rack.answer), output)?;
         let lines = self.prack_lines(step, offered, rseq, message)?;
@@ -231,7 +231,7 @@ impl Call {
 
     /// The target's number of the response that a PRACK acknowledges; that response no longer waits.
     fn named_rseq(&mut self, offered: &OfferedAttempt, rack: &Rack) -> Option<u32>
-        ensures answer { result ≡ named_rseq offered.now self.old rack.now }
+        ensures check { result ≡ named_rseq offered.now self.old rack.now }
         ensures call { self.new
             ≡ record self.old { acks = if is_some result then after_ack rack.now self.old.acks else self.old.acks } }
         ensures early { is_some result ≡ true → offered.now.callee.is_early ≡ true }
@@ -340,7 +340,7 @@ impl OfferedAttempt {
             output.old) }
         ensures sent { IfOk result (λ i. i
             ≡ invite_sent_in (leg_after_request method.now self.old.callee.leg).dialogue (token output.old)) }
-        ensures asked { OnOk result (self.new ≡ attempt_after_early_request method.now self.old) }
+        ensures requested { OnOk result (self.new ≡ attempt_after_early_request method.now self.old) }
     {
         let sent = self
             .callee

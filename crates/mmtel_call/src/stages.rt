@@ -50,7 +50,7 @@ impl EstablishedLegs {
         message: &ReceivedMessage,
         busy: InFlight,
     ) -> Result<(), DialogueFault>
-        ensures answer { result ≡ request_check (leg_of side self.old) message.now busy }
+        ensures check { result ≡ request_check (leg_of side self.old) message.now busy }
         ensures received { OnOk result (self.new ≡ with_leg side (leg_after_receiving (leg_of side self.old) message.now) self.old) }
         ensures refused { OnErr result (self.new ≡ self.old) }
     {

@@ -91,7 +91,7 @@ impl Call {
             output.old).output) }
         ensures sent { IfOk result (λ i. i
             ≡ invite_sent_in (leg_after_request (codes "UPDATE") (other_leg request.now.side offered.old)).dialogue (token output.old)) }
-        ensures asked { OnOk result (offered.new ≡ attempt_after_update request.now.side offered.old) }
+        ensures requested { OnOk result (offered.new ≡ attempt_after_update request.now.side offered.old) }
     {
         let service = offered.attempt.service.as_ref();
         let m = &request.message;
@@ -201,7 +201,7 @@ impl Call {
         ensures sent { IfOk result (λ i. i
             ≡ invite_sent_in (leg_after_request (codes "UPDATE") (leg_of (other_side request.now.side) legs.old)).dialogue
             (token output.old)) }
-        ensures asked { OnOk result (legs.new
+        ensures requested { OnOk result (legs.new
             ≡ with_leg (other_side request.now.side) (leg_after_request (codes "UPDATE")
             (leg_of (other_side request.now.side) legs.old)) legs.old) }
     {

@@ -23,7 +23,7 @@ pub fn strangers_are_not_believed()
 
 /// Of several P-Served-User lines the first counts: what follows it changes neither what is asserted of the user nor who is served as the caller.
 pub fn first_served_user_counts()
-    ensures said { (before after : List Line) (value : List ℕ) → served_line before ≡ Some value → served_by (served_line (before ++ after)) ≡ served_by (served_line before) }
+    ensures unchanged { (before after : List Line) (value : List ℕ) → served_line before ≡ Some value → served_by (served_line (before ++ after)) ≡ served_by (served_line before) }
     ensures origin { (before after : List Line) (value : List ℕ) → served_line before ≡ Some value → served_origin (before ++ after) ≡ served_origin before }
 {}
 

@@ -286,7 +286,7 @@ impl Opening {
         cause: Option<u16>,
         target: &Target,
     ) -> Result<Destination, NoMemory>
-        ensures aim { IfOk result (λ aim. aim ≡ destination_of self.now peer cause target.now) }
+        ensures destination { IfOk result (λ destination. destination ≡ destination_of self.now peer cause target.now) }
     {
         match cause {
             None => first_destination(alloc, peer, self.routes.items(), &self.invite),

@@ -9,6 +9,6 @@ pub fn calls_send_once()
     ensures opening { OpeningsSendOnce }
     ensures end { EndsSendOnce }
     // A leg that is detached, or put back, sends nothing.
-    ensures lent { DetachedCallsWereSent }
-    ensures returned { RestoredCallsWereSent }
+    ensures detached { DetachedCallsWereSent }
+    ensures restored { RestoredCallsWereSent }
 {}

@@ -5,7 +5,7 @@ ghost use Rattle.mmtel_call_theorems.specs.Dismissal.{EndsDismiss, NothingIsInFl
 /// own. After a step in which the attempt is another one, or the call is over, nothing is in flight: what was has got its final response before everything else in that step, a
 /// PRACK 481 and an UPDATE 487, and what follows replies to none of them.
 pub fn in_flight_requests_get_finals()
-    ensures left { StepsDismiss }
+    ensures dismissed { StepsDismiss }
     // In each other step nothing changes, or one is relayed in the dialog of the other side, or one gets its final response.
     ensures step { StepsContinue }
     // Where a leg is detached, and the call ends without it.

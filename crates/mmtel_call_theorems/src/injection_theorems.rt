@@ -20,7 +20,7 @@ ghost use Rattle.mmtel_call_theorems.specs.NoInjection.CallState.{DialogueHasNoI
 /// A reader finds the end of the head where the body begins, and the head is those lines.
 pub fn no_injection_keeps_own_fields()
     ensures split { (m : Message Start) → MessageHasNoInjection m → split (message_text m) ≡ start_text m.start ∷ (map written_line m.lines ++ [] ∷ split m.body) }
-    ensures clean { (m : Message Start) → MessageHasNoInjection m → HaveNoInjection (start_text m.start ∷ map written_line m.lines) }
+    ensures no_injection { (m : Message Start) → MessageHasNoInjection m → HaveNoInjection (start_text m.start ∷ map written_line m.lines) }
     ensures head { (m : Message Start) → MessageHasNoInjection m →
         (n : ℕ) × (first_break Head (message_text m) ≡ Some n) × (split (take n (message_text m)) ≡ start_text m.start ∷ map written_line m.lines) ×
         (drop (n + 4) (message_text m) ≡ m.body) }
@@ -35,7 +35,7 @@ pub fn building_adds_no_injection()
 
 /// What is relayed of a clean message is clean: the header fields that the header table copies from it (RFC 3325 §5, RFC 3323 §5.1), and its entries of History-Info (RFC 7044 §5).
 pub fn relaying_adds_no_injection()
-    ensures shown { CopiedLinesHaveNoInjection }
+    ensures copied { CopiedLinesHaveNoInjection }
     ensures entries { ParsedEntriesHaveNoInjection }
 {}
 
@@ -44,7 +44,7 @@ pub fn relaying_adds_no_injection()
 /// INVITE that opens the call; and if the records' URIs, the home domain and the text of tokens are clean. An ACK of a 2xx has no header fields but those that the header table
 /// copies from an ACK that the call received on the other side, in the dialog that was there then (RFC 3261 §13.2.2.4).
 pub fn calls_send_no_injection()
-    ensures clean { EmitsHaveNoInjection }
+    ensures no_injection { EmitsHaveNoInjection }
     ensures lines { EmitsHaveOwnFields }
     ensures finished { FinishEmitsHaveNoInjection }
 {}

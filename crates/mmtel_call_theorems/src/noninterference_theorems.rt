@@ -49,7 +49,7 @@ pub fn answered_steps_see_public_parts()
     ensures acks { AcksOnceAnswered }
     ensures cancels { CancelsOnceAnswered }
     ensures answers { ResponsesAcross }
-    ensures silence { TimeoutsOnceAnswered }
+    ensures timeouts { TimeoutsOnceAnswered }
     ensures deadlines { DeadlinesOnceAnswered }
 {
     heads_rest_on_five_names();
@@ -69,7 +69,7 @@ pub fn responses_see_public_parts()
 pub fn diversions_see_public_parts()
     ensures ends { EndsOfAttempts }
     ensures answers { ResponsesWhileOffered }
-    ensures silence { TimeoutsWhileOffered }
+    ensures timeouts { TimeoutsWhileOffered }
     ensures deadlines { DeadlinesWhileOffered }
 {
     heads_rest_on_five_names();
@@ -82,7 +82,7 @@ pub fn diversions_see_public_parts()
 /// 3311 §5).
 pub fn other_requests_see_public_parts()
     ensures answers { ResponsesToOthers }
-    ensures silence { TimeoutsOfOthers }
+    ensures timeouts { TimeoutsOfOthers }
     ensures dismissals { Dismissals }
 {
     heads_rest_on_five_names();
@@ -112,7 +112,7 @@ pub fn equivalent_calls_stay_equivalent()
 /// open indistinguishable calls, and untrusted peers see the same (RFC 3261 §12.1.1, RFC 3323 §4.2, RFC 5502 §4).
 pub fn openings_see_public_parts()
     ensures alone { OpeningsSeePublicParts }
-    ensures alike { OpeningsAreEquivalent }
+    ensures equivalent { OpeningsAreEquivalent }
     ensures calls { OpeningsGiveEquivalentCalls }
 {
     heads_rest_on_five_names();
@@ -151,7 +151,7 @@ pub fn calls_are_equivalent_in_both()
     ensures steps { StepsKeepEquivalenceInBoth }
     ensures calls { CallsStayEquivalentInBoth }
     ensures openings { OpeningsAreEquivalentInBoth }
-    ensures stories { TracesStayEquivalentInBoth }
+    ensures traces { TracesStayEquivalentInBoth }
     ensures one { OneIsEquivalent }
 {
     heads_rest_on_five_names();

@@ -12,7 +12,7 @@ pub fn calls_notify_their_diversions()
     ensures reported { NotifiesItsDiversions }
     ensures history { KeepsItsHistory }
     // A call that is not offered any more sends none, whatever it receives, also while a leg of it is detached, and where it ends then (RFC 4579 §5.6).
-    ensures silent { NotifiesNothingLater }
+    ensures nothing_later { NotifiesNothingLater }
     ensures ends { EndsWithoutNotification }
 {
     next_steps_are_moves();

@@ -22,7 +22,7 @@ pub fn calls_reach_their_outcome()
 pub fn calls_show_their_outcome()
     ensures law { ShowsItsOutcome }
     // Once it is not offered any more it sends no INVITE to a target, and no final response to the INVITE that opened it, whatever it receives, also while a leg of it is detached.
-    ensures later { ShowsNothingLater }
+    ensures nothing_later { ShowsNothingLater }
 {
     next_steps_are_moves();
     endings_are_moves();

@@ -8,6 +8,6 @@ pub fn calls_reply_in_their_own()
     ensures opening { OpeningsReplyInTheirOwn }
     ensures end { EndsReplyInTheirOwn }
     // A leg that is detached, or put back, adds no other request.
-    ensures lent { DetachedCallsKeepTheirOwn }
-    ensures returned { RestoredCallsKeepTheirOwn }
+    ensures detached { DetachedCallsKeepTheirOwn }
+    ensures restored { RestoredCallsKeepTheirOwn }
 {}

@@ -111,7 +111,7 @@ fn write_rows(alloc: Global, rows: &[Row]) -> Result<Vec<u8>, NoMemory>
 
 /// A theorem, without code: rows with equal fields are equal, so the rows are determined by what a CSV reader returns for their text.
 pub fn rows_are_distinguished(one: Row, other: Row)
-    ensures told_apart { fields_of one ≡ fields_of other → one ≡ other }
+    ensures distinguished { fields_of one ≡ fields_of other → one ≡ other }
 {
     numbers_fit(one);
     numbers_fit(other);

@@ -43,18 +43,18 @@ aborted_untouched keeper (due.InvalidRecord line) = refl
 -- ---- in a run
 
 -- what the keeper holds after the beginning of a run
-pub holds_all : (d : Directory) (token : List ℕ) (loaded : Texts) (happened : List EventRecord) (held left : Option KeeperContents) (fuel : ℕ)
-    → ((rows : List Row) × ((state_after d token loaded fuel happened).filed ≡ rows) × (left ≡ option_map (with_uploads_and_rows (uploads_of d.names happened) rows) held))
-    → left ≡ option_map (with_uploads_and_rows (uploads_of d.names happened) (state_after d token loaded fuel happened).filed) held
-holds_all d token loaded happened held left fuel h = h.2 ∙ ap (λ (rows : List Row). option_map (with_uploads_and_rows (uploads_of d.names happened) rows) held) (sym h.1)
+pub holds_all : (d : Directory) (token : List ℕ) (loaded : Texts) (recorded : List EventRecord) (held left : Option KeeperContents) (fuel : ℕ)
+    → ((rows : List Row) × ((state_after d token loaded fuel recorded).filed ≡ rows) × (left ≡ option_map (with_uploads_and_rows (uploads_of d.names recorded) rows) held))
+    → left ≡ option_map (with_uploads_and_rows (uploads_of d.names recorded) (state_after d token loaded fuel recorded).filed) held
+holds_all d token loaded recorded held left fuel h = h.2 ∙ ap (λ (rows : List Row). option_map (with_uploads_and_rows (uploads_of d.names recorded) rows) held) (sym h.1)
 
-pub keeper_up_to_last : (d : Directory) (token : List ℕ) (loaded : Texts) (happened : List EventRecord) (server : Server) → RepresentsRun d token loaded [] server
-    → (old new : KeeperState) → KeeperRunEffect happened server old new (Err NoMemory) → ChargesRun happened server → KeeperUpToLast d token loaded happened old new
-keeper_up_to_last d token loaded happened server serves old new went charged = record {
+pub keeper_up_to_last : (d : Directory) (token : List ℕ) (loaded : Texts) (recorded : List EventRecord) (server : Server) → RepresentsRun d token loaded [] server
+    → (old new : KeeperState) → KeeperRunEffect recorded server old new (Err NoMemory) → ChargesRun recorded server → KeeperUpToLast d token loaded recorded old new
+keeper_up_to_last d token loaded recorded server serves old new went charged = record {
   asks = λ short. went.results d token loaded [] serves short;
   counts = went.counts;
-  bound = λ short. bound_but_last d.names happened old new (went.results d token loaded [] serves short);
-  held = λ short. λ fuel. λ enough. holds_all d token loaded happened old.contents new.contents fuel (went.holds d token loaded [] fuel enough serves short);
+  bound = λ short. bound_but_last d.names recorded old new (went.results d token loaded [] serves short);
+  held = λ short. λ fuel. λ enough. holds_all d token loaded recorded old.contents new.contents fuel (went.holds d token loaded [] fuel enough serves short);
   charges = λ short. λ fuel. λ enough. charged d token loaded [] fuel serves short enough;
 }
 
@@ -73,27 +73,27 @@ read_out_but unfailed before events reads each stands =
 
 module _ (unfailed : UnfailedAreReadOut) (d : Directory) (token : List ℕ) (loaded : Texts) (turns : ℕ) (old new : ServingState) (out now : List Offer)
     (driven : DriveEffect turns old new out now (Err NoMemory)) (went : RanFromStart d token loaded [] [] old.server out) where
-  stopped_run : (input : LinkInput) (later : Option LinkInput) → ReceivesMore (Some input) later (events_in driven.happened) → ReadButLast (Some input) later 0 0 → input ≡ initial_input input.events
+  stopped_run : (input : LinkInput) (later : Option LinkInput) → ReceivesMore (Some input) later (events_in driven.recorded) → ReadButLast (Some input) later 0 0 → input ≡ initial_input input.events
       → AbortedRun d token loaded input.events old.keeper new.keeper
   stopped_run input None told read begins = absurd told
   stopped_run input (Some later) told read begins =
       let serves : RepresentsRun d token loaded [] old.server = record { fuel = went.fuel; enough = went.enough; represents = went.represents.represents } in
       let unread : input.reads ≡ [] = ap (λ (e : LinkInput). e.reads) begins in
-      let came = came_of input later (events_in driven.happened) unread told in
+      let came = came_of input later (events_in driven.recorded) unread told in
       let these : later.reads ≡ read.reads ++ read.last = read.parts ∙ ap (λ (l : List ℕ). l ++ (read.reads ++ read.last)) unread in
       record {
-        happened = driven.happened;
+        recorded = driven.recorded;
         reads = read.reads;
         last = read.last;
         received = came ∙ ap (read_events input.events) these;
         one = read.one;
         read = read_out_but unfailed read.between input.events read.reads
             (subst (λ (l : List ℕ). EachRead 0 read.between (drop (length l) input.events) read.reads) unread read.each) read.rose;
-        keeper = keeper_up_to_last d token loaded driven.happened old.server serves old.keeper new.keeper driven.effect.keeper driven.effect.charges;
+        keeper = keeper_up_to_last d token loaded driven.recorded old.server serves old.keeper new.keeper driven.effect.keeper driven.effect.charges;
       }
 
   -- the same for a link of which it is known that its two counts are 0 and that none of its events was received
-  stopped_known : (input later : Option LinkInput) (giving gave events : ℕ) → ReceivesMore input later (events_in driven.happened) → ReadButLast input later giving gave
+  stopped_known : (input later : Option LinkInput) (giving gave events : ℕ) → ReceivesMore input later (events_in driven.recorded) → ReadButLast input later giving gave
       → giving ≡ 0 → gave ≡ 0 → HasNoArrivals events input → AbortsAllOf input d token loaded old.keeper new.keeper
   stopped_known None later giving gave events told read stood stands fresh = absurd fresh
   stopped_known (Some input) later giving gave events told read stood stands fresh =

@@ -153,9 +153,9 @@ module _ (outcomes : CallsOfRunsReachOutcome) (charged : RunParticipantsChargedO
     opened = lists.opened;
     offers = lists.lists.offers;
     run = lists.lists.run;
-    outcome = λ short. outcomes directory token lists.loaded lists.lists.run.happened short;
-    participants = λ short. charged directory token lists.loaded lists.lists.run.happened short;
-    no_injection = λ short. sends directory token lists.loaded lists.lists.run.happened suits.home (token_has_no_injection token right) short;
+    outcome = λ short. outcomes directory token lists.loaded lists.lists.run.recorded short;
+    participants = λ short. charged directory token lists.loaded lists.lists.run.recorded short;
+    no_injection = λ short. sends directory token lists.loaded lists.lists.run.recorded suits.home (token_has_no_injection token right) short;
     branches = suits.branches token right;
     wrote = let P : List ℕ → Type 0 = λ t. WroteListing t written in subst P lists.lists.listing wrote;
   }

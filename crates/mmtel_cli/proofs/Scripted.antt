@@ -71,13 +71,13 @@ module _ (all : ReadOutHasAllBytes) (d : Directory) where
 -- ---- the records of events, with whole events
 
 -- with these whole events a run reads and stores the same
-record WholeOf (d : Directory) (events : List Event) (happened : List EventRecord) : Type 0 where
+record WholeOf (d : Directory) (events : List Event) (recorded : List EventRecord) : Type 0 where
   whole : List EventRecord
   received : events_in whole ≡ events
-  read : timed_events d whole ≡ timed_events d happened
-  uploads : uploads_of d.names whole ≡ uploads_of d.names happened
-  counted : (faults count : ℕ) → CountsEachFault happened faults count → CountsEachFault whole faults count
-  asked : (old new : KeeperState) → EachKeeperResult d.names happened old new → EachKeeperResult d.names whole old new
+  read : timed_events d whole ≡ timed_events d recorded
+  uploads : uploads_of d.names whole ≡ uploads_of d.names recorded
+  counted : (faults count : ℕ) → CountsEachFault recorded faults count → CountsEachFault whole faults count
+  asked : (old new : KeeperState) → EachKeeperResult d.names recorded old new → EachKeeperResult d.names whole old new
 
 whole_none : (d : Directory) → WholeOf d [] []
 whole_none d = record { whole = []; received = refl; read = refl; uploads = refl; counted = λ faults. λ count. λ e. e; asked = λ old. λ new. λ e. e }
@@ -87,9 +87,9 @@ abbrev timed_event_cut : (at : ℕ) → ParsedEvent → (took : Bool) → TimedE
 timed_event_cut at said took = record { at = at; parsed = said; accepted = took }
 
 module _ (all : ReadOutHasAllBytes) (d : Directory) where
-  whole_more : (n : ℕ) (e : Event) (events : List Event) (one : EventRecord) (happened : List EventRecord) → one.event ≡ read_part n e → IsEventReadOut n e → WholeOf d events happened
-      → WholeOf d (e ∷ events) (one ∷ happened)
-  whole_more n e events one happened is read rest =
+  whole_more : (n : ℕ) (e : Event) (events : List Event) (one : EventRecord) (recorded : List EventRecord) → one.event ≡ read_part n e → IsEventReadOut n e → WholeOf d events recorded
+      → WholeOf d (e ∷ events) (one ∷ recorded)
+  whole_more n e events one recorded is read rest =
       let this : EventRecord = record { event = e; outcome = one.outcome; rows = one.rows; accepted = one.accepted } in
       let moment : moment_of e ≡ moment_of one.event = sym (moment_cut n e) ∙ ap moment_of (sym is) in
       let said : parsed_record d this ≡ parsed_record d one = sym (digest_cut all d n e one.outcome one.rows read) ∙ ap (λ (x : Event). parsed_event d x one.outcome one.rows) (sym is) in
@@ -119,16 +119,16 @@ module _ (all : ReadOutHasAllBytes) (d : Directory) where
       }
 
   -- all of these events came
-  whole_of : (events : List Event) (reads : List ℕ) (happened : List EventRecord) → events_in happened ≡ read_events events reads → length events ≤ length (read_events events reads)
-      → EachReadOut events reads → WholeOf d events happened
+  whole_of : (events : List Event) (reads : List ℕ) (recorded : List EventRecord) → events_in recorded ≡ read_events events reads → length events ≤ length (read_events events reads)
+      → EachReadOut events reads → WholeOf d events recorded
   whole_of [] reads [] is long read = whole_none d
-  whole_of [] reads (one ∷ happened) is long read = absurd cc
-  whole_of (e ∷ events) [] happened is long read = absurd (omega (arith, long))
+  whole_of [] reads (one ∷ recorded) is long read = absurd cc
+  whole_of (e ∷ events) [] recorded is long read = absurd (omega (arith, long))
   whole_of (e ∷ events) (n ∷ reads) [] is long read = absurd cc
-  whole_of (e ∷ events) (n ∷ reads) (one ∷ happened) is long read =
+  whole_of (e ∷ events) (n ∷ reads) (one ∷ recorded) is long read =
       let first : one.event ≡ read_part n e = cc in
-      let rest : events_in happened ≡ read_events events reads = cc in
-      whole_more n e events one happened first read.0 (whole_of events reads happened rest (omega (arith, long)) read.1)
+      let rest : events_in recorded ≡ read_events events reads = cc in
+      whole_more n e events one recorded first read.0 (whole_of events reads recorded rest (omega (arith, long)) read.1)
 
 -- ---- runs that read the same of their events
 
@@ -141,10 +141,10 @@ accepted_in_events [] = false
 accepted_in_events (one ∷ []) = one.accepted
 accepted_in_events (one ∷ other ∷ xs) = accepted_in_events (other ∷ xs)
 
-accepted_last_in_events : (d : Directory) (happened : List EventRecord) → accepted_last happened ≡ accepted_in_events (timed_events d happened)
+accepted_last_in_events : (d : Directory) (recorded : List EventRecord) → accepted_last recorded ≡ accepted_in_events (timed_events d recorded)
 accepted_last_in_events d [] = refl
 accepted_last_in_events d (one ∷ []) = refl
-accepted_last_in_events d (one ∷ other ∷ happened) = accepted_last_in_events d (other ∷ happened)
+accepted_last_in_events d (one ∷ other ∷ recorded) = accepted_last_in_events d (other ∷ recorded)
 
 module _ (d : Directory) (token : List ℕ) (loaded : Texts) (es xs : List EventRecord) (same : timed_events d es ≡ timed_events d xs) where
   enough_same : (fuel : ℕ) → IsEnough d token loaded fuel xs → IsEnough d token loaded fuel es
@@ -187,11 +187,11 @@ at_least_after_handover : (took : Bool) (before now : ℕ) → HandoverFaults to
 at_least_after_handover true before now is = omega (arith, is)
 at_least_after_handover false before now rose = omega (arith, rose)
 
-at_least_after_events : (happened : List EventRecord) (faults count : ℕ) → CountsEachFault happened faults count → IsAtLeastCount faults count
+at_least_after_events : (recorded : List EventRecord) (faults count : ℕ) → CountsEachFault recorded faults count → IsAtLeastCount faults count
 at_least_after_events [] faults count e = omega (arith, e)
-at_least_after_events (one ∷ happened) faults count e =
+at_least_after_events (one ∷ recorded) faults count e =
     at_least_then faults e.1.between count (at_least_after_call one.outcome faults e.1.between e.1.counted)
-    (at_least_then e.1.between e.0 count (at_least_after_handover one.accepted e.1.between e.0 e.1.handover_faults) (at_least_after_events happened e.0 count e.2))
+    (at_least_then e.1.between e.0 count (at_least_after_handover one.accepted e.1.between e.0 e.1.handover_faults) (at_least_after_events recorded e.0 count e.2))
 
 -- what rose in between rose
 rose_between : (faults asked between count : ℕ) → IsAtLeastCount faults asked → Rose asked between → IsAtLeastCount between count → Rose faults count
@@ -206,19 +206,19 @@ accepted_unless : (took : Bool) (faults asked between count : ℕ) → IsAtLeast
 accepted_unless true faults asked between count a handed b kept = refl
 accepted_unless false faults asked between count a rose b kept = absurd (kept (rose_between faults asked between count a rose b))
 
-accepted_where_kept : (one : EventRecord) (happened : List EventRecord) (faults count : ℕ) → CountsEachFault (one ∷ happened) faults count → (Rose faults count → ⊥) →
-    accepted_last (one ∷ happened) ≡ true
+accepted_where_kept : (one : EventRecord) (recorded : List EventRecord) (faults count : ℕ) → CountsEachFault (one ∷ recorded) faults count → (Rose faults count → ⊥) →
+    accepted_last (one ∷ recorded) ≡ true
 accepted_where_kept one [] faults count e kept =
     accepted_unless one.accepted faults e.1.between e.0 count (at_least_after_call one.outcome faults e.1.between e.1.counted) e.1.handover_faults (at_least_after_events [] e.0 count e.2) kept
-accepted_where_kept one (other ∷ happened) faults count e kept =
+accepted_where_kept one (other ∷ recorded) faults count e kept =
     let before = at_least_then faults e.1.between e.0 (at_least_after_call one.outcome faults e.1.between e.1.counted) (at_least_after_handover one.accepted e.1.between e.0 e.1.handover_faults) in
-    accepted_where_kept other happened e.0 count e.2 (λ (rose : Rose e.0 count). kept (rose_behind faults e.0 count before rose))
+    accepted_where_kept other recorded e.0 count e.2 (λ (rose : Rose e.0 count). kept (rose_behind faults e.0 count before rose))
 
 -- none waits then
-pub none_waits : (d : Directory) (token : List ℕ) (loaded : Texts) (fuel : ℕ) (happened : List EventRecord) (faults count : ℕ) → CountsEachFault happened faults count
-    → ChargesRows d (state_after d token loaded fuel happened) happened → (Rose faults count → ⊥) → (state_after d token loaded fuel happened).waiting ≡ []
+pub none_waits : (d : Directory) (token : List ℕ) (loaded : Texts) (fuel : ℕ) (recorded : List EventRecord) (faults count : ℕ) → CountsEachFault recorded faults count
+    → ChargesRows d (state_after d token loaded fuel recorded) recorded → (Rose faults count → ⊥) → (state_after d token loaded fuel recorded).waiting ≡ []
 none_waits d token loaded fuel [] faults count e charged kept = refl
-none_waits d token loaded fuel (one ∷ happened) faults count e charged kept = charged.none (accepted_where_kept one happened faults count e kept)
+none_waits d token loaded fuel (one ∷ recorded) faults count e charged kept = charged.none (accepted_where_kept one recorded faults count e kept)
 
 -- ---- the path of the keeper
 
@@ -250,11 +250,11 @@ bound_still_after_handover false (row ∷ rows) held left calls since h = bound_
 same_still : (calls since : Option KeeperCalls) → since ≡ calls → IsBoundStill calls since
 same_still calls since same = ap (λ (told : Option KeeperCalls). option_map (λ (c : KeeperCalls). c.path) told) same
 
-pub bound_still : (names : WebDirectory) (happened : List EventRecord) (old new : KeeperState) → EachKeeperResult names happened old new → IsBoundStill old.calls new.calls
+pub bound_still : (names : WebDirectory) (recorded : List EventRecord) (old new : KeeperState) → EachKeeperResult names recorded old new → IsBoundStill old.calls new.calls
 bound_still names [] old new e = same_still old.calls new.calls e.1
-bound_still names (one ∷ happened) old new e =
+bound_still names (one ∷ recorded) old new e =
     let this = e.1 in
-    bound_still names happened e.0 new e.2
+    bound_still names recorded e.0 new e.2
     ∙ (bound_still_after_handover one.accepted this.waiting this.between.contents e.0.contents this.between.calls e.0.calls this.hands_over
     ∙ bound_still_after_result (call_of names one.event) one.outcome one.rows old.contents this.between.contents old.calls this.between.calls this.result)
 
@@ -262,10 +262,10 @@ last_still : (names : WebDirectory) (last : List EventRecord) (old new : KeeperS
 last_still names [] old new e = same_still old.calls new.calls e.1
 last_still names (one ∷ []) old new e =
     maybe_still e.0 new.calls e.2.1 ∙ bound_still_after_result (call_of names one.event) one.outcome one.rows old.contents new.contents old.calls e.0 e.2.0
-last_still names (one ∷ other ∷ happened) old new e = absurd e
+last_still names (one ∷ other ∷ recorded) old new e = absurd e
 
-pub bound_but_last : (names : WebDirectory) (happened : List EventRecord) (old new : KeeperState) → EachKeeperResultButLast names happened old new → IsBoundStill old.calls new.calls
-bound_but_last names happened old new e = last_still names e.last e.between new e.rest ∙ bound_still names e.done old e.between e.each
+pub bound_but_last : (names : WebDirectory) (recorded : List EventRecord) (old new : KeeperState) → EachKeeperResultButLast names recorded old new → IsBoundStill old.calls new.calls
+bound_but_last names recorded old new e = last_still names e.last e.between new e.rest ∙ bound_still names e.done old e.between e.each
 
 -- ---- the run of a script
 
@@ -304,18 +304,18 @@ read_out unfailed input later reads unread is read =
     let these : later.reads ≡ reads = is ∙ ap (λ (l : List ℕ). l ++ reads) unread in
     subst (EachReadOut input.events) (sym these) (unfailed 0 0 input.events reads here (λ (rose : Rose 0 0). absurd (omega (arith, rose))))
 
-count_events : (happened : List EventRecord) → length happened ≡ length (events_in happened)
+count_events : (recorded : List EventRecord) → length recorded ≡ length (events_in recorded)
 count_events [] = refl
-count_events (one ∷ happened) = let rest = count_events happened in omega (arith, rest)
+count_events (one ∷ recorded) = let rest = count_events recorded in omega (arith, rest)
 
-offers_by_run : (d : Directory) (token : List ℕ) (loaded : Texts) (happened : List EventRecord) (server : Server) (out : List Offer)
-    → RanFromStart d token loaded happened [] server out → Gives d token loaded happened out
-offers_by_run d token loaded happened server out went = record { fuel = went.fuel; enough = went.enough; exact = went.represents.offers }
+offers_by_run : (d : Directory) (token : List ℕ) (loaded : Texts) (recorded : List EventRecord) (server : Server) (out : List Offer)
+    → RanFromStart d token loaded recorded [] server out → Gives d token loaded recorded out
+offers_by_run d token loaded recorded server out went = record { fuel = went.fuel; enough = went.enough; exact = went.represents.offers }
 
 -- what the keeper holds after the beginning of a run
 abbrev Holds : Directory → List ℕ → Texts → ℕ → List EventRecord → (held left : Option KeeperContents) → Type 0
-Holds d token loaded fuel happened held left =
-    (rows : List Row) × ((state_after d token loaded fuel happened).filed ≡ rows) × (left ≡ option_map (with_uploads_and_rows (uploads_of d.names happened) rows) held)
+Holds d token loaded fuel recorded held left =
+    (rows : List Row) × ((state_after d token loaded fuel recorded).filed ≡ rows) × (left ≡ option_map (with_uploads_and_rows (uploads_of d.names recorded) rows) held)
 
 holds_whole : (d : Directory) (token : List ℕ) (loaded : Texts) (fuel : ℕ) (es xs : List EventRecord) → timed_events d es ≡ timed_events d xs → uploads_of d.names es ≡ uploads_of d.names xs
     → (held left : Option KeeperContents) → Holds d token loaded fuel es held left
@@ -333,25 +333,25 @@ no_more a b c x y = omega (arith, x, y)
 
 module _ (unfailed : UnfailedAreReadOut) (all : ReadOutHasAllBytes) (keeps : OffersKeepNoninterference) (d : Directory) (token : List ℕ) (loaded : Texts) (turns : ℕ) (old new : ServingState)
     (out now : List Offer) (closed : Bool) (driven : DriveEffect turns old new out now (Ok closed)) (went : RanFromStart d token loaded [] [] old.server out) where
-  offers_run : (input : LinkInput) (later : Option LinkInput) → ReceivesMore (Some input) later (events_in driven.happened) → EndsAfter turns later (length driven.happened) (Ok closed)
+  offers_run : (input : LinkInput) (later : Option LinkInput) → ReceivesMore (Some input) later (events_in driven.recorded) → EndsAfter turns later (length driven.recorded) (Ok closed)
       → ReadEach (Some input) later 0 0 → input ≡ initial_input input.events → length input.events ≤ turns → OffersOfRun d token loaded input.events old.keeper new.keeper now
   offers_run input None told ends each begins enough = absurd told
   offers_run input (Some later) told ends each begins enough =
       let serves : RepresentsRun d token loaded [] old.server = record { fuel = went.fuel; enough = went.enough; represents = went.represents.represents } in
       let unread : input.reads ≡ [] = ap (λ (e : LinkInput). e.reads) begins in
-      let came = came_of input later (events_in driven.happened) unread told in
-      let long = long_enough input later turns (length driven.happened) closed (events_in driven.happened) enough unread told (count_events driven.happened) ends in
+      let came = came_of input later (events_in driven.recorded) unread told in
+      let long = long_enough input later turns (length driven.recorded) closed (events_in driven.recorded) enough unread told (count_events driven.recorded) ends in
       let read = read_out unfailed input later each.0 unread each.1 each.2 in
-      let w = whole_of all d input.events later.reads driven.happened came long read in
-      let few : IsShortRun d token loaded w.whole → IsShortRun d token loaded driven.happened = short_same d token loaded driven.happened w.whole (sym w.read) in
+      let w = whole_of all d input.events later.reads driven.recorded came long read in
+      let few : IsShortRun d token loaded w.whole → IsShortRun d token loaded driven.recorded = short_same d token loaded driven.recorded w.whole (sym w.read) in
       let answers : IsShortRun d token loaded w.whole
       → EachKeeperResult d.names w.whole old.keeper new.keeper = λ short. w.asked old.keeper new.keeper (driven.effect.keeper.results d token loaded [] serves (few short)) in
       let exact : IsShortRun d token loaded w.whole → Gives d token loaded w.whole now = λ short.
-      gives_same d token loaded driven.happened w.whole (sym w.read) now
-      (offers_by_run d token loaded driven.happened new.server now (driven.runs d token loaded [] [] went (few short))) in
+      gives_same d token loaded driven.recorded w.whole (sym w.read) now
+      (offers_by_run d token loaded driven.recorded new.server now (driven.runs d token loaded [] [] went (few short))) in
       let count_whole : CountsEachFault w.whole old.keeper.faults new.keeper.faults = w.counted old.keeper.faults new.keeper.faults driven.effect.keeper.counts in
       record {
-        happened = w.whole;
+        recorded = w.whole;
         received = w.received;
         counts = count_whole;
         exact = exact;
@@ -359,16 +359,16 @@ module _ (unfailed : UnfailedAreReadOut) (all : ReadOutHasAllBytes) (keeps : Off
         asks = answers;
         bound = λ short. bound_still d.names w.whole old.keeper new.keeper (answers short);
         held = λ short. λ fuel. λ enough.
-            holds_whole d token loaded fuel driven.happened w.whole (sym w.read) (sym w.uploads) old.keeper.contents new.keeper.contents
-            (driven.effect.keeper.holds d token loaded [] fuel (enough_same d token loaded driven.happened w.whole (sym w.read) fuel enough) serves (few short));
+            holds_whole d token loaded fuel driven.recorded w.whole (sym w.read) (sym w.uploads) old.keeper.contents new.keeper.contents
+            (driven.effect.keeper.holds d token loaded [] fuel (enough_same d token loaded driven.recorded w.whole (sym w.read) fuel enough) serves (few short));
         charges = λ short. λ fuel. λ enough.
-            let charged = charged_same d token loaded driven.happened w.whole (sym w.read) fuel
-            (driven.effect.charges d token loaded [] fuel serves (few short) (enough_same d token loaded driven.happened w.whole (sym w.read) fuel enough)) in
+            let charged = charged_same d token loaded driven.recorded w.whole (sym w.read) fuel
+            (driven.effect.charges d token loaded [] fuel serves (few short) (enough_same d token loaded driven.recorded w.whole (sym w.read) fuel enough)) in
             record { rows = charged; all_accepted = none_waits d token loaded fuel w.whole old.keeper.faults new.keeper.faults count_whole charged };
       }
 
   -- the same of a link of which it is known that it has two counts of 0, and so many events
-  offers_known : (input later : Option LinkInput) (giving gave events : ℕ) → ReceivesMore input later (events_in driven.happened) → EndsAfter turns later (length driven.happened) (Ok closed)
+  offers_known : (input later : Option LinkInput) (giving gave events : ℕ) → ReceivesMore input later (events_in driven.recorded) → EndsAfter turns later (length driven.recorded) (Ok closed)
       → ReadEach input later giving gave → giving ≡ 0 → gave ≡ 0 → HasNoArrivals events input → events ≤ turns → OffersOfAllEvents input d token loaded old.keeper new.keeper now
   offers_known None later giving gave events told ends each stood stands fresh enough = absurd fresh
   offers_known (Some input) later giving gave events told ends each stood stands fresh enough =

@@ -75,15 +75,15 @@ beside state = record { link = state.link; keeper = state.keeper }
 module _ (directory : Directory) (token : List ℕ) (loaded : Texts) (turns : ℕ) (old new : ServingState) (serves : RepresentsRun directory token loaded [] old.server)
     (suited : IsWellFormed directory token) (listens : ListensStill old.link.calls new.link.calls) (lost : LostNoMore old.link.output new.link.output ⊎ Rose old.link.delivery_faults new.link.delivery_faults)
     (stands : StaysOrRises old.link.delivery_faults new.link.delivery_faults) where
-  serves_run : (result : Result Bool DriveFault) (happened : List EventRecord)
-      → ReceivesMore old.link.input new.link.input (events_in happened) → ReadsAll old.link new.link result → EndsAfter turns new.link.input (length happened) result
-      → HasDriveCause old.link.arrival_faults new.link.arrival_faults result → HasFailedByNumber new.link.calls result → CountsEachFault happened old.keeper.faults new.keeper.faults
-      → DeliveredOn happened old.server old.link.output new.link.output → KeepsNoninterference happened old.server old.link.output new.link.output
-      → KeeperResultsOfRun happened old.server old.keeper new.keeper → HoldsUploads happened old.server old.keeper.contents new.keeper.contents
-      → ChargesRun happened old.server → CallsReachOutcome happened old.server → ChargesParticipants happened old.server → SendsNoInjectionInRun happened old.server
+  serves_run : (result : Result Bool DriveFault) (recorded : List EventRecord)
+      → ReceivesMore old.link.input new.link.input (events_in recorded) → ReadsAll old.link new.link result → EndsAfter turns new.link.input (length recorded) result
+      → HasDriveCause old.link.arrival_faults new.link.arrival_faults result → HasFailedByNumber new.link.calls result → CountsEachFault recorded old.keeper.faults new.keeper.faults
+      → DeliveredOn recorded old.server old.link.output new.link.output → KeepsNoninterference recorded old.server old.link.output new.link.output
+      → KeeperResultsOfRun recorded old.server old.keeper new.keeper → HoldsUploads recorded old.server old.keeper.contents new.keeper.contents
+      → ChargesRun recorded old.server → CallsReachOutcome recorded old.server → ChargesParticipants recorded old.server → SendsNoInjectionInRun recorded old.server
       → ServesRun directory token loaded turns (beside old) (beside new) result
-  serves_run result happened received read ends cause number counted gave_on kept answers sheets charged outcome seats clean = record {
-    happened = happened;
+  serves_run result recorded received read ends cause number counted gave_on kept answers sheets charged outcome seats clean = record {
+    recorded = recorded;
     receives = received;
     read = read;
     ends = ends;
@@ -95,27 +95,27 @@ module _ (directory : Directory) (token : List ℕ) (loaded : Texts) (turns : �
     counts = counted;
     exact = λ short. λ fuel. λ enough.
         let here = gave_on directory token loaded [] fuel serves short enough in
-        let same : offers_of_run directory token loaded fuel happened ≡ here.0 = here.1 in
+        let same : offers_of_run directory token loaded fuel recorded ≡ here.0 = here.1 in
         subst (λ (offers : List Offer). Delivered directory.peers.known offers old.link.output new.link.output) (sym same) here.2;
     noninterference = λ short.
         let secret = kept directory token loaded serves short in
         (secret.0, secret.1, λ seer. λ addr. λ at. secret.2 seer addr suited.distinct_peers at);
     asks = λ short. answers directory token loaded [] serves short;
-    bound = λ short. bound_still directory.names happened old.keeper new.keeper (answers directory token loaded [] serves short);
+    bound = λ short. bound_still directory.names recorded old.keeper new.keeper (answers directory token loaded [] serves short);
     held = λ short. λ fuel. λ enough.
-        holds_all directory token loaded happened old.keeper.contents new.keeper.contents fuel (sheets directory token loaded [] fuel enough serves short);
+        holds_all directory token loaded recorded old.keeper.contents new.keeper.contents fuel (sheets directory token loaded [] fuel enough serves short);
     charges = λ short. λ fuel. λ enough.
         let rows = charged directory token loaded [] fuel serves short enough in
-        record { rows = rows; all_accepted = none_waits directory token loaded fuel happened old.keeper.faults new.keeper.faults counted rows };
+        record { rows = rows; all_accepted = none_waits directory token loaded fuel recorded old.keeper.faults new.keeper.faults counted rows };
     outcome = λ short. outcome directory token loaded [] serves short;
     participants = λ short. seats directory token loaded [] serves short;
     no_injection = λ short. clean directory token loaded [] serves short suited.home suited.no_injection;
   }
 
   -- for a run from its first event on, what was passed where memory ran out
-  gave_up_to : (happened : List EventRecord) → DeliveryAborted happened old.server old.link.output new.link.output → IsShortRun directory token loaded happened → (fuel : ℕ)
-      → IsEnough directory token loaded fuel happened → DeliveredUpToLast directory token loaded happened fuel old.link.output new.link.output
-  gave_up_to happened s short fuel enough =
+  gave_up_to : (recorded : List EventRecord) → DeliveryAborted recorded old.server old.link.output new.link.output → IsShortRun directory token loaded recorded → (fuel : ℕ)
+      → IsEnough directory token loaded fuel recorded → DeliveredUpToLast directory token loaded recorded fuel old.link.output new.link.output
+  gave_up_to recorded s short fuel enough =
       let few = subst (λ (l : List EventRecord). IsShortRun directory token loaded l) s.parts short in
       let so_far = subst (λ (l : List EventRecord). IsEnough directory token loaded fuel l) s.parts enough in
       let here = s.delivered directory token loaded [] fuel serves few so_far in
@@ -133,20 +133,20 @@ module _ (directory : Directory) (token : List ℕ) (loaded : Texts) (turns : �
   run_closed : (closed : Bool) → serve.ServeEffect turns old new (Ok closed) → HasDriveCause {T = Bool} old.link.arrival_faults new.link.arrival_faults (Ok closed)
       → HasFailedByNumber {T = Bool} new.link.calls (Ok closed) → ServesRun directory token loaded turns (beside old) (beside new) (Ok closed)
   run_closed closed s cause number =
-      serves_run (Ok closed) s.happened s.effect.receives s.read s.effect.ends cause number s.effect.keeper.counts s.delivered_all.1 s.noninterference s.effect.keeper.results
+      serves_run (Ok closed) s.recorded s.effect.receives s.read s.effect.ends cause number s.effect.keeper.counts s.delivered_all.1 s.noninterference s.effect.keeper.results
       s.effect.keeper.holds s.effect.charges s.effect.outcome s.effect.participants s.effect.no_injection
 
   run_broken : serve.ServeEffect turns old new (Err LinkFault) → HasDriveCause {T = Bool} old.link.arrival_faults new.link.arrival_faults (Err LinkFault)
       → HasFailedByNumber {T = Bool} new.link.calls (Err LinkFault) → ServesRun directory token loaded turns (beside old) (beside new) (Err LinkFault)
   run_broken s cause number =
-      serves_run (Err LinkFault) s.happened s.effect.receives s.read s.effect.ends cause number s.effect.keeper.counts s.delivered_all.1 s.noninterference s.effect.keeper.results
+      serves_run (Err LinkFault) s.recorded s.effect.receives s.read s.effect.ends cause number s.effect.keeper.counts s.delivered_all.1 s.noninterference s.effect.keeper.results
       s.effect.keeper.holds s.effect.charges s.effect.outcome s.effect.participants s.effect.no_injection
 
   -- memory ran out
   run_stopped : serve.ServeEffect turns old new (Err NoMemory) → HasDriveCause {T = Bool} old.link.arrival_faults new.link.arrival_faults (Err NoMemory)
       → AbortedServing directory token loaded turns (beside old) (beside new)
   run_stopped s cause = record {
-    happened = s.happened;
+    recorded = s.recorded;
     receives = s.effect.receives;
     read = s.read;
     ends = s.effect.ends;
@@ -154,11 +154,11 @@ module _ (directory : Directory) (token : List ℕ) (loaded : Texts) (turns : �
     arrival_faults = cause;
     lost = lost;
     delivery_faults = stands;
-    delivered = λ short. λ fuel. λ enough. gave_up_to s.happened s.delivered_all short fuel enough;
+    delivered = λ short. λ fuel. λ enough. gave_up_to s.recorded s.delivered_all short fuel enough;
     noninterference = λ short.
         let secret = s.noninterference directory token loaded serves short in
         (secret.0, secret.1, λ seer. λ addr. λ at. secret.2 seer addr suited.distinct_peers at);
-    keeper = keeper_up_to_last directory token loaded s.happened old.server serves old.keeper new.keeper s.effect.keeper s.effect.charges;
+    keeper = keeper_up_to_last directory token loaded s.recorded old.server serves old.keeper new.keeper s.effect.keeper s.effect.charges;
     outcome = λ short. s.effect.outcome directory token loaded [] serves short;
     participants = λ short. s.effect.participants directory token loaded [] serves short;
     no_injection = λ short. s.effect.no_injection directory token loaded [] serves short suited.home suited.no_injection;

@@ -38,24 +38,24 @@ handover_zero : (took : Bool) (before : ℕ) → HandoverFaults took before 0 �
 handover_zero true before counted = (refl, sym counted)
 handover_zero false before counted = absurd (rose_not before counted)
 
-each_zero : (happened : List EventRecord) (before : ℕ) → CountsEachFault happened before 0 → before ≡ 0
+each_zero : (recorded : List EventRecord) (before : ℕ) → CountsEachFault recorded before 0 → before ≡ 0
 each_zero [] before counted = sym counted
-each_zero (one ∷ happened) before counted =
-    let later = each_zero happened counted.0 counted.2 in
+each_zero (one ∷ recorded) before counted =
+    let later = each_zero recorded counted.0 counted.2 in
     let handed = handover_zero one.accepted counted.1.between (subst (λ (n : ℕ). HandoverFaults one.accepted counted.1.between n) later counted.1.handover_faults) in
     counted_zero one.outcome before (subst (λ (n : ℕ). CountsFaults one.outcome before n) handed.1 counted.1.counted)
 
 -- so the keeper accepted what waited at the end of each event
 abbrev AllAccepted : List EventRecord → Type 0
 AllAccepted [] = ⊤
-AllAccepted (one ∷ happened) = (one.accepted ≡ true) × AllAccepted happened
+AllAccepted (one ∷ recorded) = (one.accepted ≡ true) × AllAccepted recorded
 
-all_accepted : (happened : List EventRecord) (before : ℕ) → CountsEachFault happened before 0 → AllAccepted happened
+all_accepted : (recorded : List EventRecord) (before : ℕ) → CountsEachFault recorded before 0 → AllAccepted recorded
 all_accepted [] before counted = tt
-all_accepted (one ∷ happened) before counted =
-    let later = each_zero happened counted.0 counted.2 in
+all_accepted (one ∷ recorded) before counted =
+    let later = each_zero recorded counted.0 counted.2 in
     let handed = handover_zero one.accepted counted.1.between (subst (λ (n : ℕ). HandoverFaults one.accepted counted.1.between n) later counted.1.handover_faults) in
-    (handed.0, all_accepted happened counted.0 counted.2)
+    (handed.0, all_accepted recorded counted.0 counted.2)
 
 -- ---- a workload's events are datagrams
 
@@ -91,18 +91,18 @@ same_timed_event d (event.Datagram from at bytes) kept rows took is so =
 same_timed_event d (event.Web at bytes) kept rows took is so = absurd is
 same_timed_event d (event.Quiet at) kept rows took is so = absurd is
 
-same_timed_events : (d : Directory) (happened : List EventRecord) → AreDatagrams (events_in happened) → AllAccepted happened
-    → timed_events d happened ≡ timed_events d (map accepted_record (events_in happened))
+same_timed_events : (d : Directory) (recorded : List EventRecord) → AreDatagrams (events_in recorded) → AllAccepted recorded
+    → timed_events d recorded ≡ timed_events d (map accepted_record (events_in recorded))
 same_timed_events d [] are took = refl
-same_timed_events d (one ∷ happened) are took =
-    ap (λ (n : TimedEvent). n ∷ timed_events d happened) (same_timed_event d one.event one.outcome one.rows one.accepted are.0 took.0)
-    ∙ ap (λ (l : List TimedEvent). timed_event_of d (accepted_record one.event) ∷ l) (same_timed_events d happened are.1 took.1)
+same_timed_events d (one ∷ recorded) are took =
+    ap (λ (n : TimedEvent). n ∷ timed_events d recorded) (same_timed_event d one.event one.outcome one.rows one.accepted are.0 took.0)
+    ∙ ap (λ (l : List TimedEvent). timed_event_of d (accepted_record one.event) ∷ l) (same_timed_events d recorded are.1 took.1)
 
-same_timed_events_of_run : (d : Directory) (happened : List EventRecord) (events : List Event) → events_in happened ≡ events → AreDatagrams events → CountsEachFault happened 0 0
-    → timed_events d happened ≡ timed_events d (map accepted_record events)
-same_timed_events_of_run d happened events received are counted =
+same_timed_events_of_run : (d : Directory) (recorded : List EventRecord) (events : List Event) → events_in recorded ≡ events → AreDatagrams events → CountsEachFault recorded 0 0
+    → timed_events d recorded ≡ timed_events d (map accepted_record events)
+same_timed_events_of_run d recorded events received are counted =
     let these = subst (λ (l : List Event). AreDatagrams l) (sym received) are in
-    same_timed_events d happened these (all_accepted happened 0 counted) ∙ ap (λ (l : List Event). timed_events d (map accepted_record l)) received
+    same_timed_events d recorded these (all_accepted recorded 0 counted) ∙ ap (λ (l : List Event). timed_events d (map accepted_record l)) received
 
 -- ---- what follows for a run
 
@@ -112,13 +112,13 @@ rows_in (Some held) = held.rows
 
 module _ (d : Directory) (calls salt : ℕ) (held : KeeperContents) (offers : List Offer)
     (run : OffersOfRun d work_token work_records (work_events calls salt) (keeper_of empty_held) (keeper_of held) offers) where
-  same : timed_events d run.happened ≡ timed_events d (work_event_records calls salt)
-  same = same_timed_events_of_run d run.happened (work_events calls salt) run.received (datagrams_work calls salt) run.counts
+  same : timed_events d run.recorded ≡ timed_events d (work_event_records calls salt)
+  same = same_timed_events_of_run d run.recorded (work_events calls salt) run.received (datagrams_work calls salt) run.counts
 
-  enough_by : (fuel : ℕ) → IsEnough d work_token work_records fuel (work_event_records calls salt) → IsEnough d work_token work_records fuel run.happened
+  enough_by : (fuel : ℕ) → IsEnough d work_token work_records fuel (work_event_records calls salt) → IsEnough d work_token work_records fuel run.recorded
   enough_by fuel = subst (λ (l : List TimedEvent). IsEnoughAfter d work_token fuel l (initial_state work_records)) (sym same)
 
-  short_by : IsShortRun d work_token work_records (work_event_records calls salt) → IsShortRun d work_token work_records run.happened
+  short_by : IsShortRun d work_token work_records (work_event_records calls salt) → IsShortRun d work_token work_records run.recorded
   short_by =
       let P : List TimedEvent → Type 0 = λ l. (fuel : ℕ) → IsEnoughAfter d work_token fuel l (initial_state work_records) → IsShort (after_events d work_token fuel l (initial_state work_records)) in
       subst P (sym same)

@@ -17,29 +17,29 @@ use Rattle.mmtel_reports.specs.declared.reports.Report.{Report}
 use Rattle.mmtel_reports.specs.declared.reports.Report.TheVariants.{Memory, Usage}
 
 -- there is a result for the script, the exposed one where the files expose it, with which this report was made
-pub record ResultOfScript (told : Option FileStore) (old new : KeeperState) (asked : ReplayArgs) (directory : Result Directory ℕ) (outcome : Report) : Type 0 where
+pub record ResultOfScript (exposed : Option FileStore) (old new : KeeperState) (args : ReplayArgs) (directory : Result Directory ℕ) (outcome : Report) : Type 0 where
   pub script : Option (List ℕ)
-  pub exposed_script : IfSome told (λ shelf. script ≡ next_read shelf asked.script)
-  pub is_due : IsDue old new outcome (due_of_directory directory asked.token script)
+  pub exposed_script : IfSome exposed (λ store. script ≡ next_read store args.script)
+  pub is_due : IsDue old new outcome (due_of_directory directory args.token script)
 
 -- there are results for both, the exposed ones where the files expose them, with which this report was made
-pub record ResultOfReplay (told : Option FileStore) (old new : KeeperState) (asked : ReplayArgs) (outcome : Report) : Type 0 where
+pub record ResultOfReplay (exposed : Option FileStore) (old new : KeeperState) (args : ReplayArgs) (outcome : Report) : Type 0 where
   pub config : Option (List ℕ)
   pub script : Option (List ℕ)
-  pub exposed_config : IfSome told (λ shelf. config ≡ next_read shelf asked.config)
-  pub exposed_script : IfSome told (λ shelf. script ≡ next_read (with_next_call shelf) asked.script)
-  pub is_due : IsDue old new outcome (due_of_config config asked.token script)
+  pub exposed_config : IfSome exposed (λ store. config ≡ next_read store args.config)
+  pub exposed_script : IfSome exposed (λ store. script ≡ next_read (with_next_call store) args.script)
+  pub is_due : IsDue old new outcome (due_of_config config args.token script)
 
 -- there is a result for the file that is to be checked, the exposed one where the files expose it, with which this report was made, whatever the keeper is
-pub record ResultOfCheck (told : Option FileStore) (records : List ℕ) (outcome : Report) : Type 0 where
+pub record ResultOfCheck (exposed : Option FileStore) (records : List ℕ) (outcome : Report) : Type 0 where
   pub text : Option (List ℕ)
-  pub exposed_text : IfSome told (λ shelf. text ≡ next_read shelf records)
+  pub exposed_text : IfSome exposed (λ store. text ≡ next_read store records)
   pub is_due : (keeper : KeeperState) → IsDue keeper keeper outcome (due_of_records text)
 
 -- the same for the configuration of `charges`; whatever the report, the keeper holds what it held
-pub record ResultOfCharges (told : Option FileStore) (old new : KeeperState) (config : List ℕ) (outcome : Report) : Type 0 where
+pub record ResultOfCharges (exposed : Option FileStore) (old new : KeeperState) (config : List ℕ) (outcome : Report) : Type 0 where
   pub text : Option (List ℕ)
-  pub exposed_text : IfSome told (λ shelf. text ≡ next_read shelf config)
+  pub exposed_text : IfSome exposed (λ store. text ≡ next_read store config)
   pub is_due : IsDue old new outcome (due_of_charges text)
   pub held : new.contents ≡ old.contents
 
@@ -60,22 +60,22 @@ ServesConfig None token turns old new outcome = IsDue old.keeper new.keeper outc
 ServesConfig (Some config) token turns old new outcome = ServesDirectory (directory_of config) token turns old new outcome
 
 -- there is a result for the configuration of `serve`, the exposed one where the files expose it, with which this report was made
-pub record ResultOfServe (told : Option FileStore) (old new : Environment) (config token : List ℕ) (turns : ℕ) (outcome : Report) : Type 0 where
+pub record ResultOfServe (exposed : Option FileStore) (old new : Environment) (config token : List ℕ) (turns : ℕ) (outcome : Report) : Type 0 where
   pub text : Option (List ℕ)
-  pub exposed_text : IfSome told (λ shelf. text ≡ next_read shelf config)
+  pub exposed_text : IfSome exposed (λ store. text ≡ next_read store config)
   pub is_due : ServesConfig text token turns old new outcome
 
 -- the same for each command
 abbrev pub ResultOfCommand : Option FileStore → (old new : Environment) → Command → Report → Type 0
-ResultOfCommand told old new (Serve config token turns) outcome = ResultOfServe told old new config token turns outcome
-ResultOfCommand told old new (Replay asked) outcome = ResultOfReplay told old.keeper new.keeper asked outcome
-ResultOfCommand told old new (Check records) outcome = ResultOfCheck told records outcome
-ResultOfCommand told old new (Charges config) outcome = ResultOfCharges told old.keeper new.keeper config outcome
-ResultOfCommand told old new (Workload calls salt) outcome = ResultOfWorkload calls salt outcome
+ResultOfCommand exposed old new (Serve config token turns) outcome = ResultOfServe exposed old new config token turns outcome
+ResultOfCommand exposed old new (Replay args) outcome = ResultOfReplay exposed old.keeper new.keeper args outcome
+ResultOfCommand exposed old new (Check records) outcome = ResultOfCheck exposed records outcome
+ResultOfCommand exposed old new (Charges config) outcome = ResultOfCharges exposed old.keeper new.keeper config outcome
+ResultOfCommand exposed old new (Workload calls salt) outcome = ResultOfWorkload calls salt outcome
 
 abbrev pub ResultOfRun : Option FileStore → (old new : Environment) → Option Command → Report → Type 0
-ResultOfRun told old new None outcome = outcome ≡ Usage
-ResultOfRun told old new (Some command) outcome = ResultOfCommand told old new command outcome
+ResultOfRun exposed old new None outcome = outcome ≡ Usage
+ResultOfRun exposed old new (Some command) outcome = ResultOfCommand exposed old new command outcome
 
 -- the files as they expose themselves, and the link and the keeper themselves
 pub record Ports (L K : Type 0) : Type 0 where
@@ -91,7 +91,7 @@ pub record PrepareEffect {L K : Type 0} (words : List (List ℕ)) (old new : Env
   pub command : Option Command
   pub command_read : AsksFor words command
   pub result : ResultOfRun before.files old new command outcome
-  pub file_calls : IfSome before.files (λ shelf. HasReadFiles outcome now.files (files_after_first shelf command) (files_after shelf command))
+  pub file_calls : IfSome before.files (λ store. HasReadFiles outcome now.files (files_after_first store command) (files_after store command))
   pub usage : (outcome ≡ Usage) ↔ (command ≡ None)
   pub spared : SparedBy command before.keeper now.keeper
   pub unbound : UnboundBy command outcome before.link now.link

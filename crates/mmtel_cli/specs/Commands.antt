@@ -13,7 +13,7 @@ replay_args_of replay = record { config = replay.config; script = replay.script;
 
 -- the arguments of a `replay` with these parameters
 abbrev pub IsReplay : ReplayArgs → List (List ℕ) → Type 0
-IsReplay asked words = IsCommand (Replay asked) words
+IsReplay args words = IsCommand (Replay args) words
 
 -- the arguments of a `check` of this file
 abbrev pub IsCheck : List ℕ → List (List ℕ) → Type 0

@@ -85,14 +85,14 @@ files_after_config files (Some config) = files_after_directory files (directory_
 -- after the first of them, if there is one
 abbrev pub files_after_first_read : FileStore → Command → FileStore
 files_after_first_read files (Serve config token turns) = with_next_call files
-files_after_first_read files (Replay asked) = with_next_call files
+files_after_first_read files (Replay args) = with_next_call files
 files_after_first_read files (Check records) = with_next_call files
 files_after_first_read files (Charges config) = with_next_call files
 files_after_first_read files (Workload calls salt) = files
 
 abbrev pub files_after_command : FileStore → Command → FileStore
 files_after_command files (Serve config token turns) = with_next_call files
-files_after_command files (Replay asked) = files_after_config (with_next_call files) (next_read files asked.config)
+files_after_command files (Replay args) = files_after_config (with_next_call files) (next_read files args.config)
 files_after_command files (Check records) = with_next_call files
 files_after_command files (Charges config) = with_next_call files
 files_after_command files (Workload calls salt) = files

@@ -8,4 +8,4 @@ pub record Environment : Type 0 where
   pub keeper : KeeperState
 
 abbrev pub environment_of : {L K : Type 0} → Link L → L → Keeper K → K → Environment
-environment_of tells link told keeper = record { link = link_state tells link; keeper = keeper_state told keeper }
+environment_of link_ghosts link keeper_ghosts keeper = record { link = link_state link_ghosts link; keeper = keeper_state keeper_ghosts keeper }

@@ -36,29 +36,29 @@ use Rattle.mmtel_cli.specs.Serving.{IsLinked}
 -- ---- the keeper
 
 -- where memory ran out in the last of these events, or after it
-pub record KeeperUpToLast (directory : Directory) (token : List ℕ) (loaded : Texts) (happened : List EventRecord) (old new : KeeperState) : Type 0 where
+pub record KeeperUpToLast (directory : Directory) (token : List ℕ) (loaded : Texts) (recorded : List EventRecord) (old new : KeeperState) : Type 0 where
   -- the keeper was called as each event before the last asks, and for the CDRs that waited at its end, with these results; for the last one it was called for no more
   -- than that, and accepted none of its CDRs;
-  pub asks : IsShortRun directory token loaded happened → EachKeeperResultButLast directory.names happened old new
-  pub counts : CountsFaultsButLast happened old.faults new.faults
+  pub asks : IsShortRun directory token loaded recorded → EachKeeperResultButLast directory.names recorded old new
+  pub counts : CountsFaultsButLast recorded old.faults new.faults
   -- it is bound to the same path, and holds what it held with the uploads that were stored and the CDRs that it accepted;
-  pub bound : IsShortRun directory token loaded happened → IsBoundStill old.calls new.calls
-  pub held : IsShortRun directory token loaded happened → HoldsAll directory token loaded happened old.contents new.contents
+  pub bound : IsShortRun directory token loaded recorded → IsBoundStill old.calls new.calls
+  pub held : IsShortRun directory token loaded recorded → HoldsAll directory token loaded recorded old.contents new.contents
   -- these, and those that wait, are all that the calls and the participants of the run closed
-  pub charges : IsShortRun directory token loaded happened → (fuel : ℕ) → IsEnough directory token loaded fuel happened →
-      ChargesRows directory (state_after directory token loaded fuel happened) happened
+  pub charges : IsShortRun directory token loaded recorded → (fuel : ℕ) → IsEnough directory token loaded fuel recorded →
+      ChargesRows directory (state_after directory token loaded fuel recorded) recorded
 
 -- ---- for `replay`
 
 -- in the run of a script's events, of which so many came, those of web connections with the bytes that were read: each was read to its end but the last, if memory ran out in that
 pub record AbortedRun (directory : Directory) (token : List ℕ) (loaded : Texts) (events : List Event) (old new : KeeperState) : Type 0 where
-  pub happened : List EventRecord
+  pub recorded : List EventRecord
   pub reads : List ℕ
   pub last : List ℕ
-  pub received : events_in happened ≡ read_events events (reads ++ last)
+  pub received : events_in recorded ≡ read_events events (reads ++ last)
   pub one : length last ≤ 1
   pub read : EachReadOut events reads
-  pub keeper : KeeperUpToLast directory token loaded happened old new
+  pub keeper : KeeperUpToLast directory token loaded recorded old new
 
 -- over a keeper that was loaded: before the first event, in the run, or after it, in listing the outputs
 pub data AbortedListing (directory : Directory) (token : List ℕ) (loaded : Texts) (events : List Event) (old new : KeeperState) : Type 0 where
@@ -100,38 +100,38 @@ Aborts old new (due.InvalidRecord line) = new ≡ old
 -- ---- for `serve`
 
 -- of the outputs of the run with these events the link got all up to the last event, and a prefix of what the last one adds, where it exposes that
-pub record DeliveredUpToLast (directory : Directory) (token : List ℕ) (loaded : Texts) (happened : List EventRecord) (fuel : ℕ) (old new : Option LinkOutput) : Type 0 where
+pub record DeliveredUpToLast (directory : Directory) (token : List ℕ) (loaded : Texts) (recorded : List EventRecord) (fuel : ℕ) (old new : Option LinkOutput) : Type 0 where
   pub done : List EventRecord
   pub last : List EventRecord
-  pub parts : happened ≡ done ++ last
+  pub parts : recorded ≡ done ++ last
   pub one : length last ≤ 1
   pub offers : List Offer
-  pub front : IsPrefixBetween (offers_of_run directory token loaded fuel done) offers (offers_of_run directory token loaded fuel happened)
+  pub front : IsPrefixBetween (offers_of_run directory token loaded fuel done) offers (offers_of_run directory token loaded fuel recorded)
   pub delivered : Delivered directory.peers.known offers old new
 
 -- in receiving the next event, in processing an event, or in passing its outputs
 pub record AbortedServing (directory : Directory) (token : List ℕ) (loaded : Texts) (turns : ℕ) (old new : Environment) : Type 0 where
   -- these events came, one a turn; those of web connections with the bytes that were read,
-  pub happened : List EventRecord
-  pub receives : ReceivesMore old.link.input new.link.input (events_in happened)
+  pub recorded : List EventRecord
+  pub receives : ReceivesMore old.link.input new.link.input (events_in recorded)
   pub read : ReadsButLast old.link.input new.link.input old.link.output new.link.output old.link.delivery_faults new.link.delivery_faults
-  pub ends : length happened ≤ turns
+  pub ends : length recorded ≤ turns
   -- the link is bound to the same addresses, its count of arrival faults is unchanged, and something was lost only where that of delivery faults rose;
   pub listens : ListensStill old.link.calls new.link.calls
   pub arrival_faults : new.link.arrival_faults ≡ old.link.arrival_faults
   pub lost : LostNoMore old.link.output new.link.output ⊎ Rose old.link.delivery_faults new.link.delivery_faults
   pub delivery_faults : StaysOrRises old.link.delivery_faults new.link.delivery_faults
   -- it got what is due but for the end, so what was sent to the address of an untrusted peer is a prefix of that for which noninterference holds,
-  pub delivered : IsShortRun directory token loaded happened → (fuel : ℕ) → IsEnough directory token loaded fuel happened →
-      DeliveredUpToLast directory token loaded happened fuel old.link.output new.link.output
-  pub noninterference : IsShortRun directory token loaded happened → (offers : List Offer) × IsIndistinguishable directory token loaded happened offers
+  pub delivered : IsShortRun directory token loaded recorded → (fuel : ℕ) → IsEnough directory token loaded fuel recorded →
+      DeliveredUpToLast directory token loaded recorded fuel old.link.output new.link.output
+  pub noninterference : IsShortRun directory token loaded recorded → (offers : List Offer) × IsIndistinguishable directory token loaded recorded offers
       × ((seer : Peer) (addr : Addr) → addr_of seer directory.peers.known ≡ Some addr →
       (front : List (List ℕ)) × (rest : List (List ℕ)) × (front ++ rest ≡ texts_seen seer offers) × SentTo addr old.link.output new.link.output front)
   -- the same for the keeper; and each call has its outcome, each participant that left was charged once, and what was sent has no injected header fields
-  pub keeper : KeeperUpToLast directory token loaded happened old.keeper new.keeper
-  pub outcome : IsShortRun directory token loaded happened → AllCallsReachOutcome directory token loaded happened
-  pub participants : IsShortRun directory token loaded happened → ParticipantsChargedOnce directory token loaded happened
-  pub no_injection : IsShortRun directory token loaded happened → SendsNoInjection directory token loaded happened
+  pub keeper : KeeperUpToLast directory token loaded recorded old.keeper new.keeper
+  pub outcome : IsShortRun directory token loaded recorded → AllCallsReachOutcome directory token loaded recorded
+  pub participants : IsShortRun directory token loaded recorded → ParticipantsChargedOnce directory token loaded recorded
+  pub no_injection : IsShortRun directory token loaded recorded → SendsNoInjection directory token loaded recorded
 
 -- the keeper was bound to the store of the configuration, migrated, and returned these texts, and then the link was bound to its addresses
 pub record AbortedLinked (directory : Directory) (token : List ℕ) (turns : ℕ) (old new : Environment) : Type 0 where

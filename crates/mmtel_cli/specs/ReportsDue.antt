@@ -111,7 +111,7 @@ Spares (InvalidRecord line) before after = after ≡ before
 abbrev pub SparedBy : {K : Type 0} → Option Command → (before after : K) → Type 0
 SparedBy None before after = after ≡ before
 SparedBy (Some (Serve config token turns)) before after = ⊤
-SparedBy (Some (Replay asked)) before after = ⊤
+SparedBy (Some (Replay args)) before after = ⊤
 SparedBy (Some (Check records)) before after = after ≡ before
 SparedBy (Some (Charges config)) before after = ⊤
 SparedBy (Some (Workload calls salt)) before after = after ≡ before
@@ -171,7 +171,7 @@ SparesLink (InvalidRecord line) before after = after ≡ before
 abbrev pub UnboundBy : {L : Type 0} → Option Command → Report → (before after : L) → Type 0
 UnboundBy None outcome before after = after ≡ before
 UnboundBy (Some (Serve config token turns)) outcome before after = SparesLink outcome before after
-UnboundBy (Some (Replay asked)) outcome before after = after ≡ before
+UnboundBy (Some (Replay args)) outcome before after = after ≡ before
 UnboundBy (Some (Check records)) outcome before after = after ≡ before
 UnboundBy (Some (Charges config)) outcome before after = after ≡ before
 UnboundBy (Some (Workload calls salt)) outcome before after = after ≡ before
@@ -193,7 +193,7 @@ CountsLinkFaults (InvalidRecord line) before now = now ≡ before
 abbrev pub CountsLinkFaultsBy : Option Command → Report → ℕ → ℕ → Type 0
 CountsLinkFaultsBy None outcome before now = now ≡ before
 CountsLinkFaultsBy (Some (Serve config token turns)) outcome before now = CountsLinkFaults outcome before now
-CountsLinkFaultsBy (Some (Replay asked)) outcome before now = now ≡ before
+CountsLinkFaultsBy (Some (Replay args)) outcome before now = now ≡ before
 CountsLinkFaultsBy (Some (Check records)) outcome before now = now ≡ before
 CountsLinkFaultsBy (Some (Charges config)) outcome before now = now ≡ before
 CountsLinkFaultsBy (Some (Workload calls salt)) outcome before now = now ≡ before

@@ -78,11 +78,11 @@ pub record ListsReplay (directory : Directory) (token : List ℕ) (events : List
   pub branches : BranchesAreRead directory token
   -- where the run is short, each of its calls has the outcome that the precedence of services determines from how its attempts ended and from the states in which it reached each
   -- target, within the bound on diversions, and is charged so,
-  pub outcome : IsShortRun directory token loaded run.happened → AllCallsReachOutcome directory token loaded run.happened
+  pub outcome : IsShortRun directory token loaded run.recorded → AllCallsReachOutcome directory token loaded run.recorded
   -- each participant of a conference that has joined has a meter of its account, and each that has left is charged once; all CDRs are in the order of the steps,
-  pub participants : IsShortRun directory token loaded run.happened → ParticipantsChargedOnce directory token loaded run.happened
+  pub participants : IsShortRun directory token loaded run.recorded → ParticipantsChargedOnce directory token loaded run.recorded
   -- each message that was built has no injected header fields, and the texts that were sent to peers are those of these,
-  pub no_injection : IsShortRun directory token loaded run.happened → SendsNoInjection directory token loaded run.happened
+  pub no_injection : IsShortRun directory token loaded run.recorded → SendsNoInjection directory token loaded run.recorded
   -- and its listing was written: whole with status 0, and else a prefix of it with status 7
   pub wrote : WroteListing (listing_of offers) written
 
@@ -175,35 +175,35 @@ EndsOfServe (Some config) token turns old new written = EndsOfServing (directory
 -- ---- a run
 
 -- the results of reading CONFIG and SCRIPT: None where the read failed; where the files expose their contents, those of the first call and of the second
-pub record FilesRead (told : Option FileStore) (asked : ReplayArgs) : Type 0 where
+pub record FilesRead (exposed : Option FileStore) (args : ReplayArgs) : Type 0 where
   pub config : Option (List ℕ)
   pub script : Option (List ℕ)
-  pub exposed_config : IfSome told (λ shelf. config ≡ next_read shelf asked.config)
-  pub exposed_script : IfSome told (λ shelf. script ≡ next_read (with_next_call shelf) asked.script)
+  pub exposed_config : IfSome exposed (λ store. config ≡ next_read store args.config)
+  pub exposed_script : IfSome exposed (λ store. script ≡ next_read (with_next_call store) args.script)
 
 -- the arguments are a `replay`, and it ended as the contents of the files and of the keeper determine; or memory ran out, after these calls of the keeper (`Aborts`)
-pub record ReplayRun (told : Option FileStore) (old new : KeeperState) (words : List (List ℕ)) (written : WriteEffect) : Type 0 where
+pub record ReplayRun (exposed : Option FileStore) (old new : KeeperState) (words : List (List ℕ)) (written : WriteEffect) : Type 0 where
   pub args : ReplayArgs
   pub spelled : IsOnly (Replay args) words
-  pub files : FilesRead told args
+  pub files : FilesRead exposed args
   pub ends : EndsOfConfig files.config args.token files.script old new written ⊎ WroteMemory written
   pub out_of_memory : written.status ≡ 8 → Aborts old new (due_of_config files.config args.token files.script)
 
 -- the arguments are a `check`, and it ended as the result of reading RECORDS determines, which is that of the first call where the files expose it; or memory ran out
-pub record CheckRun (told : Option FileStore) (words : List (List ℕ)) (written : WriteEffect) : Type 0 where
+pub record CheckRun (exposed : Option FileStore) (words : List (List ℕ)) (written : WriteEffect) : Type 0 where
   pub records : List ℕ
   pub spelled : IsOnly (Check records) words
   pub text : Option (List ℕ)
-  pub exposed_text : IfSome told (λ shelf. text ≡ next_read shelf records)
+  pub exposed_text : IfSome exposed (λ store. text ≡ next_read store records)
   pub ends : EndsOfRecords text written ⊎ WroteMemory written
 
 -- the arguments are a `charges`, and it ended as the result of reading CONFIG, which is that of the first call where the files expose it, and the keeper's determine; or memory ran
 -- out, after these calls of the keeper; whatever the status, the keeper holds what it held
-pub record ChargesRun (told : Option FileStore) (old new : KeeperState) (words : List (List ℕ)) (written : WriteEffect) : Type 0 where
+pub record ChargesRun (exposed : Option FileStore) (old new : KeeperState) (words : List (List ℕ)) (written : WriteEffect) : Type 0 where
   pub config : List ℕ
   pub spelled : IsOnly (Charges config) words
   pub text : Option (List ℕ)
-  pub exposed_text : IfSome told (λ shelf. text ≡ next_read shelf config)
+  pub exposed_text : IfSome exposed (λ store. text ≡ next_read store config)
   pub ends : EndsOfCharges text old new written ⊎ WroteMemory written
   pub out_of_memory : written.status ≡ 8 → Aborts old new (due_of_charges text)
   pub held : new.contents ≡ old.contents
@@ -219,13 +219,13 @@ pub record WorkloadRun (words : List (List ℕ)) (written : WriteEffect) : Type 
 
 -- the arguments are a `serve`, and it ended as the result of reading CONFIG, which is that of the first call where the files expose it, and the keeper's and the link's determine;
 -- or memory ran out, with so much done before
-pub record ServeRun (told : Option FileStore) (old new : Environment) (words : List (List ℕ)) (written : WriteEffect) : Type 0 where
+pub record ServeRun (exposed : Option FileStore) (old new : Environment) (words : List (List ℕ)) (written : WriteEffect) : Type 0 where
   pub config : List ℕ
   pub token : List ℕ
   pub turns : ℕ
   pub spelled : IsOnly (Serve config token turns) words
   pub text : Option (List ℕ)
-  pub exposed_text : IfSome told (λ shelf. text ≡ next_read shelf config)
+  pub exposed_text : IfSome exposed (λ store. text ≡ next_read store config)
   pub ends : EndsOfServe text token turns old new written ⊎ WroteMemory written
   pub out_of_memory : written.status ≡ 8 → AbortsOfServe text token turns old new
 
@@ -235,14 +235,14 @@ pub record UnparsedRun (words : List (List ℕ)) (written : WriteEffect) : Type 
   pub usage : WroteUsage written
 
 -- one of these; or memory ran out in parsing the arguments, and neither the keeper nor the link was called
-pub data ProgramRun (told : Option FileStore) (old new : Environment) (words : List (List ℕ)) (written : WriteEffect) : Type 0 where
-  RanServe : ServeRun told old new words written → ProgramRun told old new words written
-  RanReplay : ReplayRun told old.keeper new.keeper words written → ProgramRun told old new words written
-  RanCheck : CheckRun told words written → ProgramRun told old new words written
-  RanCharges : ChargesRun told old.keeper new.keeper words written → ProgramRun told old new words written
-  RanWork : WorkloadRun words written → ProgramRun told old new words written
-  RanNone : UnparsedRun words written → ProgramRun told old new words written
-  RanOutOfMemoryFirst : WroteMemory written → new.keeper ≡ old.keeper → new.link ≡ old.link → ProgramRun told old new words written
+pub data ProgramRun (exposed : Option FileStore) (old new : Environment) (words : List (List ℕ)) (written : WriteEffect) : Type 0 where
+  RanServe : ServeRun exposed old new words written → ProgramRun exposed old new words written
+  RanReplay : ReplayRun exposed old.keeper new.keeper words written → ProgramRun exposed old new words written
+  RanCheck : CheckRun exposed words written → ProgramRun exposed old new words written
+  RanCharges : ChargesRun exposed old.keeper new.keeper words written → ProgramRun exposed old new words written
+  RanWork : WorkloadRun words written → ProgramRun exposed old new words written
+  RanNone : UnparsedRun words written → ProgramRun exposed old new words written
+  RanOutOfMemoryFirst : WroteMemory written → new.keeper ≡ old.keeper → new.link ≡ old.link → ProgramRun exposed old new words written
 
 -- ---- the calls of the files
 
@@ -253,13 +253,13 @@ pub record HasCalledFiles (status : ℕ) (after : Option FileStore) (none first 
 
 -- for `replay` CONFIG and then SCRIPT, each once and no other name, SCRIPT only where CONFIG exists and is valid; for `check` RECORDS, and for `serve` and `charges` CONFIG, once
 -- and no other name; none for `workload` and without a command
-pub record CallsFilesFor (shelf : FileStore) (words : List (List ℕ)) (status : ℕ) (after : Option FileStore) : Type 0 where
-  pub unparsed : SpellsNone words → after ≡ Some shelf
-  pub serve : (config token : List ℕ) (turns : ℕ) → IsServe config token turns words → HasCalledFiles status after shelf (with_next_call shelf) (with_next_call shelf)
-  pub replay : (asked : ReplayArgs) → IsReplay asked words → HasCalledFiles status after shelf (with_next_call shelf) (files_after_config (with_next_call shelf) (next_read shelf asked.config))
-  pub check : (records : List ℕ) → IsCheck records words → HasCalledFiles status after shelf (with_next_call shelf) (with_next_call shelf)
-  pub charges : (config : List ℕ) → IsCharges config words → HasCalledFiles status after shelf (with_next_call shelf) (with_next_call shelf)
-  pub workload : (calls salt : ℕ) → IsWorkload calls salt words → after ≡ Some shelf
+pub record CallsFilesFor (store : FileStore) (words : List (List ℕ)) (status : ℕ) (after : Option FileStore) : Type 0 where
+  pub unparsed : SpellsNone words → after ≡ Some store
+  pub serve : (config token : List ℕ) (turns : ℕ) → IsServe config token turns words → HasCalledFiles status after store (with_next_call store) (with_next_call store)
+  pub replay : (args : ReplayArgs) → IsReplay args words → HasCalledFiles status after store (with_next_call store) (files_after_config (with_next_call store) (next_read store args.config))
+  pub check : (records : List ℕ) → IsCheck records words → HasCalledFiles status after store (with_next_call store) (with_next_call store)
+  pub charges : (config : List ℕ) → IsCharges config words → HasCalledFiles status after store (with_next_call store) (with_next_call store)
+  pub workload : (calls salt : ℕ) → IsWorkload calls salt words → after ≡ Some store
 
 -- ---- counts of faults
 

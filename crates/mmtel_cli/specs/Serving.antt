@@ -58,10 +58,10 @@ pub record IsNotLinked (directory : Directory) (old new : LinkState) : Type 0 wh
 pub record ServesRun (directory : Directory) (token : List ℕ) (loaded : Texts) (turns : ℕ) (old new : Environment)
     (result : Result Bool DriveFault) : Type 0 where
   -- these are the events: where the link exposes its input it received exactly these further ones, one a turn, those of web connections with the bytes that were read;
-  pub happened : List EventRecord
-  pub receives : ReceivesMore old.link.input new.link.input (events_in happened)
+  pub recorded : List EventRecord
+  pub receives : ReceivesMore old.link.input new.link.input (events_in recorded)
   pub read : ReadsAll old.link new.link result
-  pub ends : EndsAfter turns new.link.input (length happened) result
+  pub ends : EndsAfter turns new.link.input (length recorded) result
   -- it is bound to the same addresses; its count of arrival faults rose at a fault alone, which, where it exposes its calls, is determined by the number of the last one; and an
   -- output was lost only where its count of delivery faults rose;
   pub listens : ListensStill old.link.calls new.link.calls
@@ -69,24 +69,24 @@ pub record ServesRun (directory : Directory) (token : List ℕ) (loaded : Texts)
   pub number : HasFailedByNumber new.link.calls result
   pub lost : LostNoMore old.link.output new.link.output ⊎ Rose old.link.delivery_faults new.link.delivery_faults
   pub delivery_faults : StaysOrRises old.link.delivery_faults new.link.delivery_faults
-  pub counts : CountsEachFault happened old.keeper.faults new.keeper.faults
+  pub counts : CountsEachFault recorded old.keeper.faults new.keeper.faults
   -- where the run is short exactly the outputs of the definitions of the run were passed to the link, each datagram for its peer's address and each reply for a web connection, in
   -- their order,
-  pub exact : IsShortRun directory token loaded happened → (fuel : ℕ) → IsEnough directory token loaded fuel happened →
-      Delivered directory.peers.known (offers_of_run directory token loaded fuel happened) old.link.output new.link.output
+  pub exact : IsShortRun directory token loaded recorded → (fuel : ℕ) → IsEnough directory token loaded fuel recorded →
+      Delivered directory.peers.known (offers_of_run directory token loaded fuel recorded) old.link.output new.link.output
   -- for what was sent to the address of an untrusted peer noninterference holds, for restricted callers (RFC 3323, RFC 3325 §7),
-  pub noninterference : IsShortRun directory token loaded happened → (offers : List Offer) × IsIndistinguishable directory token loaded happened offers
+  pub noninterference : IsShortRun directory token loaded recorded → (offers : List Offer) × IsIndistinguishable directory token loaded recorded offers
       × ((seer : Peer) (addr : Addr) → addr_of seer directory.peers.known ≡ Some addr → SentTo addr old.link.output new.link.output (texts_seen seer offers))
   -- the keeper was called as each event asks, and for the CDRs that waited at its end, and not otherwise, with these results; it is bound to the same path, and holds
   -- what it held with the uploads that were stored and the CDRs that it accepted; and the calls and the participants of the run are charged exactly,
-  pub asks : IsShortRun directory token loaded happened → EachKeeperResult directory.names happened old.keeper new.keeper
-  pub bound : IsShortRun directory token loaded happened → IsBoundStill old.keeper.calls new.keeper.calls
-  pub held : IsShortRun directory token loaded happened → HoldsAll directory token loaded happened old.keeper.contents new.keeper.contents
-  pub charges : IsShortRun directory token loaded happened → ChargesAll directory token loaded happened old.keeper.faults new.keeper.faults
+  pub asks : IsShortRun directory token loaded recorded → EachKeeperResult directory.names recorded old.keeper new.keeper
+  pub bound : IsShortRun directory token loaded recorded → IsBoundStill old.keeper.calls new.keeper.calls
+  pub held : IsShortRun directory token loaded recorded → HoldsAll directory token loaded recorded old.keeper.contents new.keeper.contents
+  pub charges : IsShortRun directory token loaded recorded → ChargesAll directory token loaded recorded old.keeper.faults new.keeper.faults
   -- and each call has its outcome, each participant that left was charged once, on its account and in the order of the steps, and the messages have no injected header fields
-  pub outcome : IsShortRun directory token loaded happened → AllCallsReachOutcome directory token loaded happened
-  pub participants : IsShortRun directory token loaded happened → ParticipantsChargedOnce directory token loaded happened
-  pub no_injection : IsShortRun directory token loaded happened → SendsNoInjection directory token loaded happened
+  pub outcome : IsShortRun directory token loaded recorded → AllCallsReachOutcome directory token loaded recorded
+  pub participants : IsShortRun directory token loaded recorded → ParticipantsChargedOnce directory token loaded recorded
+  pub no_injection : IsShortRun directory token loaded recorded → SendsNoInjection directory token loaded recorded
 
 -- the keeper was bound to the store of the configuration, migrated, and returned these texts, then the link was bound to its addresses, each once, and this is the effect of
 -- serving it

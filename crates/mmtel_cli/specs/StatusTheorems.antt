@@ -24,13 +24,13 @@ use Rattle.mmtel_cli.specs.Due.{due_of_charges, due_of_config}
 use Rattle.mmtel_cli.specs.OutOfMemory.{Aborts, AbortsOfServe}
 
 -- the arguments are a `replay` whose files exist and are of their grammars
-pub record IsReplayable (files : FileStore) (words : List (List ℕ)) (asked : ReplayArgs) (directory : Directory) (events : List Event) : Type 0 where
-  pub spelled : IsReplay asked words
+pub record IsReplayable (files : FileStore) (words : List (List ℕ)) (args : ReplayArgs) (directory : Directory) (events : List Event) : Type 0 where
+  pub spelled : IsReplay args words
   pub config : List ℕ
-  pub config_there : next_read files asked.config ≡ Some config
+  pub config_there : next_read files args.config ≡ Some config
   pub config_read : directory_of config ≡ Ok directory
   pub script : List ℕ
-  pub script_there : next_read (with_next_call files) asked.script ≡ Some script
+  pub script_there : next_read (with_next_call files) args.script ≡ Some script
   pub script_read : events_of directory.peers.known script ≡ Ok events
 
 -- the keeper can be bound, migrated and loaded: it exposes so, or its count of faults did not rise
@@ -44,22 +44,22 @@ KeeperReadsRows old new = ((calls : KeeperCalls) × (old.calls ≡ Some calls) �
 -- for these, the run was listed: exactly the outputs of the definitions, and noninterference holds; or memory ran out
 abbrev pub ReplaysAreListed : Type 0
 ReplaysAreListed =
-    (files : FileStore) (old new : Environment) (words : List (List ℕ)) (asked : ReplayArgs) (directory : Directory) (events : List Event) (written : WriteEffect) →
-    IsReplayable files words asked directory events → KeeperDoesNotFail old.keeper new.keeper → ProgramRun (Some files) old new words written →
-    ListsReplay directory asked.token events old.keeper new.keeper written ⊎ (written.status ≡ 8)
+    (files : FileStore) (old new : Environment) (words : List (List ℕ)) (args : ReplayArgs) (directory : Directory) (events : List Event) (written : WriteEffect) →
+    IsReplayable files words args directory events → KeeperDoesNotFail old.keeper new.keeper → ProgramRun (Some files) old new words written →
+    ListsReplay directory args.token events old.keeper new.keeper written ⊎ (written.status ≡ 8)
 
 -- and where the sink did not fail, the status is 0, or 8
 abbrev pub ReplaysSucceed : Type 0
 ReplaysSucceed =
-    (files : FileStore) (old new : Environment) (words : List (List ℕ)) (asked : ReplayArgs) (directory : Directory) (events : List Event) (written : WriteEffect) →
-    IsReplayable files words asked directory events → KeeperDoesNotFail old.keeper new.keeper → ProgramRun (Some files) old new words written →
+    (files : FileStore) (old new : Environment) (words : List (List ℕ)) (args : ReplayArgs) (directory : Directory) (events : List Event) (written : WriteEffect) →
+    IsReplayable files words args directory events → KeeperDoesNotFail old.keeper new.keeper → ProgramRun (Some files) old new words written →
     ¬ (Rose written.old_faults written.new_faults) → (written.status ≡ 0) ⊎ (written.status ≡ 8)
 
 -- and where the keeper exposes that it cannot be bound, migrated or loaded, the status is 6, or 8
 abbrev pub ReplaysNeedAKeeper : Type 0
 ReplaysNeedAKeeper =
-    (files : FileStore) (old new : Environment) (calls : KeeperCalls) (words : List (List ℕ)) (asked : ReplayArgs) (directory : Directory) (events : List Event) (written : WriteEffect) →
-    IsReplayable files words asked directory events → old.keeper.calls ≡ Some calls → fails_opening calls ≡ true → ProgramRun (Some files) old new words written →
+    (files : FileStore) (old new : Environment) (calls : KeeperCalls) (words : List (List ℕ)) (args : ReplayArgs) (directory : Directory) (events : List Event) (written : WriteEffect) →
+    IsReplayable files words args directory events → old.keeper.calls ≡ Some calls → fails_opening calls ≡ true → ProgramRun (Some files) old new words written →
     (written.status ≡ 6) ⊎ (written.status ≡ 8)
 
 -- the arguments are a `check` whose file exists, with this text
@@ -138,8 +138,8 @@ pub record ListsOne (old new : KeeperState) (words : List (List ℕ)) (written :
 -- a statement on each run
 abbrev pub OfEachRun : ((old new : Environment) → List (List ℕ) → WriteEffect → Type 0) → Type 0
 OfEachRun P =
-    (told : Option FileStore) (old new : Environment) (words : List (List ℕ)) (written : WriteEffect) →
-    ProgramRun told old new words written → P old new words written
+    (exposed : Option FileStore) (old new : Environment) (words : List (List ℕ)) (written : WriteEffect) →
+    ProgramRun exposed old new words written → P old new words written
 
 -- a check of a service record, and `ok` was written, whether or not the files expose their contents
 pub record ChecksOne (words : List (List ℕ)) (written : WriteEffect) : Type 0 where

@@ -20,7 +20,7 @@ use std::alloc::Global;
 
 /// Binds a keeper to the store of that name, and reads the CDRs that it holds there.
 fn read_rows<K: Keeper>(alloc: Global, keeper: &mut K, store: &[u8]) -> Result<List<Row>, KeepFault>
-    ensures given { IfOk result (λ rows.
+    ensures rows { IfOk result (λ rows.
         ReadsRows store.now rows (keeper_state K.Keeper keeper.old) (keeper_state K.Keeper keeper.new)) }
     ensures failed { IsErrOf result fault.Failed →
         ReadsNoRows store.now (keeper_state K.Keeper keeper.old) (keeper_state K.Keeper keeper.new) }
@@ -92,7 +92,7 @@ pub fn over_charges<F: Files, K: Keeper>(
         config.now result }
     ensures calls { IfSome (F.contents files.old) (λ shelf. F.contents files.new ≡ Some (with_next_call shelf)) }
     ensures count { CountsFileFaults result (F.faults files.old) (F.faults files.new) }
-    ensures asked { result ≢ Report.Usage }
+    ensures not_usage { result ≢ Report.Usage }
     ensures spares { Spares result keeper.old keeper.new }
 {
     match files.read(alloc, config) {

@@ -32,7 +32,7 @@ pub fn over_records<F: Files>(alloc: Global, records: &[u8], files: &mut F) -> R
     ensures gives { ResultOfCheck (F.contents files.old) records.now result }
     ensures calls { IfSome (F.contents files.old) (λ shelf. F.contents files.new ≡ Some (with_next_call shelf)) }
     ensures count { CountsFileFaults result (F.faults files.old) (F.faults files.new) }
-    ensures asked { result ≢ Report.Usage }
+    ensures not_usage { result ≢ Report.Usage }
 {
     match files.read(alloc, records) {
         Ok(text) => over_text(alloc, &text),

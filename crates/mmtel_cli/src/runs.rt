@@ -53,7 +53,7 @@ fn drive_over<L: Link, K: Keeper, C: Ledger>(
     steps: &mut Steps<C>,
 ) -> Result<(), NoMemory>
     requires unfailing { NeverFails L.arrival_faults L.delivery_faults }
-    requires unheard { HasNoArrivals events (L.input link.old) }
+    requires no_arrivals { HasNoArrivals events (L.input link.old) }
     ensures run { OnOk result ((directory : Directory) (token : List ℕ) (loaded : Texts) →
         RanFromStart directory token loaded [] [] server.old out.old →
         OffersOfAllEvents (L.input link.old) directory token loaded
@@ -86,7 +86,7 @@ pub fn run_offers<L: Link, K: Keeper, C: Ledger>(
 ) -> Result<List<Offer>, NoMemory>
     requires bounded { directory.bound ≤ 16 }
     requires unfailing { NeverFails L.arrival_faults L.delivery_faults }
-    requires unheard { HasNoArrivals events (L.input link.old) }
+    requires no_arrivals { HasNoArrivals events (L.input link.old) }
     ensures run { IfOk result (OffersOfAllEvents (L.input link.old) directory token.now loaded.now
         (keeper_state K.Keeper keeper.old) (keeper_state K.Keeper keeper.new)) }
     ensures stopped { OnErr result ((keeper_state K.Keeper keeper.new ≡ keeper_state K.Keeper keeper.old)
@@ -119,7 +119,7 @@ fn list_loaded_run<K: Keeper, C: Ledger>(
     steps: &mut Steps<C>,
 ) -> Result<Text, NoMemory>
     requires bounded { directory.bound ≤ 16 }
-    requires unheard { script.old ≡ initial_input script.old.events }
+    requires no_arrivals { script.old ≡ initial_input script.old.events }
     ensures lists { IfOk result (ListsOver directory token.now loaded.now script.old.events
         (keeper_state K.Keeper keeper.old) (keeper_state K.Keeper keeper.new)) }
     ensures stopped { OnErr result (AbortedListing directory token.now loaded.now script.old.events
@@ -147,7 +147,7 @@ pub fn list_run<K: Keeper, C: Ledger>(
     steps: &mut Steps<C>,
 ) -> Result<Text, KeepFault>
     requires bounded { directory.bound ≤ 16 }
-    requires unheard { script.old ≡ initial_input script.old.events }
+    requires no_arrivals { script.old ≡ initial_input script.old.events }
     ensures lists { IfOk result (Lists directory token.now script.old.events
         (keeper_state K.Keeper keeper.old) (keeper_state K.Keeper keeper.new)) }
     ensures failed { IsErrOf result fault.Failed →

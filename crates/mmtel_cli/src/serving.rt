@@ -206,7 +206,7 @@ pub fn over_serve<F: Files, L: Link, K: Keeper, C: Ledger>(
         command.config command.token command.turns result }
     ensures calls { IfSome (F.contents files.old) (λ shelf. F.contents files.new ≡ Some (with_next_call shelf)) }
     ensures count { CountsFileFaults result (F.faults files.old) (F.faults files.new) }
-    ensures asked { result ≢ Report.Usage }
+    ensures not_usage { result ≢ Report.Usage }
     ensures spares { Spares result keeper.old keeper.new }
     ensures spares_link { SparesLink result link.old link.new }
     ensures arrival_faults { CountsLinkFaults result (L.arrival_faults link.old) (L.arrival_faults link.new) }

@@ -53,7 +53,7 @@ fn over_events<K: Keeper, C: Ledger>(
     steps: &mut Steps<C>,
 ) -> Report
     requires bounded { directory.bound ≤ 16 }
-    requires unheard { script.old ≡ initial_input script.old.events }
+    requires no_arrivals { script.old ≡ initial_input script.old.events }
     ensures due { IsDue (keeper_state K.Keeper keeper.old) (keeper_state K.Keeper keeper.new)
         result (due_of_events directory token.now (Ok script.old.events)) }
     ensures read { IsRead result }
@@ -112,7 +112,7 @@ fn over_directory<F: Files, K: Keeper, C: Ledger>(
         (replay_args_of replay) (Ok directory) result }
     ensures calls { IfSome (F.contents files.old) (λ shelf. F.contents files.new ≡ Some (with_next_call shelf)) }
     ensures count { CountsFileFaults result (F.faults files.old) (F.faults files.new) }
-    ensures asked { result ≢ Report.Usage }
+    ensures not_usage { result ≢ Report.Usage }
     ensures spares { Spares result keeper.old keeper.new }
 {
     match files.read(alloc, replay.script.bytes()) {
@@ -156,7 +156,7 @@ fn over_config<F: Files, K: Keeper, C: Ledger>(
     ensures calls { IfSome (F.contents files.old)
         (λ shelf. HasReadFiles result (F.contents files.new) shelf (files_after_directory shelf (directory_of config.now))) }
     ensures count { CountsFileFaults result (F.faults files.old) (F.faults files.new) }
-    ensures asked { result ≢ Report.Usage }
+    ensures not_usage { result ≢ Report.Usage }
     ensures spares { Spares result keeper.old keeper.new }
 {
     match read_directory(alloc, config.bytes()) {
@@ -185,7 +185,7 @@ fn over_replay<F: Files, K: Keeper, C: Ledger>(
     ensures calls { IfSome (F.contents files.old)
         (λ shelf. HasReadFiles result (F.contents files.new) (with_next_call shelf) (files_after_command shelf (line.Replay (replay_args_of replay)))) }
     ensures count { CountsFileFaults result (F.faults files.old) (F.faults files.new) }
-    ensures asked { result ≢ Report.Usage }
+    ensures not_usage { result ≢ Report.Usage }
     ensures spares { Spares result keeper.old keeper.new }
 {
     match files.read(alloc, replay.config.bytes()) {
@@ -220,7 +220,7 @@ fn over_command<F: Files, L: Link, K: Keeper, C: Ledger>(
     ensures calls { IfSome (F.contents files.old) (λ shelf. HasReadFiles result (F.contents files.new)
         (files_after_first_read shelf (command_in command)) (files_after_command shelf (command_in command))) }
     ensures count { CountsFileFaults result (F.faults files.old) (F.faults files.new) }
-    ensures asked { result ≢ Report.Usage }
+    ensures not_usage { result ≢ Report.Usage }
     ensures spares { Spares result keeper.old keeper.new }
     ensures spared { SparedBy (Some (command_in command)) keeper.old keeper.new }
     ensures unbound { UnboundBy (Some (command_in command)) result link.old link.new }
@@ -231,7 +231,7 @@ fn over_command<F: Files, L: Link, K: Keeper, C: Ledger>(
         WantedCommand::Check(records) => over_records(alloc, records.bytes(), files),
         WantedCommand::Charges(config) => over_charges(alloc, config.bytes(), files, keeper),
         WantedCommand::Workload { calls, salt } => over_workload(alloc, calls, salt, steps),
-        WantedCommand::Serve(asked) => over_serve(alloc, asked, files, link, keeper, steps),
+        WantedCommand::Serve(args) => over_serve(alloc, args, files, link, keeper, steps),
     }
 }
 
@@ -255,7 +255,14 @@ fn prepare<F: Files, L: Link, K: Keeper, C: Ledger>(
 {
     let mut steps: Steps<C> = Steps::new(blank);
     match command(alloc, words) {
-        Ok(Some(wanted)) => over_command(alloc, wanted, files, link, keeper, &mut steps),
+        Ok(Some(command_read)) => over_command(
+            alloc,
+            command_read,
+            files,
+            link,
+            keeper,
+            &mut steps,
+        ),
         Ok(None) => Report::Usage,
         Err(NoMemory) => Report::Memory,
     }

@@ -51,7 +51,7 @@ fn workload_offers<C: Ledger>(
     steps: &mut Steps<C>,
 ) -> Result<List<Offer>, NoMemory>
     requires bounded { directory.bound ≤ 16 }
-    requires unheard { work.old ≡ initial_input work.old.events }
+    requires no_arrivals { work.old ≡ initial_input work.old.events }
     ensures run { IfOk result (OffersOfRun directory work_token work_records work.old.events
         (keeper_of keeper.old) (keeper_of keeper.new)) }
 {

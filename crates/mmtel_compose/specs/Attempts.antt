@@ -42,16 +42,16 @@ diverted_destination peer routes target cause =
 
 -- before its INVITE is sent
 abbrev pub dialogue_to : Destination → (call_id tag from : List ℕ) → Dialogue
-dialogue_to aim call_id tag from = record {
+dialogue_to destination call_id tag from = record {
   side = Callee;
-  peer = aim.peer;
+  peer = destination.peer;
   call_id = call_id;
   local = from;
-  remote = aim.to;
+  remote = destination.to;
   local_tag = tag;
   remote_tag = [];
-  target = aim.uri;
-  routes = aim.routes;
+  target = destination.uri;
+  routes = destination.routes;
   local_cseq = 0;
   remote_cseq = None;
   invite_cseq = None;

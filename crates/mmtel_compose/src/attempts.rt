@@ -59,7 +59,7 @@ pub fn first_destination(
     routes: &[Text],
     opening: &ReceivedMessage,
 ) -> Result<Destination, NoMemory>
-    ensures aim { IfOk result (λ aim. aim ≡ first_destination peer routes.now opening.now.parsed) }
+    ensures destination { IfOk result (λ destination. destination ≡ first_destination peer routes.now opening.now.parsed) }
 {
     let uri = Text::of(alloc, request_uri(opening.message.start()))?;
     let to = without_params(alloc, to_value(opening))?;
@@ -100,7 +100,7 @@ pub fn diverted_destination(
     target: &Uri,
     cause: u16,
 ) -> Result<Destination, NoMemory>
-    ensures aim { IfOk result (λ aim. aim ≡ diverted_destination peer routes.now target.now cause) }
+    ensures destination { IfOk result (λ destination. destination ≡ diverted_destination peer routes.now target.now cause) }
 {
     let target = print_uri(alloc, target)?;
     let uri = with_cause(alloc, target.bytes(), cause)?;

@@ -92,7 +92,7 @@ pub fn masked_requests_get_one_response()
 /// For two INVITEs of equal masks, with lists of History-Info that are equal when masked, the INVITE of an attempt towards an untrusted peer is the same where the caller is
 /// restricted: its dialog, each line and the body.
 pub fn attempts_hide_their_caller()
-    ensures aim { (restricts : Restriction) (accounts others : List AccountIdentity) (m n : ParsedMessage) (peer : Peer) (routes : List (List ℕ)) →
+    ensures destination { (restricts : Restriction) (accounts others : List AccountIdentity) (m n : ParsedMessage) (peer : Peer) (routes : List (List ℕ)) →
         mask restricts accounts m ≡ mask restricts others n → first_destination peer routes m ≡ first_destination peer routes n }
     ensures dialog { (aim : Destination) (call_id tag : List ℕ) (m n : ParsedMessage) →
         dialogue_to aim call_id tag (attempt_from true tag m.lines) ≡ dialogue_to aim call_id tag (attempt_from true tag n.lines) }

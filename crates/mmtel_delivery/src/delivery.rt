@@ -27,7 +27,7 @@ fn deliver<L: Link>(
     link: &mut L,
     offer: &Offer,
 ) -> Result<(), NoMemory>
-    ensures gave { OnOk result (Delivered peers.now.known (offer.now ∷ []) (L.given link.old) (L.given link.new)) }
+    ensures delivered { OnOk result (Delivered peers.now.known (offer.now ∷ []) (L.given link.old) (L.given link.new)) }
     ensures none { OnErr result (L.given link.new ≡ L.given link.old) }
     ensures lost { LostOnlyWhereRose (L.given link.old) (L.given link.new) (L.delivery_faults link.old) (L.delivery_faults link.new) }
     ensures counted { RoseBy (new_losses (L.given link.old) (L.given link.new)) (L.delivery_faults link.old) (L.delivery_faults link.new) }
@@ -55,7 +55,7 @@ pub fn deliver_each<L: Link>(
     link: &mut L,
     offers: &[Offer],
 ) -> Result<(), NoMemory>
-    ensures gave { DeliveredAll peers.now.known offers.now (L.given link.old) (L.given link.new) result }
+    ensures delivered { DeliveredAll peers.now.known offers.now (L.given link.old) (L.given link.new) result }
     ensures lost { LostOnlyWhereRose (L.given link.old) (L.given link.new) (L.delivery_faults link.old) (L.delivery_faults link.new) }
     ensures counted { RoseBy (new_losses (L.given link.old) (L.given link.new)) (L.delivery_faults link.old) (L.delivery_faults link.new) }
     ensures received { L.input link.new ≡ L.input link.old }

@@ -329,17 +329,17 @@ store_in _ = []
 
 -- the peers and routes that lines name, in their order
 abbrev pub table_of : List Line → Peers
-table_of said = record { known = flat_map peer_in said; routes = flat_map route_in said }
+table_of lines = record { known = flat_map peer_in lines; routes = flat_map route_in lines }
 
 -- ---- which line may follow which
 
 -- no line sets it yet
 abbrev pub is_unset : {A : Type 0} → (Line → List A) → List Line → Bool
-is_unset part said = length (flat_map part said) == 0
+is_unset part lines = length (flat_map part lines) == 0
 
 -- a line sets it
 abbrev pub is_set : {A : Type 0} → (Line → List A) → List Line → Bool
-is_set part said = not (is_unset part said)
+is_set part lines = not (is_unset part lines)
 
 -- there is such an account: it has an identity
 abbrev pub is_account : List AccountIdentity → Account → Bool
@@ -353,30 +353,30 @@ are_new identities (one ∷ more) = not (has_identity one.uri identities) && are
 -- whether a line may follow directly after these: a peer of a new number and a new address; a route of a new name to a peer that is named above, with at most 4,096 routes; an
 -- account of a new number and of identities that no other line has, with at most 10,000 accounts; each extension once, and each other kind
 abbrev pub may_follow : List Line → Line → Bool
-may_follow said line.Comment = true
-may_follow said (line.Sip addr) = is_unset sip_in said
-may_follow said (line.Web addr) = is_unset web_in said
-may_follow said (line.Home name) = is_unset home_in said
-may_follow said (line.Peer peer) = not (has_number peer.peer (flat_map peer_in said)) && not (has_addr peer.addr (flat_map peer_in said))
-may_follow said (line.Route route) =
-    nat_lt (length (flat_map route_in said)) 4096 && not (has_name route.name (flat_map route_in said)) && has_number route.peer (flat_map peer_in said)
-may_follow said (line.Account account uris) =
-    nat_lt (length (flat_map account_in said)) 10000 && not (is_account (flat_map identities_in said) account) && are_new (flat_map identities_in said) (entries_of account uris)
-may_follow said (line.Operator uri) = is_unset operator_in said
-may_follow said (line.Factory uri) = is_unset factory_in said
-may_follow said (line.Bound n) = is_unset bound_in said
-may_follow said (line.Country digits) = is_unset country_in said
-may_follow said (line.Extension extension.Reliable) = is_unset reliable_in said
-may_follow said (line.Extension extension.Timer) = is_unset timer_in said
-may_follow said (line.Extension extension.Mwi) = is_unset mwi_in said
-may_follow said (line.Mixer mixer) = is_unset mixer_in said
-may_follow said (line.Store name) = is_unset store_in said
+may_follow lines line.Comment = true
+may_follow lines (line.Sip addr) = is_unset sip_in lines
+may_follow lines (line.Web addr) = is_unset web_in lines
+may_follow lines (line.Home name) = is_unset home_in lines
+may_follow lines (line.Peer peer) = not (has_number peer.peer (flat_map peer_in lines)) && not (has_addr peer.addr (flat_map peer_in lines))
+may_follow lines (line.Route route) =
+    nat_lt (length (flat_map route_in lines)) 4096 && not (has_name route.name (flat_map route_in lines)) && has_number route.peer (flat_map peer_in lines)
+may_follow lines (line.Account account uris) =
+    nat_lt (length (flat_map account_in lines)) 10000 && not (is_account (flat_map identities_in lines) account) && are_new (flat_map identities_in lines) (entries_of account uris)
+may_follow lines (line.Operator uri) = is_unset operator_in lines
+may_follow lines (line.Factory uri) = is_unset factory_in lines
+may_follow lines (line.Bound n) = is_unset bound_in lines
+may_follow lines (line.Country digits) = is_unset country_in lines
+may_follow lines (line.Extension extension.Reliable) = is_unset reliable_in lines
+may_follow lines (line.Extension extension.Timer) = is_unset timer_in lines
+may_follow lines (line.Extension extension.Mwi) = is_unset mwi_in lines
+may_follow lines (line.Mixer mixer) = is_unset mixer_in lines
+may_follow lines (line.Store name) = is_unset store_in lines
 
 -- the content of the next line, where it breaks no rule
 abbrev pub next_config_line : List Line → List ℕ → Option Line
-next_config_line said text = do
+next_config_line lines text = do
   line ← line_of text
-  if may_follow said line then Some line else None
+  if may_follow lines line then Some line else None
 
 -- ---- configurations
 
@@ -399,33 +399,33 @@ first_of (x ∷ xs) = Some x
 
 -- the value that the lines set, where one does
 abbrev pub first_value : {A : Type 0} → (Line → List A) → List Line → Option A
-first_value part said = first_of (flat_map part said)
+first_value part lines = first_of (flat_map part lines)
 
 -- the directory of a server with this address and this home domain
 abbrev pub directory_with : Addr → List ℕ → List Line → Directory
-directory_with sip home said = record {
+directory_with sip home lines = record {
   sip = sip;
-  web = unwrap_or (first_value web_in said) default_web;
+  web = unwrap_or (first_value web_in lines) default_web;
   home = home;
-  peers = table_of said;
-  names = record { accounts = flat_map identities_in said; operator = first_value operator_in said; mwi = is_set mwi_in said };
-  factory = first_value factory_in said;
-  bound = unwrap_or (first_value bound_in said) default_bound;
-  country = first_value country_in said;
-  reliable = is_set reliable_in said;
-  timer = is_set timer_in said;
-  mixer = unwrap_or (first_value mixer_in said) default_mixer;
-  store = unwrap_or (first_value store_in said) default_store;
+  peers = table_of lines;
+  names = record { accounts = flat_map identities_in lines; operator = first_value operator_in lines; mwi = is_set mwi_in lines };
+  factory = first_value factory_in lines;
+  bound = unwrap_or (first_value bound_in lines) default_bound;
+  country = first_value country_in lines;
+  reliable = is_set reliable_in lines;
+  timer = is_set timer_in lines;
+  mixer = unwrap_or (first_value mixer_in lines) default_mixer;
+  store = unwrap_or (first_value store_in lines) default_store;
 }
 
 abbrev pub directory_by : ℕ → Option Addr → Option (List ℕ) → List Line → Result Directory ℕ
-directory_by last None home said = Err last
-directory_by last (Some sip) None said = Err last
-directory_by last (Some sip) (Some home) said = Ok (directory_with sip home said)
+directory_by last None home lines = Err last
+directory_by last (Some sip) None lines = Err last
+directory_by last (Some sip) (Some home) lines = Ok (directory_with sip home lines)
 
 -- the directory of lines with this content, `last` being the number after that of the last: `sip` and `home` are required
 abbrev pub directory_from : ℕ → Result (List Line) ℕ → Result Directory ℕ
-directory_from last (Ok said) = directory_by last (first_value sip_in said) (first_value home_in said) said
+directory_from last (Ok lines) = directory_by last (first_value sip_in lines) (first_value home_in lines) lines
 directory_from last (Err number) = Err number
 
 -- the directory of a text, or the number, from 1, of the first line that breaks the grammar: one past the last where a required line is absent

@@ -28,8 +28,8 @@ and_then number None more = Err number
 -- the contents of lines, each read after those of the lines before it, or the number of the first that may not follow there; the lines begin at this number, after lines with these
 -- contents
 abbrev pub lines_by : {L : Type 0} → (List L → List ℕ → Option L) → ℕ → List L → List (List ℕ) → Result (List L) ℕ
-lines_by read number said [] = Ok said
-lines_by read number said (text ∷ texts) = and_then number (read said text) (λ line. lines_by read (number + 1) (said ++ line ∷ []) texts)
+lines_by read number lines [] = Ok lines
+lines_by read number lines (text ∷ texts) = and_then number (read lines text) (λ line. lines_by read (number + 1) (lines ++ line ∷ []) texts)
 
 -- the words of a line, which are separated by one space
 unfoldable pub words_of : List ℕ → List (List ℕ)

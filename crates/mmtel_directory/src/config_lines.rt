@@ -202,7 +202,7 @@ fn web_line(rest: &[u8]) -> Option<Line>
 }
 
 fn home_line(alloc: Global, rest: &[u8]) -> Result<Option<Line>, NoMemory>
-    ensures { IfOk result (λ said. said ≡ home_line rest.now) }
+    ensures { IfOk result (λ line. line ≡ home_line rest.now) }
 {
     if !is_host(rest) {
         return Ok(None);
@@ -239,7 +239,7 @@ fn route_words(rest: &[u8]) -> Option<(&[u8], Peer)>
 }
 
 fn route_line(alloc: Global, rest: &[u8]) -> Result<Option<Line>, NoMemory>
-    ensures { IfOk result (λ said. said ≡ route_line rest.now) }
+    ensures { IfOk result (λ line. line ≡ route_line rest.now) }
 {
     match route_words(rest) {
         None => Ok(None),
@@ -314,7 +314,7 @@ fn account_words(rest: &[u8]) -> Option<(Account, &[u8])>
 }
 
 fn account_line(alloc: Global, rest: &[u8]) -> Result<Option<Line>, NoMemory>
-    ensures { IfOk result (λ said. said ≡ account_line rest.now) }
+    ensures { IfOk result (λ line. line ≡ account_line rest.now) }
 {
     match account_words(rest) {
         None => Ok(None),
@@ -329,7 +329,7 @@ fn account_line(alloc: Global, rest: &[u8]) -> Result<Option<Line>, NoMemory>
 }
 
 fn operator_line(alloc: Global, rest: &[u8]) -> Result<Option<Line>, NoMemory>
-    ensures { IfOk result (λ said. said ≡ operator_line rest.now) }
+    ensures { IfOk result (λ line. line ≡ operator_line rest.now) }
 {
     match readable_uri(alloc, rest)? {
         None => Ok(None),
@@ -338,7 +338,7 @@ fn operator_line(alloc: Global, rest: &[u8]) -> Result<Option<Line>, NoMemory>
 }
 
 fn factory_line(alloc: Global, rest: &[u8]) -> Result<Option<Line>, NoMemory>
-    ensures { IfOk result (λ said. said ≡ factory_line rest.now) }
+    ensures { IfOk result (λ line. line ≡ factory_line rest.now) }
 {
     match readable_uri(alloc, rest)? {
         None => Ok(None),
@@ -360,7 +360,7 @@ fn is_country(bytes: &[u8]) -> bool
 }
 
 fn country_line(alloc: Global, rest: &[u8]) -> Result<Option<Line>, NoMemory>
-    ensures { IfOk result (λ said. said ≡ country_line rest.now) }
+    ensures { IfOk result (λ line. line ≡ country_line rest.now) }
 {
     if !is_country(rest) {
         return Ok(None);
@@ -414,7 +414,7 @@ fn is_store_name(bytes: &[u8]) -> bool
 }
 
 fn store_line(alloc: Global, rest: &[u8]) -> Result<Option<Line>, NoMemory>
-    ensures { IfOk result (λ said. said ≡ store_line rest.now) }
+    ensures { IfOk result (λ line. line ≡ store_line rest.now) }
 {
     if !is_store_name(rest) {
         return Ok(None);
@@ -423,7 +423,7 @@ fn store_line(alloc: Global, rest: &[u8]) -> Result<Option<Line>, NoMemory>
 }
 
 fn line_of_kind(alloc: Global, kind: LineKind, rest: &[u8]) -> Result<Option<Line>, NoMemory>
-    ensures { IfOk result (λ said. said ≡ line_of_kind kind rest.now) }
+    ensures { IfOk result (λ line. line ≡ line_of_kind kind rest.now) }
 {
     match kind {
         LineKind::Sip => Ok(sip_line(rest)),
@@ -453,7 +453,7 @@ fn kind_and_rest(text: &[u8]) -> Option<(LineKind, &[u8])>
 /// The content of a line; None where it is of no form of the grammar.
 #[tactic(auto, unfolding(crate::specs::Directory::line_of))]
 pub fn read_line(alloc: Global, text: &[u8]) -> Result<Option<Line>, NoMemory>
-    ensures { IfOk result (λ said. said ≡ line_of text.now) }
+    ensures { IfOk result (λ line. line ≡ line_of text.now) }
 {
     if is_comment(text) {
         return Ok(Some(Line::Comment));

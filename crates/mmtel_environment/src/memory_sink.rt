@@ -90,10 +90,10 @@ impl Sink for MemorySink {
         ensures bound { IfOk result (λ count. count ≤ length bytes.now) }
         ensures progress { IfOk result (λ count. count ≡ 0 → bytes.now ≡ []) }
         ensures empty { bytes.now ≡ [] → result ≡ Ok 0 }
-        ensures taken { WriteAppends (Some self.old.written) (Some self.new.written) result bytes.now }
+        ensures appended { WriteAppends (Some self.old.written) (Some self.new.written) result bytes.now }
         ensures cause { HasCause self.old.faults self.new.faults result }
         ensures exact { WritesAs (next_write self.old bytes.now) result }
-        ensures left { self.new ≡ sink_after self.old bytes.now }
+        ensures sink { self.new ≡ sink_after self.old bytes.now }
     {
         if bytes.is_empty() {
             return Ok(0);

@@ -23,7 +23,7 @@ pub trait Sink {
         ensures bound { IfOk result (λ count. count ≤ length bytes.now) }
         ensures progress { IfOk result (λ count. count ≡ 0 → bytes.now ≡ []) }
         ensures empty { bytes.now ≡ [] → result ≡ Ok 0 }
-        ensures taken { WriteAppends (written self.old) (written self.new) result bytes.now }
+        ensures appended { WriteAppends (written self.old) (written self.new) result bytes.now }
         ensures cause { HasCause (faults self.old) (faults self.new) result };
 }
 

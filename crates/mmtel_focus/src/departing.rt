@@ -27,7 +27,7 @@ impl Conference {
     /// The participant at this place leaves, where it is connected; returns its CDR.
     fn leave_at(&mut self, place: usize, now: Moment) -> Option<Row>
         requires { place < length self.old.participants }
-        ensures room { self.new ≡ conference_without_at place (slice_get self.old.participants place) self.old }
+        ensures conference { self.new ≡ conference_without_at place (slice_get self.old.participants place) self.old }
         ensures row { result ≡ row_of_participant now (slice_get self.old.participants place) }
     {
         if !self.participants[place].is_connected() {
@@ -39,7 +39,7 @@ impl Conference {
 
     /// The participant of this number leaves, where it is connected; returns its CDR.
     pub fn leave(&mut self, seat: u64, now: Moment) -> Option<Row>
-        ensures room { self.new ≡ conference_without_seat seat self.old }
+        ensures conference { self.new ≡ conference_without_seat seat self.old }
         ensures row { result ≡ row_in now (place_of seat self.old.participants) self.old.participants }
     {
         match seats::place_of(&self.participants, seat) {

@@ -47,7 +47,7 @@ impl Conference {
         effects: &mut Effects,
     ) -> Result<(), NoMemory>
         requires { place < length self.old.participants }
-        ensures room { OnOk result (self.new
+        ensures conference { OnOk result (self.new
             ≡ (at_participant (step_of_participant step.now.config step.now.at (signal_of_borrowed signal.entry)) place (in_step self.old effects.old)).conference) }
         ensures effects { OnOk result (effects.new
             ≡ (at_participant (step_of_participant step.now.config step.now.at (signal_of_borrowed signal.entry)) place (in_step self.old effects.old)).effects) }
@@ -74,7 +74,7 @@ impl Conference {
         effects: &mut Effects,
     ) -> Result<(), NoMemory>
         requires { (n : ℕ) → place ≡ Some n → n < length self.old.participants }
-        ensures room { OnOk result (self.new
+        ensures conference { OnOk result (self.new
             ≡ (at_place (step_of_participant step.now.config step.now.at (signal_of_borrowed signal.entry)) place (in_step self.old effects.old)).conference) }
         ensures effects { OnOk result (effects.new
             ≡ (at_place (step_of_participant step.now.config step.now.at (signal_of_borrowed signal.entry)) place (in_step self.old effects.old)).effects) }
@@ -97,7 +97,7 @@ fn step_at(
     effects: &mut Effects,
 ) -> Result<(), NoMemory>
     requires place { place < length live.old.items }
-    requires seat { (room : Conference) → slice_get live.old.items place ≡ Some room →
+    requires participant { (room : Conference) → slice_get live.old.items place ≡ Some room →
         (n : ℕ) → seat ≡ Some n → n < length room.participants }
     ensures live { OnOk result (live.new ≡ record live.old {
       items = (step_result_at (at_place (step_of_participant step.now.config step.now.at (signal_of_borrowed signal.entry)) seat)

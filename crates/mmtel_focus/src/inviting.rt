@@ -18,7 +18,7 @@ impl Conference {
         code: u16,
         effects: &mut Effects,
     ) -> Result<(), NoMemory>
-        ensures room { OnOk result (self.new
+        ensures conference { OnOk result (self.new
             ≡ (after_failure_notify step.now.config by code (in_step self.old effects.old)).conference) }
         ensures effects { OnOk result (effects.new
             ≡ (after_failure_notify step.now.config by code (in_step self.old effects.old)).effects) }
@@ -37,7 +37,7 @@ impl Conference {
         uri: &mut Option<Uri>,
         effects: &mut Effects,
     ) -> Result<(), NoMemory>
-        ensures room { OnOk result (self.new
+        ensures conference { OnOk result (self.new
             ≡ (after_refer step.now.config step.now.at by uri.old (in_step self.old effects.old)).conference) }
         ensures effects { OnOk result (effects.new
             ≡ (after_refer step.now.config step.now.at by uri.old (in_step self.old effects.old)).effects) }

@@ -275,7 +275,7 @@ impl Conference {
     ) -> Result<(), Released>
         requires unmetered { (released_leg entrant.leg).meter ≡ None }
         requires audio { offers_audio invite.now.parsed.body ≡ true }
-        ensures room { OnOk result (self.new
+        ensures conference { OnOk result (self.new
             ≡ (after_join step.now.config step.now.at entrant.leg entrant.account key invite.now (in_step self.old effects.old)).conference) }
         ensures effects { OnOk result (effects.new
             ≡ (after_join step.now.config step.now.at entrant.leg entrant.account key invite.now (in_step self.old effects.old)).effects) }
@@ -313,7 +313,7 @@ impl Conference {
         effects: &mut Effects,
     ) -> Result<(), Released>
         requires { (released_leg entrant.leg).meter ≡ None }
-        ensures room { OnOk result (self.new
+        ensures conference { OnOk result (self.new
             ≡ (after_adoption step.now.config step.now.at entrant.leg entrant.account by (in_step self.old effects.old)).conference) }
         ensures effects { OnOk result (effects.new
             ≡ (after_adoption step.now.config step.now.at entrant.leg entrant.account by (in_step self.old effects.old)).effects) }

@@ -15,7 +15,7 @@ impl Conference {
         step: &StepContext<'_>,
         effects: &mut Effects,
     ) -> Result<(), NoMemory>
-        ensures room { OnOk result (self.new
+        ensures conference { OnOk result (self.new
             ≡ (after_close step.now.config step.now.at self.old.participants (in_step self.old effects.old)).conference) }
         ensures effects { OnOk result (effects.new
             ≡ (after_close step.now.config step.now.at self.old.participants (in_step self.old effects.old)).effects) }
@@ -35,7 +35,7 @@ impl Conference {
         number: u64,
         effects: &mut Effects,
     ) -> Result<(), NoMemory>
-        ensures room { OnOk result (self.new
+        ensures conference { OnOk result (self.new
             ≡ (after_close_with step.now.config step.now.at number (in_step self.old effects.old)).conference) }
         ensures effects { OnOk result (effects.new
             ≡ (after_close_with step.now.config step.now.at number (in_step self.old effects.old)).effects) }

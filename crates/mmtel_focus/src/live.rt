@@ -118,7 +118,7 @@ fn open(
 ) -> Result<Conference, Released>
     requires unmetered { (released_leg entrant.leg).meter ≡ None }
     requires audio { offers_audio invite.now.parsed.body ≡ true }
-    ensures room { IfOk result (λ room. room
+    ensures conference { IfOk result (λ room. room
         ≡ (step_of_opening step.now.config step.now.at entrant.leg entrant.account key invite.now number effects.old).conference) }
     ensures effects { OnOk result (effects.new
         ≡ (step_of_opening step.now.config step.now.at entrant.leg entrant.account key invite.now number effects.old).effects) }
@@ -238,7 +238,7 @@ impl LiveConferences {
     /// Moves the conference at this place out, for a step of it: an empty conference of its number is at this place until it is put back.
     pub fn take_out(&mut self, alloc: Global, place: usize) -> Conference
         requires { place < length self.old.items }
-        ensures room { slice_get self.old.items place ≡ Some result }
+        ensures conference { slice_get self.old.items place ≡ Some result }
         ensures live { self.new ≡ record self.old { items = slice_set self.old.items place (new_conference result.number) } }
     {
         let room = &mut self.conferences[place];
@@ -260,7 +260,7 @@ impl LiveConferences {
     /// Removes the conference at this place.
     pub fn remove(&mut self, place: usize) -> Conference
         requires { place < length self.old.items }
-        ensures room { slice_get self.old.items place ≡ Some result }
+        ensures conference { slice_get self.old.items place ≡ Some result }
         ensures live { self.new ≡ record self.old { items = remove self.old.items place } }
     {
         let room = self.conferences.remove(place);

@@ -18,7 +18,7 @@ impl Conference {
         effects: &mut Effects,
     ) -> Result<(), NoMemory>
         requires { place < length self.old.participants }
-        ensures room { OnOk result (self.new
+        ensures conference { OnOk result (self.new
             ≡ (at_participant (after_notify step.now.config is_active status_line.now) place (in_step self.old effects.old)).conference) }
         ensures effects { OnOk result (effects.new
             ≡ (at_participant (after_notify step.now.config is_active status_line.now) place (in_step self.old effects.old)).effects) }
@@ -37,7 +37,7 @@ impl Conference {
         number: u64,
         effects: &mut Effects,
     ) -> Result<(), NoMemory>
-        ensures room { OnOk result (self.new
+        ensures conference { OnOk result (self.new
             ≡ (after_notify_to step.now.config is_active status_line.now number (in_step self.old effects.old)).conference) }
         ensures effects { OnOk result (effects.new
             ≡ (after_notify_to step.now.config is_active status_line.now number (in_step self.old effects.old)).effects) }
@@ -57,7 +57,7 @@ impl Conference {
         by: Option<u64>,
         effects: &mut Effects,
     ) -> Result<(), NoMemory>
-        ensures room { OnOk result (self.new
+        ensures conference { OnOk result (self.new
             ≡ (after_notify_referrer step.now.config is_active status_line.now by (in_step self.old effects.old)).conference) }
         ensures effects { OnOk result (effects.new
             ≡ (after_notify_referrer step.now.config is_active status_line.now by (in_step self.old effects.old)).effects) }

@@ -67,7 +67,7 @@ impl Conference {
         effects: &mut Effects,
     ) -> Result<(), NoMemory>
         requires { place < length self.now.participants }
-        ensures room { (at_participant (after_refusal step.now.config key request.now code) place (in_step self.now effects.old)).conference
+        ensures conference { (at_participant (after_refusal step.now.config key request.now code) place (in_step self.now effects.old)).conference
             ≡ self.now }
         ensures effects { OnOk result (effects.new
             ≡ (at_participant (after_refusal step.now.config key request.now code) place (in_step self.now effects.old)).effects) }
@@ -89,7 +89,7 @@ impl Conference {
     ) -> Result<(), NoMemory>
         requires place { place < length self.old.participants }
         requires audio { offers_audio request.now.parsed.body ≡ true }
-        ensures room { OnOk result (self.new
+        ensures conference { OnOk result (self.new
             ≡ (at_participant (after_reinvite step.now.config step.now.at key request.now) place (in_step self.old effects.old)).conference) }
         ensures effects { OnOk result (effects.new
             ≡ (at_participant (after_reinvite step.now.config step.now.at key request.now) place (in_step self.old effects.old)).effects) }
@@ -124,7 +124,7 @@ impl Conference {
         effects: &mut Effects,
     ) -> Result<(), NoMemory>
         requires { place < length self.old.participants }
-        ensures room { OnOk result (self.new
+        ensures conference { OnOk result (self.new
             ≡ (at_participant (on_invite step.now.config step.now.at key request.now) place (in_step self.old effects.old)).conference) }
         ensures effects { OnOk result (effects.new
             ≡ (at_participant (on_invite step.now.config step.now.at key request.now) place (in_step self.old effects.old)).effects) }
@@ -145,7 +145,7 @@ impl Conference {
         effects: &mut Effects,
     ) -> Result<(), NoMemory>
         requires { place < length self.old.participants }
-        ensures room { OnOk result (self.new
+        ensures conference { OnOk result (self.new
             ≡ (at_participant (on_bye step.now.config step.now.at key request.now) place (in_step self.old effects.old)).conference) }
         ensures effects { OnOk result (effects.new
             ≡ (at_participant (on_bye step.now.config step.now.at key request.now) place (in_step self.old effects.old)).effects) }
@@ -171,7 +171,7 @@ impl Conference {
         effects: &mut Effects,
     ) -> Result<(), NoMemory>
         requires { place < length self.now.participants }
-        ensures room { (at_participant (after_accepted_refer step.now.config key request.now) place (in_step self.now effects.old)).conference
+        ensures conference { (at_participant (after_accepted_refer step.now.config key request.now) place (in_step self.now effects.old)).conference
             ≡ self.now }
         ensures effects { OnOk result (effects.new
             ≡ (at_participant (after_accepted_refer step.now.config key request.now) place (in_step self.now effects.old)).effects) }
@@ -195,7 +195,7 @@ impl Conference {
         number: u64,
         effects: &mut Effects,
     ) -> Result<(), NoMemory>
-        ensures room { OnOk result (self.new ≡ (after_trying step.now.config number (in_step self.old effects.old)).conference) }
+        ensures conference { OnOk result (self.new ≡ (after_trying step.now.config number (in_step self.old effects.old)).conference) }
         ensures effects { OnOk result (effects.new
             ≡ (after_trying step.now.config number (in_step self.old effects.old)).effects) }
     {
@@ -214,7 +214,7 @@ impl Conference {
         effects: &mut Effects,
     ) -> Result<(), NoMemory>
         requires { place < length self.old.participants }
-        ensures room { OnOk result (self.new
+        ensures conference { OnOk result (self.new
             ≡ (at_participant (on_referral step.now.config step.now.at key request.now referral.old) place (in_step self.old effects.old)).conference) }
         ensures effects { OnOk result (effects.new
             ≡ (at_participant (on_referral step.now.config step.now.at key request.now referral.old) place (in_step self.old effects.old)).effects) }
@@ -242,7 +242,7 @@ impl Conference {
         effects: &mut Effects,
     ) -> Result<(), NoMemory>
         requires { place < length self.old.participants }
-        ensures room { OnOk result (self.new
+        ensures conference { OnOk result (self.new
             ≡ (at_participant (on_referral step.now.config step.now.at key request.now (referral_in request.now.parsed.refer_to))
             place (in_step self.old effects.old)).conference) }
         ensures effects { OnOk result (effects.new
@@ -266,7 +266,7 @@ impl Conference {
         effects: &mut Effects,
     ) -> Result<(), NoMemory>
         requires { place < length self.now.participants }
-        ensures room { (at_participant (after_response step.now.config key request.now 200
+        ensures conference { (at_participant (after_response step.now.config key request.now 200
             (allow_lines step.now.config.methods)) place (in_step self.now effects.old)).conference ≡ self.now }
         ensures effects { OnOk result (effects.new
             ≡ (at_participant (after_response step.now.config key request.now 200
@@ -288,7 +288,7 @@ impl Conference {
         effects: &mut Effects,
     ) -> Result<(), NoMemory>
         requires { place < length self.old.participants }
-        ensures room { OnOk result (self.new
+        ensures conference { OnOk result (self.new
             ≡ (at_participant (on_request_in_order step.now.config step.now.at key request.now) place (in_step self.old effects.old)).conference) }
         ensures effects { OnOk result (effects.new
             ≡ (at_participant (on_request_in_order step.now.config step.now.at key request.now) place (in_step self.old effects.old)).effects) }
@@ -320,7 +320,7 @@ impl Conference {
         effects: &mut Effects,
     ) -> Result<(), NoMemory>
         requires { place < length self.now.participants }
-        ensures room { (at_participant (after_out_of_order step.now.config key request.now fault) place (in_step self.now effects.old)).conference
+        ensures conference { (at_participant (after_out_of_order step.now.config key request.now fault) place (in_step self.now effects.old)).conference
             ≡ self.now }
         ensures effects { OnOk result (effects.new
             ≡ (at_participant (after_out_of_order step.now.config key request.now fault) place (in_step self.now effects.old)).effects) }
@@ -343,7 +343,7 @@ impl Conference {
     #[tactic(auto, using(crate::proofs::Places::set_back))]
     fn note_request(&mut self, request: &ReceivedMessage, place: usize) -> Result<(), DialogueFault>
         requires { place < length self.old.participants }
-        ensures answer { result ≡ request_check_at request.now (slice_get self.old.participants place) }
+        ensures check { result ≡ request_check_at request.now (slice_get self.old.participants place) }
         ensures received { OnOk result (self.new ≡ conference_after_request request.now place (slice_get self.old.participants place) self.old) }
         ensures refused { OnErr result (self.new ≡ self.old) }
     {
@@ -361,7 +361,7 @@ impl Conference {
         effects: &mut Effects,
     ) -> Result<(), NoMemory>
         requires { place < length self.old.participants }
-        ensures room { OnOk result (self.new
+        ensures conference { OnOk result (self.new
             ≡ (at_participant (on_request step.now.config step.now.at key request.now) place (in_step self.old effects.old)).conference) }
         ensures effects { OnOk result (effects.new
             ≡ (at_participant (on_request step.now.config step.now.at key request.now) place (in_step self.old effects.old)).effects) }
@@ -384,7 +384,7 @@ impl Conference {
         effects: &mut Effects,
     ) -> Result<(), NoMemory>
         requires { place < length self.old.participants }
-        ensures room { OnOk result (self.new ≡ (at_participant (on_ack ack.now) place (in_step self.old effects.old)).conference) }
+        ensures conference { OnOk result (self.new ≡ (at_participant (on_ack ack.now) place (in_step self.old effects.old)).conference) }
         ensures effects { OnOk result (effects.new
             ≡ (at_participant (on_ack ack.now) place (in_step self.old effects.old)).effects) }
     {

@@ -77,7 +77,7 @@ impl Conference {
         effects: &mut Effects,
     ) -> Result<(), NoMemory>
         requires { place < length self.old.participants }
-        ensures room { OnOk result (self.new
+        ensures conference { OnOk result (self.new
             ≡ (at_participant (after_own_ack step.now.config tag) place (in_step self.old effects.old)).conference) }
         ensures effects { OnOk result (effects.new
             ≡ (at_participant (after_own_ack step.now.config tag) place (in_step self.old effects.old)).effects) }
@@ -100,7 +100,7 @@ impl Conference {
     ) -> Result<Text, NoMemory>
         requires { place < length self.old.participants }
         ensures tag { IfOk result (λ tag. tag ≡ to_tag_of response.now) }
-        ensures room { OnOk result (self.new ≡ record self.old {
+        ensures conference { OnOk result (self.new ≡ record self.old {
           participants =
               participants_with_connected self.old.number now (remote_of Callee response.now.parsed.lines) place (slice_get self.old.participants place) self.old.participants;
         }) }
@@ -118,7 +118,7 @@ impl Conference {
         by: Option<u64>,
         effects: &mut Effects,
     ) -> Result<(), NoMemory>
-        ensures room { OnOk result (self.new
+        ensures conference { OnOk result (self.new
             ≡ (after_notify_referrer step.now.config false (own_status 200) by (in_step self.old effects.old)).conference) }
         ensures effects { OnOk result (effects.new
             ≡ (after_notify_referrer step.now.config false (own_status 200) by (in_step self.old effects.old)).effects) }
@@ -136,7 +136,7 @@ impl Conference {
         effects: &mut Effects,
     ) -> Result<(), NoMemory>
         requires { place < length self.old.participants }
-        ensures room { OnOk result (self.new
+        ensures conference { OnOk result (self.new
             ≡ (at_participant (on_success step.now.config step.now.at response.now) place (in_step self.old effects.old)).conference) }
         ensures effects { OnOk result (effects.new
             ≡ (at_participant (on_success step.now.config step.now.at response.now) place (in_step self.old effects.old)).effects) }
@@ -156,7 +156,7 @@ impl Conference {
         effects: &mut Effects,
     ) -> Result<(), NoMemory>
         requires { place < length self.old.participants }
-        ensures room { OnOk result (self.new
+        ensures conference { OnOk result (self.new
             ≡ (at_participant (after_end step.now.config step.now.at status_line.now) place (in_step self.old effects.old)).conference) }
         ensures effects { OnOk result (effects.new
             ≡ (at_participant (after_end step.now.config step.now.at status_line.now) place (in_step self.old effects.old)).effects) }
@@ -176,7 +176,7 @@ impl Conference {
         effects: &mut Effects,
     ) -> Result<(), NoMemory>
         requires { place < length self.old.participants }
-        ensures room { OnOk result (self.new
+        ensures conference { OnOk result (self.new
             ≡ (at_participant (after_invite_end step.now.config step.now.at status_line.now) place (in_step self.old effects.old)).conference) }
         ensures effects { OnOk result (effects.new
             ≡ (at_participant (after_invite_end step.now.config step.now.at status_line.now) place (in_step self.old effects.old)).effects) }
@@ -195,7 +195,7 @@ impl Conference {
         effects: &mut Effects,
     ) -> Result<(), NoMemory>
         requires { place < length self.old.participants }
-        ensures room { OnOk result (self.new
+        ensures conference { OnOk result (self.new
             ≡ (at_participant (on_failure step.now.config step.now.at key response.now) place (in_step self.old effects.old)).conference) }
         ensures effects { OnOk result (effects.new
             ≡ (at_participant (on_failure step.now.config step.now.at key response.now) place (in_step self.old effects.old)).effects) }
@@ -222,7 +222,7 @@ impl Conference {
         effects: &mut Effects,
     ) -> Result<(), NoMemory>
         requires { place < length self.old.participants }
-        ensures room { OnOk result (self.new
+        ensures conference { OnOk result (self.new
             ≡ (at_participant (on_outstanding_response step.now.config step.now.at key response.now) place (in_step self.old effects.old)).conference) }
         ensures effects { OnOk result (effects.new
             ≡ (at_participant (on_outstanding_response step.now.config step.now.at key response.now) place (in_step self.old effects.old)).effects) }
@@ -249,7 +249,7 @@ impl Conference {
         effects: &mut Effects,
     ) -> Result<(), NoMemory>
         requires { place < length self.now.participants }
-        ensures room { (at_participant (on_retransmission response.now tag.now ack.now) place (in_step self.now effects.old)).conference
+        ensures conference { (at_participant (on_retransmission response.now tag.now ack.now) place (in_step self.now effects.old)).conference
             ≡ self.now }
         ensures effects { OnOk result (effects.new
             ≡ (at_participant (on_retransmission response.now tag.now ack.now) place (in_step self.now effects.old)).effects) }
@@ -273,7 +273,7 @@ impl Conference {
         effects: &mut Effects,
     ) -> Result<(), NoMemory>
         requires { place < length self.old.participants }
-        ensures room { OnOk result (self.new
+        ensures conference { OnOk result (self.new
             ≡ (at_participant (on_any_response step.now.config step.now.at key response.now) place (in_step self.old effects.old)).conference) }
         ensures effects { OnOk result (effects.new
             ≡ (at_participant (on_any_response step.now.config step.now.at key response.now) place (in_step self.old effects.old)).effects) }
@@ -298,7 +298,7 @@ impl Conference {
         effects: &mut Effects,
     ) -> Result<(), NoMemory>
         requires { place < length self.old.participants }
-        ensures room { OnOk result (self.new
+        ensures conference { OnOk result (self.new
             ≡ (at_participant (on_timeout step.now.config step.now.at) place (in_step self.old effects.old)).conference) }
         ensures effects { OnOk result (effects.new
             ≡ (at_participant (on_timeout step.now.config step.now.at) place (in_step self.old effects.old)).effects) }
@@ -318,7 +318,7 @@ impl Conference {
         effects: &mut Effects,
     ) -> Result<(), NoMemory>
         requires { place < length self.old.participants }
-        ensures room { OnOk result (self.new
+        ensures conference { OnOk result (self.new
             ≡ (at_participant (after_ringing_limit step.now.config step.now.at) place (in_step self.old effects.old)).conference) }
         ensures effects { OnOk result (effects.new
             ≡ (at_participant (after_ringing_limit step.now.config step.now.at) place (in_step self.old effects.old)).effects) }
@@ -338,7 +338,7 @@ impl Conference {
         effects: &mut Effects,
     ) -> Result<(), NoMemory>
         requires { place < length self.old.participants }
-        ensures room { OnOk result (self.new
+        ensures conference { OnOk result (self.new
             ≡ (at_participant (on_cap step.now.config step.now.at due) place (in_step self.old effects.old)).conference) }
         ensures effects { OnOk result (effects.new
             ≡ (at_participant (on_cap step.now.config step.now.at due) place (in_step self.old effects.old)).effects) }
@@ -358,7 +358,7 @@ impl Conference {
         effects: &mut Effects,
     ) -> Result<(), NoMemory>
         requires { place < length self.old.participants }
-        ensures room { OnOk result (self.new
+        ensures conference { OnOk result (self.new
             ≡ (at_participant (after_missing_ack step.now.config step.now.at) place (in_step self.old effects.old)).conference) }
         ensures effects { OnOk result (effects.new
             ≡ (at_participant (after_missing_ack step.now.config step.now.at) place (in_step self.old effects.old)).effects) }
@@ -378,7 +378,7 @@ impl Conference {
         effects: &mut Effects,
     ) -> Result<(), NoMemory>
         requires { place < length self.old.participants }
-        ensures room { OnOk result (self.new
+        ensures conference { OnOk result (self.new
             ≡ (at_participant (on_no_ack step.now.config step.now.at due) place (in_step self.old effects.old)).conference) }
         ensures effects { OnOk result (effects.new
             ≡ (at_participant (on_no_ack step.now.config step.now.at due) place (in_step self.old effects.old)).effects) }
@@ -399,7 +399,7 @@ impl Conference {
         effects: &mut Effects,
     ) -> Result<(), NoMemory>
         requires { place < length self.old.participants }
-        ensures room { OnOk result (self.new
+        ensures conference { OnOk result (self.new
             ≡ (at_participant (on_due step.now.config step.now.at what) place (in_step self.old effects.old)).conference) }
         ensures effects { OnOk result (effects.new
             ≡ (at_participant (on_due step.now.config step.now.at what) place (in_step self.old effects.old)).effects) }

@@ -66,7 +66,7 @@ impl Rooms {
     ///
     /// Out of memory only.
     pub fn new(alloc: Global, mixer: Mixer, sip: Addr) -> Result<Rooms, NoMemory>
-        ensures rooms { IfOk result (λ rooms. rooms
+        ensures conferences { IfOk result (λ rooms. rooms
             ≡ record { sip = sip; mixer = mixer; methods = no_further_methods; table = empty_table; has_failed = false }) }
     {
         Ok(Rooms {

@@ -35,7 +35,7 @@ use Rattle.mmtel_focus.specs.Participants as seats
 use Rattle.mmtel_focus.specs.Participants.{after_notify_to, has_seat_number, is_connected, leg_of, meter_of}
 use Rattle.mmtel_focus.specs.ConferenceConfig.{ConferenceConfigView}
 use Rattle.mmtel_focus.specs.Table as table
-use Rattle.mmtel_focus.specs.Table.{ConferenceStep, Table, TableStep, access, conference_at, conference_has_branch, conference_of, conference_without_at, conference_without_in, conference_without_seat, conferences_after_close, conferences_after_leave, conferences_with, conferences_without, conferences_without_seat, conferences_without_seat_at, is_abandoned_key, is_provisional, next_room_number, open_result_at, open_result_by, open_result_in, participant_has_branch, place_of, row_by, row_in, row_in_conference, row_of_leave, row_of_participant, step_by_branch, step_by_number, step_if_access, step_of_abandoned_response, step_of_adoption, step_of_join, step_of_notify, step_of_opening, step_of_participant, step_of_response, step_of_response_at, step_of_signal, step_of_timeout, step_of_timeout_at, step_result_at, step_result_by, step_result_in, unchanged_step, with_abandoned as beside_loose, with_rest_of_abandoned, without, without_at}
+use Rattle.mmtel_focus.specs.Table.{ConferenceStep, Table, TableStep, access, conference_at, conference_has_branch, conference_of, conference_without_at, conference_without_in, conference_without_seat, conferences_after_close, conferences_after_leave, conferences_with, conferences_without, conferences_without_seat, conferences_without_seat_at, is_abandoned_key, is_provisional, next_room_number, open_result_at, open_result_by, open_result_in, participant_has_branch, place_of, row_by, row_in, row_in_conference, row_of_leave, row_of_participant, step_by_branch, step_by_number, step_if_access, step_of_abandoned_response, step_of_adoption, step_of_join, step_of_notify, step_of_opening, step_of_participant, step_of_response, step_of_response_at, step_of_signal, step_of_timeout, step_of_timeout_at, step_result_at, step_result_by, step_result_in, unchanged_step, with_rest_of_abandoned, without, without_at}
 use Rattle.mmtel_output.specs.ResponseMatching.{awaited_request_branch, timed_out_branch}
 use Rattle.mmtel_focus.specs.Texts.{own_status}
 use Rattle.mmtel_focus.specs.declared.faults.RoomFault.{RoomFault}

@@ -13,7 +13,7 @@ pub fn participants_are_charged_once()
 /// since it was connected, none exactly where it has no account; and each CDR that is filed is that of such a meter, closed at the moment of the operation (TS 32.260 §5, RFC
 /// 4579 §5.4 to §5.6).
 pub fn participants_have_their_meters()
-    ensures seats { ParticipantsAreAccountedFor }
+    ensures participants { ParticipantsAreAccountedFor }
     ensures metered { ParticipantsAreMetered }
     ensures rows { RowsAreAccountedFor }
 {}

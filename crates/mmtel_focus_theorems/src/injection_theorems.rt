@@ -5,6 +5,6 @@ ghost use Rattle.mmtel_focus_theorems.specs.NoInjection.{EmitsHaveNoInjection, E
 /// injects a header field into a message to another; and none comes from the ACK of a 2xx, since a conference relays no ACK. This holds where the header fields and reason
 /// phrases that are received are clean, as those of each parsed message are, and so are the dialogs of the legs that enter, and the text of tokens.
 pub fn conferences_send_no_injection()
-    ensures clean { EmitsHaveNoInjection }
+    ensures no_injection { EmitsHaveNoInjection }
     ensures lines { EmitsHaveOwnFields }
 {}

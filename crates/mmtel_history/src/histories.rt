@@ -322,7 +322,7 @@ impl History {
         ensures masked { IfOk result (λ h. h ≡ masked_list all self.now) }
         ensures len { IfOk result (λ h. length h ≡ length self.now) }
         // It does not depend on the URI of a hidden entry except its cause: any list that differs only there gives the same.
-        ensures alike { (other : List Entry) → map (seen_entry all) other ≡ map (seen_entry all) self.now → IfOk result (λ h. h ≡ masked_list all other) }
+        ensures equivalent { (other : List Entry) → map (seen_entry all) other ≡ map (seen_entry all) self.now → IfOk result (λ h. h ≡ masked_list all other) }
         // Each cause is kept, and each index.
         ensures causes { IfOk result (λ h. map (λ e. e.cause) h ≡ map (λ e. e.cause) self.now) }
         ensures indices { IfOk result (λ h. map (λ e. e.index) h ≡ map (λ e. e.index) self.now) }

@@ -51,7 +51,7 @@ pub trait Disk {
         requires { 0 < length buf.old }
         ensures honest { honest self.old ↔ honest self.new }
         ensures within { IfOk result (λ count. count ≤ length buf.new) }
-        ensures given { honest self.old
+        ensures bytes { honest self.old
             → IfOk result (λ count. take count buf.new ≡ take count (drop at (contents self.old))) }
         ensures some { honest self.old → at < length (contents self.old) → IfOk result (λ count. 0 < count) }
         ensures shown { honest self.old → contents self.new ≡ contents self.old }

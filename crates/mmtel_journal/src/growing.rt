@@ -14,7 +14,7 @@ use std::alloc::Global;
 /// Reserves space for more rows.
 fn reserve_rows(row_list: &mut Vec<Row>, more: usize) -> Result<(), NoMemory>
     ensures same { row_list.new.items ≡ row_list.old.items }
-    ensures room { OnOk result (vec_len row_list.new + more ≤ vec_capacity row_list.new) }
+    ensures capacity { OnOk result (vec_len row_list.new + more ≤ vec_capacity row_list.new) }
 {
     row_list.reserve(more)?;
     Ok(())
@@ -64,7 +64,7 @@ pub fn grow_sheets(
     text: &[u8],
 ) -> Result<(Text, Vec<u8>), NoMemory>
     ensures same { sheets.new.texts ≡ sheets.old.texts }
-    ensures room { OnOk result (0 < sheets.new.space) }
+    ensures capacity { OnOk result (0 < sheets.new.space) }
     ensures text { IfOk result (λ grown. grown.0 ≡ text.now) }
     ensures fits { OnOk result (IsSheet (account, text.now)) }
     ensures body { IfOk result (λ grown. grown.1.items ≡ body_bytes (payload_of_sheets ((account, text.now) ∷ []))) }
@@ -78,7 +78,7 @@ pub fn grow_sheets(
 /// Makes all allocations for rows that are added.
 pub fn grow_rows(alloc: Global, row_list: &mut Vec<Row>, rows: &[Row]) -> Result<Vec<u8>, NoMemory>
     ensures same { row_list.new.items ≡ row_list.old.items }
-    ensures room { OnOk result (vec_len row_list.new + length rows.now ≤ vec_capacity row_list.new) }
+    ensures capacity { OnOk result (vec_len row_list.new + length rows.now ≤ vec_capacity row_list.new) }
     ensures fits { OnOk result (All IsRow rows.now) }
     ensures body { IfOk result (λ body. body.items ≡ body_bytes (payload_of_rows rows.now)) }
 {

@@ -158,7 +158,7 @@ impl MemoryDisk {
         ensures first { self.new.first ≡ self.old.first }
         ensures calls { self.new.calls.items ≡ self.old.calls.items }
         ensures faults { self.new.faults ≡ self.old.faults }
-        ensures room { OnOk result (vec_len self.new.calls < vec_capacity self.new.calls) }
+        ensures capacity { OnOk result (vec_len self.new.calls < vec_capacity self.new.calls) }
     {
         let bytes = bytes_after_ops(self.alloc, self.first.as_slice(), self.calls.as_slice())?;
         self.calls.reserve(1)?;

@@ -133,7 +133,7 @@ impl<D: Disk> JournalKeeper<D> {
 
     /// Returns a reference to the disk.
     pub fn disk(&self) -> &D
-        ensures lent { result.now ≡ self.now.log.disk }
+        ensures disk { result.now ≡ self.now.log.disk }
     {
         &self.log.disk
     }

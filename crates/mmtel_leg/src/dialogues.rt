@@ -180,7 +180,7 @@ impl Dialogue {
         invite: &Msg,
         tag: Text,
     ) -> Result<Dialogue, NoMemory>
-        ensures taken { IfOk result (λ d. d ≡ caller_dialogue peer invite.now.lines tag) }
+        ensures dialogue { IfOk result (λ d. d ≡ caller_dialogue peer invite.now.lines tag) }
     {
         let call_id = field(alloc, b"Call-ID", invite)?;
         let to = field(alloc, b"To", invite)?;
@@ -283,7 +283,7 @@ impl Dialogue {
     /// The dialog once the other side has given its tag, target and route set. Tag and routes of a callee are those that it gives, also where it gives no tag (RFC 3261 §12.1.2,
     /// §13.2.2.4); those of a caller stay as they are where it gives no tag. Without a target the target stays.
     pub fn with_remote(self, remote: Remote) -> Dialogue
-        ensures met { result ≡ with_remote self remote }
+        ensures with_remote { result ≡ with_remote self remote }
     {
         let Remote {
             tag,
@@ -299,7 +299,7 @@ impl Dialogue {
     ///
     /// The first that applies of `OldCSeq`, `Pending` and `Unfinished`; the dialog is then as before.
     pub fn receive(&mut self, request: &Msg, busy: InFlight) -> Result<(), DialogueFault>
-        ensures answer { result ≡ receive_result self.old request.now busy }
+        ensures check { result ≡ receive_result self.old request.now busy }
         ensures received { OnOk result (self.new ≡ after_receiving self.old request.now) }
         ensures refused { OnErr result (self.new ≡ self.old) }
     {

@@ -156,7 +156,7 @@ impl<P, S> LegOf<P, S> {
     /// The first that applies; the leg is then as before. `OldCSeq` where its number is lower than that of the last accepted request; for an INVITE, `Pending` where the server's
     /// own is pending and `Unfinished` where the one before has no final response (RFC 3261 §12.2.2, §14.2).
     pub fn heard(&mut self, request: &Msg, busy: InFlight) -> Result<(), DialogueFault>
-        ensures answer { result ≡ receive_result self.old.dialogue request.now busy }
+        ensures check { result ≡ receive_result self.old.dialogue request.now busy }
         ensures received { OnOk result (self.new ≡ with_dialogue self.old (after_receiving self.old.dialogue request.now)) }
         ensures refused { OnErr result (self.new ≡ self.old) }
     {

@@ -14,7 +14,7 @@ use mmtel_transaction::theorems::heads_rest_on_five_names;
 pub fn heads_see_no_private_field()
     ensures messages { MessagesKeepTheirHead }
     ensures lines { LinesKeepTheirHead }
-    ensures alike { EquivalentMessagesHaveOneHead }
+    ensures equivalent { EquivalentMessagesHaveOneHead }
     ensures received { EquivalentParsedHaveOneHead }
 {
     heads_rest_on_five_names();
@@ -41,8 +41,8 @@ pub fn dialogs_keep_their_names()
     ensures remotes { RemotesDifferInTarget }
     ensures target { ContactDecides }
     ensures nobody { TargetsAreAnonymous }
-    ensures taken { DialogsDifferInRemote }
-    ensures alike { EquivalentSendersHaveOneName }
+    ensures dialogs { DialogsDifferInRemote }
+    ensures equivalent { EquivalentSendersHaveOneName }
     ensures taken_alike { EquivalentDialogsDifferInRemote }
 {}
 

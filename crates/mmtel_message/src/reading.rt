@@ -108,7 +108,7 @@ fn check_head(
     ensures read { let hs = held_lines bytes.now lines.now in let rest = drop (end + 4) bytes.now in
         MatchResult result (λ _. after_head (message_head (Some start.now) hs) rest ≡ Ok (message_of start.now hs rest))
         (λ e. IsReadFault e (after_head (message_head (Some start.now) hs) rest)) }
-    ensures said { IfOk result (λ b. identifiers_in (expanded_lines (held_lines bytes.now lines.now)) ≡ Some b.value) }
+    ensures identifiers { IfOk result (λ b. identifiers_in (expanded_lines (held_lines bytes.now lines.now)) ≡ Some b.value) }
 {
     let room = bytes.len() - (end + 4);
     let whole = Lines::of(bytes, lines, &[]);
@@ -139,7 +139,7 @@ fn whole_message(
     identifiers: Box<OwnedIdentifiers>,
 ) -> Result<Msg, NoMemory>
     requires head { end + 4 ≤ length bytes }
-    requires said { identifiers_in (expanded_lines (held_lines bytes lines)) ≡ Some identifiers.value }
+    requires identifiers { identifiers_in (expanded_lines (held_lines bytes lines)) ≡ Some identifiers.value }
     ensures { IfOk result (λ m. m ≡ message_of start (held_lines bytes lines) (drop (end + 4) bytes)) }
 {
     let from = end + 4;

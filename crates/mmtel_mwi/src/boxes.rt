@@ -67,7 +67,7 @@ impl Model for Boxes {
 /// Removes the subscription of this number, and ends it.
 fn remove_subscription(live: &mut Vec<Subscription>, sub: SubNo) -> Option<Ended>
     ensures rest { live.new.items ≡ without (is_numbered sub) live.old.items }
-    ensures left { result ≡ option_map ended_leg (find (is_numbered sub) live.old.items) }
+    ensures leg { result ≡ option_map ended_leg (find (is_numbered sub) live.old.items) }
 {
     match place_of(live.as_slice(), sub) {
         None => None,
@@ -156,7 +156,7 @@ impl Boxes {
     ) -> Result<SubNo, (CallerLeg<Standing>, SubFault)>
         ensures number { IfOk result (λ sub. sub ≡ next_sub self.old.table) }
         ensures subscribed { OnOk result (self.new ≡ with_table self.old (with_subscription account leg until self.old.table)) }
-        ensures room { OnOk result (is_full self.old.table ≡ false) }
+        ensures capacity { OnOk result (is_full self.old.table ≡ false) }
         ensures full { IfErr result (λ refused. is_full_fault refused.1 ≡ is_full self.old.table) }
         ensures refused { OnErr result (self.new ≡ self.old) }
         ensures handed_back { IfErr result (λ refused. refused.0 ≡ leg) }
@@ -221,7 +221,7 @@ impl Boxes {
     /// `OldCSeq` where its CSeq number is lower than that of the last request that was accepted (RFC 3261 §12.2.2); nothing has changed then.
     pub fn heard(&mut self, sub: SubNo, request: &Msg) -> Result<(), DialogueFault>
         requires { is_live sub self.old.table ≡ true }
-        ensures answer { result ≡ request_check sub request.now self.old.table }
+        ensures check { result ≡ request_check sub request.now self.old.table }
         ensures received { OnOk result (self.new ≡ with_table self.old (table_after_request sub request.now self.old.table)) }
         ensures refused { OnErr result (self.new ≡ self.old) }
     {
@@ -297,7 +297,7 @@ impl Boxes {
 
     /// Ends a subscription and returns what remains of its leg; None exactly where it is not active. It allocates nothing.
     pub fn end(&mut self, sub: SubNo) -> Option<Ended>
-        ensures left { result ≡ ended_leg_of sub self.old.table }
+        ensures leg { result ≡ ended_leg_of sub self.old.table }
         ensures ended { self.new ≡ with_table self.old (table_after_end sub self.old.table) }
     {
         remove_subscription(&mut self.live, sub)
@@ -312,7 +312,7 @@ impl Boxes {
 
     /// Ends the subscription whose NOTIFY with this branch is refused, if this status refuses it.
     fn refuse(&mut self, branch: &[u8], code: u16) -> Option<Ended>
-        ensures left { result ≡ ended_leg_if (subscription_refused_by branch.now code self.old.table) self.old.table }
+        ensures leg { result ≡ ended_leg_if (subscription_refused_by branch.now code self.old.table) self.old.table }
         ensures ended { self.new ≡ with_table self.old (table_after_end_if (subscription_refused_by branch.now code self.old.table) self.old.table) }
     {
         if code < 300 {
@@ -330,7 +330,7 @@ impl Boxes {
     /// The NOTIFY with this branch got a response with this status, 408 where it timed out. A final response is the last, and one from 300 ends the subscription (RFC 6665
     /// §4.2.2). It allocates nothing.
     pub fn answered(&mut self, branch: &[u8], code: u16) -> Option<Ended>
-        ensures left { result ≡ ended_leg_if (subscription_refused_by branch.now code self.old.table) self.old.table }
+        ensures leg { result ≡ ended_leg_if (subscription_refused_by branch.now code self.old.table) self.old.table }
         ensures answered { self.new ≡ with_table self.old (table_after_response branch.now code self.old.table) }
     {
         if code < 200 {

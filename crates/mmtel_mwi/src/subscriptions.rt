@@ -154,7 +154,7 @@ impl Subscription {
 
     /// Accepts a request of its subscriber, or refuses it.
     pub fn receive(&mut self, request: &Msg) -> Result<(), DialogueFault>
-        ensures answer { result ≡ receive_result self.old.leg.dialogue request.now in_flight.None }
+        ensures check { result ≡ receive_result self.old.leg.dialogue request.now in_flight.None }
         ensures received { OnOk result (self.new ≡ subscription_after_request request.now self.old) }
         ensures refused { OnErr result (self.new ≡ self.old) }
     {

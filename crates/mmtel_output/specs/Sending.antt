@@ -75,11 +75,11 @@ with_relayed_ack sip d passed m output = with_emit (emit.Plain d.peer (relayed_a
 -- ---- the INVITE of an attempt: its Call-ID, tag and branch are drawn in this order
 
 abbrev pub attempt_dialog : Destination → ParsedMessage → (restricted : Bool) → StepOutput → Dialogue
-attempt_dialog aim m restricted output = dialogue_to aim (token output) (token (after_draw output)) (attempt_from restricted (token (after_draw output)) m.lines)
+attempt_dialog destination m restricted output = dialogue_to destination (token output) (token (after_draw output)) (attempt_from restricted (token (after_draw output)) m.lines)
 
 abbrev pub with_attempt_invite : Addr → Destination → ParsedMessage → (restricted : Bool) → (passed : List Line) → (waiting : Bool) → StepOutput → StepOutput
-with_attempt_invite sip aim m restricted passed waiting output =
-    with_emit (emit.Ask aim.peer (invite_of (attempt_dialog aim m restricted output) sip (token (after_draw (after_draw output))) passed waiting m)) (after_draw (after_draw (after_draw output)))
+with_attempt_invite sip destination m restricted passed waiting output =
+    with_emit (emit.Ask destination.peer (invite_of (attempt_dialog destination m restricted output) sip (token (after_draw (after_draw output))) passed waiting m)) (after_draw (after_draw (after_draw output)))
 
 -- ---- what copies fields of an INVITE
 

@@ -189,7 +189,7 @@ impl StepOutput {
         dialogue: Dialogue,
     ) -> Result<(), NoMemory>
         ensures output { OnOk result (self.new ≡ (after_ack_and_bye sip abandoned.old dialogue self.old).output) }
-        ensures left { OnOk result (Some abandoned.new ≡ (after_ack_and_bye sip abandoned.old dialogue self.old).remaining) }
+        ensures remaining { OnOk result (Some abandoned.new ≡ (after_ack_and_bye sip abandoned.old dialogue self.old).remaining) }
         ensures rows { OnErr result (self.new.rows ≡ self.old.rows) }
     {
         let mut dialogue = dialogue;
@@ -211,7 +211,7 @@ impl StepOutput {
         remote: Remote,
     ) -> Result<(), NoMemory>
         ensures output { OnOk result (self.new ≡ (on_success sip abandoned.old remote self.old).output) }
-        ensures left { OnOk result (Some abandoned.new ≡ (on_success sip abandoned.old remote self.old).remaining) }
+        ensures remaining { OnOk result (Some abandoned.new ≡ (on_success sip abandoned.old remote self.old).remaining) }
         ensures rows { OnErr result (self.new.rows ≡ self.old.rows) }
     {
         let forks = abandoned.invite.forks.items();
@@ -242,7 +242,7 @@ impl StepOutput {
     ) -> Result<(), NoMemory>
         requires { abandoned.old.invite.provisional ≡ true }
         ensures output { OnOk result (self.new ≡ (after_due_cancel sip abandoned.old self.old).output) }
-        ensures left { OnOk result (Some abandoned.new ≡ (after_due_cancel sip abandoned.old self.old).remaining) }
+        ensures remaining { OnOk result (Some abandoned.new ≡ (after_due_cancel sip abandoned.old self.old).remaining) }
         ensures refused { OnErr result (self.new ≡ self.old) }
     {
         if is_cancellable(&abandoned.invite) {
@@ -265,7 +265,7 @@ impl StepOutput {
         requires remote { remote ≡ remote_of Callee received.now.parsed.lines }
         requires below { status_of received.now.parsed.start < 300 }
         ensures output { OnOk result (self.new ≡ (on_response sip key received.now.parsed abandoned.old self.old).output) }
-        ensures left { OnOk result (Some abandoned.new ≡ (on_response sip key received.now.parsed abandoned.old self.old).remaining) }
+        ensures remaining { OnOk result (Some abandoned.new ≡ (on_response sip key received.now.parsed abandoned.old self.old).remaining) }
         ensures rows { OnErr result (self.new.rows ≡ self.old.rows) }
     {
         if status_of(received.message.start()) < 200 {
@@ -286,7 +286,7 @@ impl StepOutput {
         received: &ReceivedMessage,
     ) -> Result<bool, NoMemory>
         ensures output { OnOk result (self.new ≡ (on_response sip key received.now.parsed abandoned.old self.old).output) }
-        ensures left { IfOk result (λ stays. (if stays then Some abandoned.new else None) ≡ (on_response sip key received.now.parsed abandoned.old self.old).remaining) }
+        ensures remaining { IfOk result (λ stays. (if stays then Some abandoned.new else None) ≡ (on_response sip key received.now.parsed abandoned.old self.old).remaining) }
         ensures rows { OnErr result (self.new.rows ≡ self.old.rows) }
     {
         if status_of(received.message.start()) >= 300 {
@@ -313,7 +313,7 @@ impl StepOutput {
         received: &ReceivedMessage,
     ) -> Result<Option<AbandonedInvite>, NoMemory>
         ensures output { OnOk result (self.new ≡ (on_response sip key received.now.parsed abandoned self.old).output) }
-        ensures left { IfOk result (λ left. left ≡ (on_response sip key received.now.parsed abandoned self.old).remaining) }
+        ensures remaining { IfOk result (λ remaining. remaining ≡ (on_response sip key received.now.parsed abandoned self.old).remaining) }
         ensures rows { OnErr result (self.new.rows ≡ self.old.rows) }
     {
         let mut abandoned = abandoned;

@@ -62,7 +62,7 @@ impl SentInvite {
 
     /// One more request was made in its early dialog (RFC 3261 §12.2.1.1).
     pub fn count_early_request(&mut self)
-        ensures asked { self.new ≡ after_early_request self.old }
+        ensures requested { self.new ≡ after_early_request self.old }
     {
         self.early_cseq = self.early_cseq.saturating_add(1);
     }

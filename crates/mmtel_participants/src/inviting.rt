@@ -41,7 +41,7 @@ pub enum ReferResult {
 
 /// The destination of an invitation to this URI, by this peer.
 fn destination_of(alloc: Global, peer: Peer, uri: Uri) -> Result<Destination, NoMemory>
-    ensures { IfOk result (λ aim. aim
+    ensures { IfOk result (λ destination. destination
         ≡ record { peer = peer; uri = uri_text (target_of uri); to = uri_in_brackets (uri_text (target_of uri)); routes = [] }) }
 {
     let target = target_of(alloc, uri)?;
@@ -174,7 +174,7 @@ fn invite_in(
     dialogue: Dialogue,
     output: &mut StepOutput,
 ) -> Result<ParticipantState, NoMemory>
-    ensures seat { IfOk result (λ seat. seat ≡ participant_of_invite next by account dialogue (token output.old)) }
+    ensures participant { IfOk result (λ seat. seat ≡ participant_of_invite next by account dialogue (token output.old)) }
     ensures output { OnOk result (output.new
         ≡ with_invite_sent step.now.config step.now.at next.room next.seat next.number dialogue output.old) }
 {
@@ -207,7 +207,7 @@ pub fn invite_referred(
     uri: Option<Uri>,
     output: &mut StepOutput,
 ) -> Result<ReferResult, NoMemory>
-    ensures bid { IfOk result (λ b. b ≡ (refer_step step.now.config step.now.at next by participants.now uri output.old).result) }
+    ensures referral { IfOk result (λ b. b ≡ (refer_step step.now.config step.now.at next by participants.now uri output.old).result) }
     ensures output { OnOk result (output.new ≡ (refer_step step.now.config step.now.at next by participants.now uri output.old).output) }
 {
     match uri {

@@ -164,7 +164,7 @@ impl ParticipantState {
         had_bye: bool,
         effects: &mut Effects,
     ) -> Result<(), NoMemory>
-        ensures left { OnOk result (effects.new ≡ effects_of_leave now had_bye self effects.old) }
+        ensures effects { OnOk result (effects.new ≡ effects_of_leave now had_bye self effects.old) }
     {
         let ParticipantState {
             number: _,

@@ -64,7 +64,7 @@ fn receive_request<P, S>(
     request: &ReceivedMessage,
     in_flight: InFlight,
 ) -> Result<(), DialogueFault>
-    ensures answer { result ≡ request_check leg.old request.now in_flight }
+    ensures check { result ≡ request_check leg.old request.now in_flight }
     ensures received { OnOk result (leg.new ≡ leg_after_request request.now leg.old) }
     ensures refused { OnErr result (leg.new ≡ leg.old) }
 {
@@ -122,7 +122,7 @@ impl Party {
         request: &ReceivedMessage,
         in_flight: InFlight,
     ) -> Result<(), DialogueFault>
-        ensures answer { result ≡ request_check (leg_of self.old) request.now in_flight }
+        ensures check { result ≡ request_check (leg_of self.old) request.now in_flight }
         ensures received { OnOk result (self.new ≡ with_leg (leg_after_request request.now (leg_of self.old)) self.old) }
         ensures refused { OnErr result (self.new ≡ self.old) }
     {
@@ -169,7 +169,7 @@ impl ParticipantState {
 
     /// Whether the server's INVITE to it has this branch.
     pub fn has_branch(&self, branch: &[u8]) -> bool
-        ensures asked { result ≡ participant_has_branch branch.now self.now }
+        ensures has_branch { result ≡ participant_has_branch branch.now self.now }
     {
         match &self.invite {
             None => false,
@@ -198,7 +198,7 @@ impl ParticipantState {
 
     /// Accepts a request of the participant, or refuses it.
     pub fn receive_request(&mut self, request: &ReceivedMessage) -> Result<(), DialogueFault>
-        ensures answer { result ≡ request_check (leg_of self.old.party) request.now (invite_in_flight self.old) }
+        ensures check { result ≡ request_check (leg_of self.old.party) request.now (invite_in_flight self.old) }
         ensures received { OnOk result (self.new ≡ participant_after_request request.now self.old) }
         ensures refused { OnErr result (self.new ≡ self.old) }
     {

@@ -17,20 +17,20 @@ pub record BeginsWith (longer shorter : Outcome) : Type 0 where
 
 -- these endings are pending too, after those that already are
 abbrev pub with_more_endings : CallState → List EndedAttempt → CallState
-with_more_endings kept later = record kept { endings = kept.endings ++ later }
+with_more_endings state later = record state { endings = state.endings ++ later }
 
 -- the endings come one after the other, and that many moves are made after each
 unfoldable pub one_by_one : ℕ → CallInputs → List EndedAttempt → CallState → CallState
-one_by_one n call [] kept = kept
-one_by_one n call (ended ∷ later) kept = one_by_one n call later (moves n call (with_more_endings kept (ended ∷ [])))
+one_by_one n call [] state = state
+one_by_one n call (ended ∷ later) state = one_by_one n call later (moves n call (with_more_endings state (ended ∷ [])))
 
 pub record LaterEndingsExtend : Type 0 where
   -- the outcome of more endings begins with that of fewer
   pub outcomes : (call : CallInputs) (sooner later : List EndedAttempt) → BeginsWith (outcome call (sooner ++ later)) (outcome call sooner)
   -- moves continue from the state that they reached: with later endings, too, the call reaches it, by as many moves or fewer, since while it rings and no attempt ends no move
   -- changes anything
-  pub go_on : (call : CallInputs) (n : ℕ) (kept : CallState) (later : List EndedAttempt) →
-      (fewer : ℕ) × (fewer ≤ n) × (moves fewer call (with_more_endings kept later) ≡ with_more_endings (moves n call kept) later)
+  pub go_on : (call : CallInputs) (n : ℕ) (state : CallState) (later : List EndedAttempt) →
+      (fewer : ℕ) × (fewer ≤ n) × (moves fewer call (with_more_endings state later) ≡ with_more_endings (moves n call state) later)
   -- the moves over the first endings, however many, and then enough of them over the later ones give the outcome of all
   pub whole : (call : CallInputs) (sooner later : List EndedAttempt) (n m : ℕ) → enough_moves call ≤ m →
       outcome_so_far (moves m call (with_more_endings (moves n call (initial_state call sooner)) later)) ≡ outcome call (sooner ++ later)

@@ -37,24 +37,24 @@ account_at reach = unwrap_or reach.served (record { sheet = empty_sheet; registe
 
 -- one more target is recorded
 abbrev pub with_target : CallState → Uri → Option DueDiversionView → OfferState → CallState
-with_target kept uri by offer = record kept { targets = kept.targets ++ record { uri = uri; diversion = by; offer = offer } ∷ [] }
+with_target state uri by offer = record state { targets = state.targets ++ record { uri = uri; diversion = by; offer = offer } ∷ [] }
 
 abbrev pub with_phase : CallState → TargetPhase → CallState
-with_phase kept phase = record kept { phase = phase }
+with_phase state phase = record state { phase = phase }
 
 -- one more diversion was made, to this target
 abbrev pub state_at_next_target : CallState → Uri → DueDiversionView → CallState
-state_at_next_target kept target due = record kept { done = kept.done + 1; phase = Reaching target (Some due) }
+state_at_next_target state target due = record state { done = state.done + 1; phase = Reaching target (Some due) }
 
 abbrev pub state_unless_refused : Option Cause → CallState → Uri → DueDiversionView → CallState
-state_unless_refused None kept target due = state_at_next_target kept target due
-state_unless_refused (Some refusal) kept target due = with_phase kept (Over (Final refusal))
+state_unless_refused None state target due = state_at_next_target state target due
+state_unless_refused (Some refusal) state target due = with_phase state (Over (Final refusal))
 
 -- a diversion that is due, by this account, at this moment
 abbrev pub state_after_diversion : CallInputs → CallState → ServedAccountView → (now : ℕ) → DueDiversionView → CallState
-state_after_diversion call kept account now due =
-    state_unless_refused (refusal_before_diversion (target_facts call now (new_target call.home due.forward.target)) (Some account.sheet) call.received kept.done call.bound due)
-    kept (new_target call.home due.forward.target) due
+state_after_diversion call state account now due =
+    state_unless_refused (refusal_before_diversion (target_facts call now (new_target call.home due.forward.target)) (Some account.sheet) call.received state.done call.bound due)
+    state (new_target call.home due.forward.target) due
 
 -- the diversion of a decision: by the rule's forward, or else to the target of the device's deflection
 abbrev pub due_by : (bound : Option ℕ) → Option Forward → Option Uri → (cause : ℕ) → Option DueDiversionView
@@ -62,64 +62,64 @@ due_by bound None deflected cause = option_map (λ target. deflection_to target 
 due_by bound (Some forward) deflected cause = Some (record { forward = forward; cause = cause; bound = bound })
 
 abbrev pub state_after_due : CallInputs → CallState → ServedAccountView → (now : ℕ) → Option DueDiversionView → CallState
-state_after_due call kept account now None = kept
-state_after_due call kept account now (Some due) = state_after_diversion call kept account now due
+state_after_due call state account now None = state
+state_after_due call state account now (Some due) = state_after_diversion call state account now due
 
 -- a target that no service refused: it may still be of no account, or without a route
 abbrev pub offer_unless : (unknown no_peer : Bool) → ServedAccountView → (waiting : Bool) → CallState → Uri → Option DueDiversionView → CallState
-offer_unless unknown no_peer account waiting kept uri by =
-    if unknown then with_phase (with_target kept uri by NotOffered) (Over (Final causes.NoAccount))
-    else if no_peer then with_phase (with_target kept uri by NotOffered) (Over (Final causes.NoRoute))
-    else with_phase (with_target kept uri by (Offered waiting)) (Ringing account)
+offer_unless unknown no_peer account waiting state uri by =
+    if unknown then with_phase (with_target state uri by NotOffered) (Over (Final causes.NoAccount))
+    else if no_peer then with_phase (with_target state uri by NotOffered) (Over (Final causes.NoRoute))
+    else with_phase (with_target state uri by (Offered waiting)) (Ringing account)
 
 -- the verdict at a target that the call reached
 abbrev pub state_by_decision : CallInputs → ReachedTargetView → ServedAccountView → Decision → CallState → Uri → Option DueDiversionView → CallState
-state_by_decision call reach account (Offers waiting) kept uri by = offer_unless reach.is_unknown (is_none reach.peer) account waiting kept uri by
-state_by_decision call reach account (Forwards forward why) kept uri by =
-    state_after_due call (with_target kept uri by NotOffered) account reach.at (due_by (own_bound account.sheet) forward None why)
-state_by_decision call reach account (Ends why) kept uri by = with_phase (with_target kept uri by NotOffered) (Over (Final why))
+state_by_decision call reach account (Offers waiting) state uri by = offer_unless reach.is_unknown (is_none reach.peer) account waiting state uri by
+state_by_decision call reach account (Forwards forward why) state uri by =
+    state_after_due call (with_target state uri by NotOffered) account reach.at (due_by (own_bound account.sheet) forward None why)
+state_by_decision call reach account (Ends why) state uri by = with_phase (with_target state uri by NotOffered) (Over (Final why))
 
 -- the verdict after an attempt that ended
 abbrev pub state_by_verdict : CallInputs → ServedAccountView → (now : ℕ) → Option Uri → Decision → CallState → CallState
-state_by_verdict call account now deflected (Offers waiting) kept = kept
-state_by_verdict call account now deflected (Forwards forward why) kept = state_after_due call kept account now (due_by (own_bound account.sheet) forward deflected why)
-state_by_verdict call account now deflected (Ends why) kept = with_phase kept (Over (Final why))
+state_by_verdict call account now deflected (Offers waiting) state = state
+state_by_verdict call account now deflected (Forwards forward why) state = state_after_due call state account now (due_by (own_bound account.sheet) forward deflected why)
+state_by_verdict call account now deflected (Ends why) state = with_phase state (Over (Final why))
 
 -- an attempt ended: a 2xx, and a caller that abandons the call or does not acknowledge a reliable response, end the call; for all else the verdict decides
 abbrev pub state_on_end : CallInputs → ServedAccountView → (now : ℕ) → AttemptEndView → CallState → CallState
-state_on_end call account now Answer kept = with_phase kept (Over Answered)
-state_on_end call account now Cancel kept = with_phase kept (Over (Final causes.Cancelled))
-state_on_end call account now Unacknowledged kept = with_phase kept (Over (Final causes.Unacknowledged))
-state_on_end call account now (UserBusy code) kept =
-    state_by_verdict call account now None (verdict_of (caller_facts call kept.done now) account (ending.UserBusy code)) kept
-state_on_end call account now (NotReachable code) kept =
-    state_by_verdict call account now None (verdict_of (caller_facts call kept.done now) account (ending.NotReachable code)) kept
-state_on_end call account now NoReply kept = state_by_verdict call account now None (verdict_of (caller_facts call kept.done now) account ending.NoReply) kept
-state_on_end call account now (Deflection target rang) kept =
-    state_by_verdict call account now (Some target) (verdict_of (caller_facts call kept.done now) account (ending.Deflected rang)) kept
-state_on_end call account now (Other code) kept =
-    state_by_verdict call account now None (verdict_of (caller_facts call kept.done now) account (ending.Other code)) kept
+state_on_end call account now Answer state = with_phase state (Over Answered)
+state_on_end call account now Cancel state = with_phase state (Over (Final causes.Cancelled))
+state_on_end call account now Unacknowledged state = with_phase state (Over (Final causes.Unacknowledged))
+state_on_end call account now (UserBusy code) state =
+    state_by_verdict call account now None (verdict_of (caller_facts call state.done now) account (ending.UserBusy code)) state
+state_on_end call account now (NotReachable code) state =
+    state_by_verdict call account now None (verdict_of (caller_facts call state.done now) account (ending.NotReachable code)) state
+state_on_end call account now NoReply state = state_by_verdict call account now None (verdict_of (caller_facts call state.done now) account ending.NoReply) state
+state_on_end call account now (Deflection target rang) state =
+    state_by_verdict call account now (Some target) (verdict_of (caller_facts call state.done now) account (ending.Deflected rang)) state
+state_on_end call account now (Other code) state =
+    state_by_verdict call account now None (verdict_of (caller_facts call state.done now) account (ending.Other code)) state
 
 -- while it rings the call waits for the next ending
 abbrev pub state_on_endings : CallInputs → ServedAccountView → List EndedAttempt → CallState → CallState
-state_on_endings call account [] kept = kept
-state_on_endings call account (ended ∷ later) kept = state_on_end call account ended.at ended.how (record kept { endings = later })
+state_on_endings call account [] state = state
+state_on_endings call account (ended ∷ later) state = state_on_end call account ended.at ended.how (record state { endings = later })
 
 -- a target is reached: the verdict decides
 abbrev pub state_on_reaching : CallInputs → ReachedTargetView → Uri → Option DueDiversionView → CallState → CallState
-state_on_reaching call reach uri by kept =
-    state_by_decision call reach (account_at reach) (verdict_of (caller_facts call kept.done reach.at) (account_at reach) ending.Arrived) kept uri by
+state_on_reaching call reach uri by state =
+    state_by_decision call reach (account_at reach) (verdict_of (caller_facts call state.done reach.at) (account_at reach) ending.Arrived) state uri by
 
 -- one move, by the state
 abbrev pub move_in : TargetPhase → CallInputs → CallState → CallState
-move_in (Reaching uri by) call kept = state_on_reaching call (reached_target_after call kept.done uri by) uri by kept
-move_in (Ringing account) call kept = state_on_endings call account kept.endings kept
-move_in (Over result) call kept = kept
+move_in (Reaching uri by) call state = state_on_reaching call (reached_target_after call state.done uri by) uri by state
+move_in (Ringing account) call state = state_on_endings call account state.endings state
+move_in (Over result) call state = state
 
 -- that many moves
 unfoldable pub moves : ℕ → CallInputs → CallState → CallState
-moves zero call kept = kept
-moves (suc n) call kept = moves n call (move_in kept.phase call kept)
+moves zero call state = state
+moves (suc n) call state = moves n call (move_in state.phase call state)
 
 -- at first the call reaches its first target, unless it is refused at its opening
 abbrev pub initial_phase : Option Cause → CallInputs → TargetPhase
@@ -136,7 +136,7 @@ result_in (Ringing account) = Pending
 result_in (Over result) = result
 
 abbrev pub outcome_so_far : CallState → Outcome
-outcome_so_far kept = record { targets = kept.targets; result = result_in kept.phase }
+outcome_so_far state = record { targets = state.targets; result = result_in state.phase }
 
 -- two moves for each target that can be reached: it is reached, and its attempt ends
 abbrev pub enough_moves : CallInputs → ℕ

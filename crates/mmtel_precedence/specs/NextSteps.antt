@@ -81,15 +81,15 @@ step_after_attempt c sheet (Other code) = EndRefuse (causes.Relayed code)
 
 -- the state of the call after the next step at a target
 abbrev pub state_after_step : CallInputs → ServedAccountView → (now : ℕ) → CallState → Uri → Option DueDiversionView → NextStepView → CallState
-state_after_step call account now kept uri by (StepOffer peer waiting) = with_phase (with_target kept uri by (Offered waiting)) (Ringing account)
-state_after_step call account now kept uri by (StepDivert due) = state_after_diversion call (with_target kept uri by NotOffered) account now due
-state_after_step call account now kept uri by (StepRefuse cause) = with_phase (with_target kept uri by NotOffered) (Over (Final cause))
+state_after_step call account now state uri by (StepOffer peer waiting) = with_phase (with_target state uri by (Offered waiting)) (Ringing account)
+state_after_step call account now state uri by (StepDivert due) = state_after_diversion call (with_target state uri by NotOffered) account now due
+state_after_step call account now state uri by (StepRefuse cause) = with_phase (with_target state uri by NotOffered) (Over (Final cause))
 
 -- and after the next step at the end of an attempt
 abbrev pub state_after_attempt_step : CallInputs → ServedAccountView → (now : ℕ) → CallState → StepAfterAttemptView → CallState
-state_after_attempt_step call account now kept EndAnswered = with_phase kept (Over Answered)
-state_after_attempt_step call account now kept (EndDivert due) = state_after_diversion call kept account now due
-state_after_attempt_step call account now kept (EndRefuse cause) = with_phase kept (Over (Final cause))
+state_after_attempt_step call account now state EndAnswered = with_phase state (Over Answered)
+state_after_attempt_step call account now state (EndDivert due) = state_after_diversion call state account now due
+state_after_attempt_step call account now state (EndRefuse cause) = with_phase state (Over (Final cause))
 
 -- the record of the account that is served at a target, if one is
 abbrev pub sheet_of : ReachedTargetView → Option Sheet
@@ -97,36 +97,36 @@ sheet_of reach = option_map (λ (account : ServedAccountView). account.sheet) re
 
 -- the move at a target is the next step there
 abbrev pub NextStepsAreMoves : Type 0
-NextStepsAreMoves = (call : CallInputs) (reach : ReachedTargetView) (kept : CallState) (uri : Uri) (by : Option DueDiversionView) →
-    state_on_reaching call reach uri by kept ≡ state_after_step call (account_at reach) reach.at kept uri by (next_step_at (caller_facts call kept.done reach.at) reach)
+NextStepsAreMoves = (call : CallInputs) (reach : ReachedTargetView) (state : CallState) (uri : Uri) (by : Option DueDiversionView) →
+    state_on_reaching call reach uri by state ≡ state_after_step call (account_at reach) reach.at state uri by (next_step_at (caller_facts call state.done reach.at) reach)
 
 -- the move on the end of an attempt at a target is the next step after it
 abbrev pub EndingsAreMoves : Type 0
-EndingsAreMoves = (call : CallInputs) (reach : ReachedTargetView) (now : ℕ) (how : AttemptEndView) (kept : CallState) →
-    state_on_end call (account_at reach) now how kept ≡ state_after_attempt_step call (account_at reach) now kept (step_after_attempt (caller_facts call kept.done now) (sheet_of reach) how)
+EndingsAreMoves = (call : CallInputs) (reach : ReachedTargetView) (now : ℕ) (how : AttemptEndView) (state : CallState) →
+    state_on_end call (account_at reach) now how state ≡ state_after_attempt_step call (account_at reach) now state (step_after_attempt (caller_facts call state.done now) (sheet_of reach) how)
 
 -- ---- a whole call, step by step
 
 -- while it rings the call waits for the next end of its attempt
 abbrev pub steps_on_endings : CallInputs → ServedAccountView → List EndedAttempt → CallState → CallState
-steps_on_endings call account [] kept = kept
-steps_on_endings call account (ended ∷ later) kept =
-    state_after_attempt_step call account ended.at (record kept { endings = later }) (step_after_attempt (caller_facts call kept.done ended.at) (Some account.sheet) ended.how)
+steps_on_endings call account [] state = state
+steps_on_endings call account (ended ∷ later) state =
+    state_after_attempt_step call account ended.at (record state { endings = later }) (step_after_attempt (caller_facts call state.done ended.at) (Some account.sheet) ended.how)
 
 -- at the target, in the state when the call reaches it
 abbrev pub step_at_target : CallInputs → ReachedTargetView → CallState → Uri → Option DueDiversionView → CallState
-step_at_target call reach kept uri by = state_after_step call (account_at reach) reach.at kept uri by (next_step_at (caller_facts call kept.done reach.at) reach)
+step_at_target call reach state uri by = state_after_step call (account_at reach) reach.at state uri by (next_step_at (caller_facts call state.done reach.at) reach)
 
 -- one step, by the state
 abbrev pub next_step_in : TargetPhase → CallInputs → CallState → CallState
-next_step_in (Reaching uri by) call kept = step_at_target call (reached_target_after call kept.done uri by) kept uri by
-next_step_in (Ringing account) call kept = steps_on_endings call account kept.endings kept
-next_step_in (Over result) call kept = kept
+next_step_in (Reaching uri by) call state = step_at_target call (reached_target_after call state.done uri by) state uri by
+next_step_in (Ringing account) call state = steps_on_endings call account state.endings state
+next_step_in (Over result) call state = state
 
 -- that many steps
 unfoldable pub next_steps : ℕ → CallInputs → CallState → CallState
-next_steps zero call kept = kept
-next_steps (suc n) call kept = next_steps n call (next_step_in kept.phase call kept)
+next_steps zero call state = state
+next_steps (suc n) call state = next_steps n call (next_step_in state.phase call state)
 
 -- the steps give the outcome, and nothing changes afterwards
 abbrev pub NextStepsGiveTheOutcome : Type 0

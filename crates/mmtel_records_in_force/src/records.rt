@@ -86,7 +86,7 @@ impl Records {
         sheet: Sheet,
     ) -> Result<SharedSheet, NoMemory>
         ensures same { HasSameRecords self.new self.old }
-        ensures room { OnOk result (IsTrue (may_put self.new account)) }
+        ensures capacity { OnOk result (IsTrue (may_put self.new account)) }
         ensures its { IfOk result (λ shared. shared ≡ sheet) }
     {
         let shared = SharedSheet::new(alloc, sheet)?;
@@ -97,7 +97,7 @@ impl Records {
 
     /// Puts a text in place of the account's previous one, and its sheet in force. It allocates nothing: `reserve` reserved the space.
     pub fn replace(&mut self, account: Account, text: Text, sheet: SharedSheet)
-        requires room { IsTrue (may_put self.old account) }
+        requires capacity { IsTrue (may_put self.old account) }
         requires its { sheet ≡ stored_sheet text }
         ensures texts { self.new.texts.texts ≡ put account text self.old.texts.texts }
         ensures registered { (registrations : Registrations) → IsRegisteredBy self.old registrations → IsRegisteredBy self.new registrations }

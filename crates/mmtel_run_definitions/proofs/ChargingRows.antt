@@ -435,7 +435,7 @@ module _ (d : Directory) (token : List ℕ) (fuel : ℕ) where
       (one_step d v w (after_events d token fuel xs w) (states_of_steps d token fuel xs w) (after_event_adds d token v now x.parsed x.accepted) (steps_lead xs w))
 
 pub rows_in_order : RowsAreInOrder
-rows_in_order d token loaded fuel happened = steps_lead d token fuel (timed_events d happened) (initial_state loaded)
+rows_in_order d token loaded fuel recorded = steps_lead d token fuel (timed_events d recorded) (initial_state loaded)
 
 -- ---- those of calls and those of participants, each in their order
 
@@ -471,7 +471,7 @@ module _ (d : Directory) (token : List ℕ) where
       after_events_filed fuel xs (after_event_in_order d token fuel x w) (step_filed d v (after_event_in_order d token fuel x w) (after_event_adds d token v now x.parsed x.accepted) (after_due_deadlines_filed fuel now w e))
 
 pub rows_are_filed : RowsAreFiled
-rows_are_filed d token loaded fuel happened = after_events_filed d token fuel (timed_events d happened) (initial_state loaded) (record { closed = []; all = refl; calls = refl; participants = refl })
+rows_are_filed d token loaded fuel recorded = after_events_filed d token fuel (timed_events d recorded) (initial_state loaded) (record { closed = []; all = refl; calls = refl; participants = refl })
 
 none_waits_by : (rows : List Row) (w : RunState) → w.waiting ≡ rows → (after_handover true rows w).waiting ≡ []
 none_waits_by [] w same = same

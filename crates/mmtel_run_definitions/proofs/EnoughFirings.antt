@@ -331,19 +331,19 @@ module _ (d : Directory) (token : List ℕ) where
         )
 
 pub always : FiringsUseUp → BeginsChangeNothing → GivesAlways
-always use_up begins d token loaded happened = enough_after d token use_up begins (timed_events d happened) (initial_state loaded)
+always use_up begins d token loaded recorded = enough_after d token use_up begins (timed_events d recorded) (initial_state loaded)
 
 -- more of them do not change what was done
-pub same_world : (d : Directory) (token : List ℕ) (loaded : Texts) (happened : List EventRecord) (fuel more : ℕ) → IsEnough d token loaded fuel happened
-    → state_after d token loaded (fuel + more) happened ≡ state_after d token loaded fuel happened
-same_world d token loaded happened fuel more e = after_events_more d token fuel more (timed_events d happened) (initial_state loaded) e
+pub same_world : (d : Directory) (token : List ℕ) (loaded : Texts) (recorded : List EventRecord) (fuel more : ℕ) → IsEnough d token loaded fuel recorded
+    → state_after d token loaded (fuel + more) recorded ≡ state_after d token loaded fuel recorded
+same_world d token loaded recorded fuel more e = after_events_more d token fuel more (timed_events d recorded) (initial_state loaded) e
 
 pub more_changes_nothing : MoreChangesNothing
-more_changes_nothing d token loaded happened fuel more e = ap (λ (w : RunState). w.offers) (same_world d token loaded happened fuel more e)
+more_changes_nothing d token loaded recorded fuel more e = ap (λ (w : RunState). w.offers) (same_world d token loaded recorded fuel more e)
 
 pub once : GivesOnce
-once d token loaded happened offers others g h =
+once d token loaded recorded offers others g h =
     let turned : g.fuel + h.fuel ≡ h.fuel + g.fuel = omega arith in
-    g.exact ∙ (sym (more_changes_nothing d token loaded happened g.fuel h.fuel g.enough)
-    ∙ (ap (λ (k : ℕ). offers_of_run d token loaded k happened) turned
-    ∙ (more_changes_nothing d token loaded happened h.fuel g.fuel h.enough ∙ sym h.exact)))
+    g.exact ∙ (sym (more_changes_nothing d token loaded recorded g.fuel h.fuel g.enough)
+    ∙ (ap (λ (k : ℕ). offers_of_run d token loaded k recorded) turned
+    ∙ (more_changes_nothing d token loaded recorded h.fuel g.fuel h.enough ∙ sym h.exact)))

@@ -336,8 +336,8 @@ each_append [] ys t = refl
 each_append (x ∷ xs) ys t = each_append xs ys (put x.0 x.1 t)
 
 pub texts_are_those_kept : TextsAreThoseKept
-texts_are_those_kept d token loaded fuel happened =
-    after_events_texts d token fuel happened (initial_state loaded) ∙ sym (each_append loaded (uploads_of d.names happened) [])
+texts_are_those_kept d token loaded fuel recorded =
+    after_events_texts d token fuel recorded (initial_state loaded) ∙ sym (each_append loaded (uploads_of d.names recorded) [])
 
 -- ---- what calls get
 

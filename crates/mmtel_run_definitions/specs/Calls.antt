@@ -80,8 +80,8 @@ abbrev pub caller_of : ParsedMessage → Identities2
 caller_of message = identities_of (asserted message.trusted message.lines)
 
 abbrev pub arrival_signal_by : Parties → TKey → MessageView → Signal
-arrival_signal_by parties key said = signal.Arrived key said (served_accounts parties) parties.registration (caller_of said.parsed)
+arrival_signal_by parties key message = signal.Arrived key message (served_accounts parties) parties.registration (caller_of message.parsed)
 
 -- the signal of an INVITE that opens a call, with what is read of its parties
 abbrev pub arrival_signal : List AccountIdentity → TKey → MessageView → Signal
-arrival_signal accounts key said = arrival_signal_by (parties_of accounts said.parsed) key said
+arrival_signal accounts key message = arrival_signal_by (parties_of accounts message.parsed) key message

@@ -63,8 +63,8 @@ pub record AreFiled (directory : Directory) (state : RunState) : Type 0 where
   pub participants : rows_of_conferences closed ≡ rows_of_departed (conference_config directory) state.conference_ops
 
 abbrev pub RowsAreFiled : Type 0
-RowsAreFiled = (directory : Directory) (token : List ℕ) (loaded : Texts) (fuel : ℕ) (happened : List EventRecord) →
-    AreFiled directory (state_after directory token loaded fuel happened)
+RowsAreFiled = (directory : Directory) (token : List ℕ) (loaded : Texts) (fuel : ℕ) (recorded : List EventRecord) →
+    AreFiled directory (state_after directory token loaded fuel recorded)
 
 -- ---- in one order: that of the steps, each of which is a timer that fires, or an event
 
@@ -92,12 +92,12 @@ rows_of_steps directory before (state ∷ later) = rows_of_step directory before
 
 -- the CDRs that the keeper accepted, and then those that wait, are those of the first step, then those of the second, and so on
 abbrev pub AreInOrder : Directory → (token : List ℕ) → (loaded : Texts) → (fuel : ℕ) → List EventRecord → Type 0
-AreInOrder directory token loaded fuel happened =
-    (state_after directory token loaded fuel happened).filed ++ (state_after directory token loaded fuel happened).waiting
-    ≡ rows_of_steps directory (initial_state loaded) (states_of_steps directory token fuel (timed_events directory happened) (initial_state loaded))
+AreInOrder directory token loaded fuel recorded =
+    (state_after directory token loaded fuel recorded).filed ++ (state_after directory token loaded fuel recorded).waiting
+    ≡ rows_of_steps directory (initial_state loaded) (states_of_steps directory token fuel (timed_events directory recorded) (initial_state loaded))
 
 abbrev pub RowsAreInOrder : Type 0
-RowsAreInOrder = (directory : Directory) (token : List ℕ) (loaded : Texts) (fuel : ℕ) (happened : List EventRecord) → AreInOrder directory token loaded fuel happened
+RowsAreInOrder = (directory : Directory) (token : List ℕ) (loaded : Texts) (fuel : ℕ) (recorded : List EventRecord) → AreInOrder directory token loaded fuel recorded
 
 -- none waits after an event in which the keeper accepted what was handed to it
 abbrev pub NoneWaits : Type 0

@@ -85,5 +85,5 @@ comes_before next armed = nat_lt next.at armed.at || (next.at == armed.at && nat
 abbrev pub first_deadline : Option DueEntryView → Option FirstTimer → Option Deadline
 first_deadline None None = None
 first_deadline (Some next) None = Some OfTransaction
-first_deadline None (Some alarm) = Some (OfServiceTimer alarm.first alarm.others)
-first_deadline (Some next) (Some alarm) = if comes_before next alarm.first then Some OfTransaction else Some (OfServiceTimer alarm.first alarm.others)
+first_deadline None (Some foremost) = Some (OfServiceTimer foremost.first foremost.others)
+first_deadline (Some next) (Some foremost) = if comes_before next foremost.first then Some OfTransaction else Some (OfServiceTimer foremost.first foremost.others)

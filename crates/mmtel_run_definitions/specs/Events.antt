@@ -34,7 +34,7 @@ pub data ParsedEvent : Type 0 where
   -- bytes of a peer that are refused as they are read, with the reply that is due
   Refused : (peer : Peer) → (source : Addr) → (reply : Message Start) → ParsedEvent
   -- a message of a peer
-  Received : (said : MessageView) → ParsedEvent
+  Received : (message : MessageView) → ParsedEvent
   -- a web request, and the results of the keeper
   WebRequested : (request : ParsedRequestView) → (kept : KeeperOutcomeView) → (rows : List Row) → ParsedEvent
 
@@ -67,7 +67,7 @@ parsed_event directory (event.Quiet at) kept rows = Nothing
 
 -- of the record of an event
 abbrev pub parsed_record : Directory → EventRecord → ParsedEvent
-parsed_record directory happened = parsed_event directory happened.event happened.outcome happened.rows
+parsed_record directory recorded = parsed_event directory recorded.event recorded.outcome recorded.rows
 
 -- ---- a whole run
 
@@ -88,11 +88,11 @@ timed_event_of directory came = record { at = moment_of came.event; parsed = par
 
 -- of all events of a run
 abbrev pub timed_events : Directory → List EventRecord → List TimedEvent
-timed_events directory happened = map (λ came. timed_event_of directory came) happened
+timed_events directory recorded = map (λ came. timed_event_of directory came) recorded
 
 -- the events alone
 abbrev pub events_in : List EventRecord → List Event
-events_in happened = map (λ came. came.event) happened
+events_in recorded = map (λ came. came.event) recorded
 
 -- a message as it was received
 abbrev pub message_in : ParsedMessage → Message Start

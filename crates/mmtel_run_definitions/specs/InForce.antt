@@ -34,7 +34,7 @@ upload_at names (event.Quiet at) kept = None
 -- the uploads that were stored in all events, in their order
 abbrev pub uploads_of : WebDirectory → List EventRecord → Texts
 uploads_of names [] = []
-uploads_of names (one ∷ happened) = option_to_list (upload_at names one.event one.outcome) ++ uploads_of names happened
+uploads_of names (one ∷ recorded) = option_to_list (upload_at names one.event one.outcome) ++ uploads_of names recorded
 
 -- ---- the last one of an account
 
@@ -52,8 +52,8 @@ last_of (text ∷ others) account = last_or (last_of others account) (text_for a
 
 -- the texts of a run are those that were loaded, overridden by those that were stored,
 abbrev pub TextsAreThoseKept : Type 0
-TextsAreThoseKept = (directory : Directory) (token : List ℕ) (loaded : Texts) (fuel : ℕ) (happened : List EventRecord) →
-    (state_after directory token loaded fuel happened).texts ≡ put_each (loaded ++ uploads_of directory.names happened) []
+TextsAreThoseKept = (directory : Directory) (token : List ℕ) (loaded : Texts) (fuel : ℕ) (recorded : List EventRecord) →
+    (state_after directory token loaded fuel recorded).texts ≡ put_each (loaded ++ uploads_of directory.names recorded) []
 
 -- and among these the account's last one is its text
 abbrev pub LastIsInForce : Type 0

@@ -68,7 +68,7 @@ tag_for token drawn to_tag = if is_none to_tag then token_text token (drawn + 1)
 
 -- to a received request
 abbrev pub response_to : (sip : Addr) → (tag : List ℕ) → MessageView → StatusResponse → Message Start
-response_to sip tag said answer = own_response (contact_text sip) said tag answer.code [] answer.lines []
+response_to sip tag message answer = own_response (contact_text sip) message tag answer.code [] answer.lines []
 
 -- the tag of To in these header fields
 abbrev pub to_tag_in : List Line → Option (List ℕ)

@@ -175,7 +175,7 @@ account_of_side call side entries = account_at (party call.0 side entries)
 
 -- the leg of the sender of an INVITE, where the server responds with this tag
 abbrev pub leg_by : (tag : List ℕ) → MessageView → Leg
-leg_by tag said = record { dialogue = caller_dialogue_with_remote said.peer said.parsed.lines tag; meter = None }
+leg_by tag message = record { dialogue = caller_dialogue_with_remote message.peer message.parsed.lines tag; meter = None }
 
 -- the status of the response to one who cannot join
 abbrev pub status_of_fault : RoomFault → ℕ

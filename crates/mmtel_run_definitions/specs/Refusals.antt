@@ -154,7 +154,7 @@ conference_number sip target = record { 0 = unwrap_or (conference_in sip target)
 
 -- an INVITE to a conference is refused unless it offers audio: the mixer takes nothing else (RFC 3264 §6)
 abbrev pub audio_or_refusal : ParsedMessage → Disposition → Disposition
-audio_or_refusal message course = if offers_audio message.body then course else Respond (plain_response 488)
+audio_or_refusal message decided = if offers_audio message.body then decided else Respond (plain_response 488)
 
 -- it opens a call, unless as many live as may (`full`)
 abbrev pub call_opening : (full : Bool) → Disposition
@@ -236,12 +236,12 @@ is_of_no_subscription (InSubscription sub) = false
 
 -- a SUBSCRIBE in the dialog of a call or of a participant belongs to no subscription: neither receives it (RFC 6665 §4.2.1.2)
 abbrev pub in_dialog_disposition : DialogOwner → ParsedMessage → Disposition
-in_dialog_disposition holder message = if is_subscribe message && is_of_no_subscription holder then Respond (plain_response 481) else entry_into holder
+in_dialog_disposition owner message = if is_subscribe message && is_of_no_subscription owner then Respond (plain_response 481) else entry_into owner
 
 -- in its dialog, where it names one
 abbrev pub disposition_in : Directory → (full : Bool) → (named : Option DialogOwner) → ParsedMessage → Disposition
 disposition_in directory full None message = disposition_by_method directory full message
-disposition_in directory full (Some holder) message = in_dialog_disposition holder message
+disposition_in directory full (Some owner) message = in_dialog_disposition owner message
 
 abbrev pub disposition_by : Directory → (full : Bool) → (named : Option DialogOwner) → ParsedMessage → Option StatusResponse → Disposition
 disposition_by directory full named message None = disposition_in directory full named message

@@ -53,14 +53,14 @@ IsEnoughAfter directory token fuel (notice ∷ others) state =
     IsSettled directory token fuel (clock_at state notice.at) state × IsEnoughAfter directory token fuel others (after_event_in_order directory token fuel notice state)
 
 abbrev pub IsEnough : Directory → (token : List ℕ) → (loaded : Texts) → (fuel : ℕ) → List EventRecord → Type 0
-IsEnough directory token loaded fuel happened = IsEnoughAfter directory token fuel (timed_events directory happened) (initial_state loaded)
+IsEnough directory token loaded fuel recorded = IsEnoughAfter directory token fuel (timed_events directory recorded) (initial_state loaded)
 
 -- the state of the run after these events
 abbrev pub state_after : Directory → (token : List ℕ) → (loaded : Texts) → (fuel : ℕ) → List EventRecord → RunState
-state_after directory token loaded fuel happened = after_events directory token fuel (timed_events directory happened) (initial_state loaded)
+state_after directory token loaded fuel recorded = after_events directory token fuel (timed_events directory recorded) (initial_state loaded)
 
 -- ---- the outputs
 
 -- what the server outputs in a run, in order
 abbrev pub offers_of_run : Directory → (token : List ℕ) → (loaded : Texts) → (fuel : ℕ) → List EventRecord → List Offer
-offers_of_run directory token loaded fuel happened = (state_after directory token loaded fuel happened).offers
+offers_of_run directory token loaded fuel recorded = (state_after directory token loaded fuel recorded).offers

@@ -150,14 +150,15 @@ next_tag token state = token_text token (state.drawn + 1)
 
 -- a response in a transaction, with a tag of the server where To has none
 abbrev pub with_response : Directory → (token : List ℕ) → ℕ → TKey → MessageView → StatusResponse → RunState → RunState
-with_response directory token at key said answer state =
-    with_emits at (emit.Reply key (response_to directory.sip (tag_for token state.drawn said.parsed.to_tag) said answer) ∷ []) (with_draws (tags_due said.parsed.to_tag) state)
+with_response directory token at key message answer state =
+    with_emits at (emit.Reply key (response_to directory.sip (tag_for token state.drawn message.parsed.to_tag) message answer) ∷ [])
+    (with_draws (tags_due message.parsed.to_tag) state)
 
 -- a response without one
 abbrev pub with_stateless_response : Directory → (token : List ℕ) → ℕ → MessageView → StatusResponse → RunState → RunState
-with_stateless_response directory token at said answer state =
-    with_emits at (emit.Plain said.peer (message_text (response_to directory.sip (tag_for token state.drawn said.parsed.to_tag) said answer)) ∷ [])
-    (with_draws (tags_due said.parsed.to_tag) state)
+with_stateless_response directory token at message answer state =
+    with_emits at (emit.Plain message.peer (message_text (response_to directory.sip (tag_for token state.drawn message.parsed.to_tag) message answer)) ∷ [])
+    (with_draws (tags_due message.parsed.to_tag) state)
 
 -- the reply to bytes of a peer that were refused as they were read
 abbrev pub with_refusal_of_bytes : (token : List ℕ) → ℕ → Peer → Addr → Message Start → RunState → RunState

@@ -18,8 +18,8 @@ pub record IsShort (state : RunState) : Type 0 where
 
 -- of the whole run with these events, after which every timer that was due has fired
 abbrev pub IsShortRun : Directory → (token : List ℕ) → (loaded : Texts) → List EventRecord → Type 0
-IsShortRun directory token loaded happened =
-    (fuel : ℕ) → IsEnough directory token loaded fuel happened → IsShort (state_after directory token loaded fuel happened)
+IsShortRun directory token loaded recorded =
+    (fuel : ℕ) → IsEnough directory token loaded fuel recorded → IsShort (state_after directory token loaded fuel recorded)
 
 -- ---- the count of drawn numbers never decreases
 

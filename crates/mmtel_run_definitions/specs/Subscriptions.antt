@@ -98,33 +98,33 @@ after_activation directory token at sub seconds state =
 
 -- a subscription is created: its tag is drawn, 200 is sent, and then the NOTIFY
 abbrev pub after_subscription : Directory → (token : List ℕ) → ℕ → TKey → MessageView → Account → (seconds : ℕ) → RunState → RunState
-after_subscription directory token at key said account seconds state =
+after_subscription directory token at key message account seconds state =
     after_activation directory token at (next_sub (subscriptions_in state)) seconds
-    (with_emits at (emit.Reply key (response_to directory.sip (next_tag token state) said (grant_response seconds)) ∷ [])
-    (with_mailbox_op (Subscribes account (leg_by (next_tag token state) said) (until_of at seconds)) (with_draws 1 state)))
+    (with_emits at (emit.Reply key (response_to directory.sip (next_tag token state) message (grant_response seconds)) ∷ [])
+    (with_mailbox_op (Subscribes account (leg_by (next_tag token state) message) (until_of at seconds)) (with_draws 1 state)))
 
 -- unless as many live as may
 abbrev pub after_subscription_for : Directory → (token : List ℕ) → ℕ → TKey → MessageView → Option Account → RunState → RunState
-after_subscription_for directory token at key said None state = with_response directory token at key said (plain_response 403) state
-after_subscription_for directory token at key said (Some account) state =
-    if is_full (subscriptions_in state) then with_response directory token at key said (plain_response 503) state
-    else after_subscription directory token at key said account (granted_seconds said.parsed.expires) state
+after_subscription_for directory token at key message None state = with_response directory token at key message (plain_response 403) state
+after_subscription_for directory token at key message (Some account) state =
+    if is_full (subscriptions_in state) then with_response directory token at key message (plain_response 503) state
+    else after_subscription directory token at key message account (granted_seconds message.parsed.expires) state
 
 abbrev pub after_subscribe_by : Directory → (token : List ℕ) → ℕ → TKey → MessageView → Option ℕ → RunState → RunState
-after_subscribe_by directory token at key said None state = after_subscription_for directory token at key said (named_mailbox directory said.parsed) state
-after_subscribe_by directory token at key said (Some code) state = with_response directory token at key said (refusal_response code) state
+after_subscribe_by directory token at key message None state = after_subscription_for directory token at key message (named_mailbox directory message.parsed) state
+after_subscribe_by directory token at key message (Some code) state = with_response directory token at key message (refusal_response code) state
 
 abbrev pub after_subscribe : Directory → (token : List ℕ) → ℕ → TKey → MessageView → RunState → RunState
-after_subscribe directory token at key said state = after_subscribe_by directory token at key said (refusal (subscribe_request_of directory false said.parsed)) state
+after_subscribe directory token at key message state = after_subscribe_by directory token at key message (refusal (subscribe_request_of directory false message.parsed)) state
 
 -- ---- a request in the dialog of a subscription
 
 -- a SUBSCRIBE sets its expiration anew
 abbrev pub after_refresh_by : Directory → (token : List ℕ) → ℕ → TKey → MessageView → SubNo → Option ℕ → RunState → RunState
-after_refresh_by directory token at key said sub None state =
-    after_activation directory token at sub (granted_seconds said.parsed.expires)
-    (with_response directory token at key said (grant_response (granted_seconds said.parsed.expires)) (with_mailbox_op (Refreshes sub (until_of at (granted_seconds said.parsed.expires))) state))
-after_refresh_by directory token at key said sub (Some code) state = with_response directory token at key said (refusal_response code) state
+after_refresh_by directory token at key message sub None state =
+    after_activation directory token at sub (granted_seconds message.parsed.expires)
+    (with_response directory token at key message (grant_response (granted_seconds message.parsed.expires)) (with_mailbox_op (Refreshes sub (until_of at (granted_seconds message.parsed.expires))) state))
+after_refresh_by directory token at key message sub (Some code) state = with_response directory token at key message (refusal_response code) state
 
 -- any other: 200 for OPTIONS with the allowed methods, 403 for REFER, and else 481
 abbrev pub other_response : Directory → ParsedMessage → StatusResponse
@@ -134,17 +134,18 @@ other_response directory m =
     else plain_response 481
 
 abbrev pub after_request_in_order : Directory → (token : List ℕ) → ℕ → TKey → MessageView → SubNo → RunState → RunState
-after_request_in_order directory token at key said sub state =
-    if is_method (codes "SUBSCRIBE") said.parsed.start then after_refresh_by directory token at key said sub (refusal (subscribe_request_of directory true said.parsed)) state
-    else with_response directory token at key said (other_response directory said.parsed) state
+after_request_in_order directory token at key message sub state =
+    if is_method (codes "SUBSCRIBE") message.parsed.start
+    then after_refresh_by directory token at key message sub (refusal (subscribe_request_of directory true message.parsed)) state
+    else with_response directory token at key message (other_response directory message.parsed) state
 
 -- a CSeq number that is too low is refused, and changes nothing; each that is accepted raises the last one, also where the request is refused for another cause
 abbrev pub after_checked_request : Directory → (token : List ℕ) → ℕ → TKey → MessageView → SubNo → Result (Unit {0}) DialogueFault → RunState → RunState
-after_checked_request directory token at key said sub (Err fault) state = with_response directory token at key said (plain_response 500) state
-after_checked_request directory token at key said sub (Ok done) state = after_request_in_order directory token at key said sub (with_mailbox_op (Receives sub (message_in said.parsed)) state)
+after_checked_request directory token at key message sub (Err fault) state = with_response directory token at key message (plain_response 500) state
+after_checked_request directory token at key message sub (Ok done) state = after_request_in_order directory token at key message sub (with_mailbox_op (Receives sub (message_in message.parsed)) state)
 
 abbrev pub after_subscription_request : Directory → (token : List ℕ) → ℕ → TKey → MessageView → SubNo → RunState → RunState
-after_subscription_request directory token at key said sub state = after_checked_request directory token at key said sub (request_check sub (message_in said.parsed) (subscriptions_in state)) state
+after_subscription_request directory token at key message sub state = after_checked_request directory token at key message sub (request_check sub (message_in message.parsed) (subscriptions_in state)) state
 
 -- ---- an upload that was accepted: each subscriber gets a NOTIFY, in the order in which they subscribed
 

@@ -7,20 +7,20 @@ use Rattle.mmtel_run_definitions.specs.Events.{EventRecord}
 use Rattle.mmtel_run_definitions.specs.Run.{IsEnough, offers_of_run}
 
 -- in the run with these events, over the texts that were loaded, the server outputs exactly this: every timer that is due before an event has fired, however many these are
-pub record Gives (directory : Directory) (token : List ℕ) (loaded : Texts) (happened : List EventRecord) (offers : List Offer) : Type 0 where
+pub record Gives (directory : Directory) (token : List ℕ) (loaded : Texts) (recorded : List EventRecord) (offers : List Offer) : Type 0 where
   pub fuel : ℕ
-  pub enough : IsEnough directory token loaded fuel happened
-  pub exact : offers ≡ offers_of_run directory token loaded fuel happened
+  pub enough : IsEnough directory token loaded fuel recorded
+  pub exact : offers ≡ offers_of_run directory token loaded fuel recorded
 
 -- there is such a list for each run,
 abbrev pub GivesAlways : Type 0
-GivesAlways = (directory : Directory) (token : List ℕ) (loaded : Texts) (happened : List EventRecord) → (fuel : ℕ) × IsEnough directory token loaded fuel happened
+GivesAlways = (directory : Directory) (token : List ℕ) (loaded : Texts) (recorded : List EventRecord) → (fuel : ℕ) × IsEnough directory token loaded fuel recorded
 
 -- and only one: more firings than are enough change nothing
 abbrev pub MoreChangesNothing : Type 0
-MoreChangesNothing = (directory : Directory) (token : List ℕ) (loaded : Texts) (happened : List EventRecord) (fuel more : ℕ) → IsEnough directory token loaded fuel happened →
-    offers_of_run directory token loaded (fuel + more) happened ≡ offers_of_run directory token loaded fuel happened
+MoreChangesNothing = (directory : Directory) (token : List ℕ) (loaded : Texts) (recorded : List EventRecord) (fuel more : ℕ) → IsEnough directory token loaded fuel recorded →
+    offers_of_run directory token loaded (fuel + more) recorded ≡ offers_of_run directory token loaded fuel recorded
 
 abbrev pub GivesOnce : Type 0
-GivesOnce = (directory : Directory) (token : List ℕ) (loaded : Texts) (happened : List EventRecord) (offers others : List Offer) →
-    Gives directory token loaded happened offers → Gives directory token loaded happened others → offers ≡ others
+GivesOnce = (directory : Directory) (token : List ℕ) (loaded : Texts) (recorded : List EventRecord) (offers others : List Offer) →
+    Gives directory token loaded recorded offers → Gives directory token loaded recorded others → offers ≡ others

@@ -162,7 +162,7 @@ with_registration account until state = record state { registrations = (account,
 
 -- and the request gets its response
 abbrev pub after_register : Directory → (token : List ℕ) → ℕ → TKey → MessageView → Account → (seconds : ℕ) → RunState → RunState
-after_register directory token at key said account seconds state = with_response directory token at key said (plain_response 200) (with_registration account (until_of at seconds) state)
+after_register directory token at key message account seconds state = with_response directory token at key message (plain_response 200) (with_registration account (until_of at seconds) state)
 
 -- ---- web requests
 
@@ -183,38 +183,38 @@ after_web_request directory token at request kept rows state = after_mailbox_upl
 
 -- the party cannot join
 abbrev pub after_newcomer_refusal : Directory → ℕ → TKey → MessageView → (tag : List ℕ) → (code : ℕ) → RunState → RunState
-after_newcomer_refusal directory at key said tag code state = with_emits at (emit.Reply key (response_to directory.sip tag said (plain_response code)) ∷ []) state
+after_newcomer_refusal directory at key message tag code state = with_emits at (emit.Reply key (response_to directory.sip tag message (plain_response code)) ∷ []) state
 
 -- the account of the party that joins is that of the caller
 abbrev pub opening_op : Directory → ℕ → TKey → MessageView → (tag : List ℕ) → rooms.TableOp
-opening_op directory at key said tag = rooms.Opens (join_request at (leg_by tag said) (caller_account directory.names.accounts said.parsed) key said)
+opening_op directory at key message tag = rooms.Opens (join_request at (leg_by tag message) (caller_account directory.names.accounts message.parsed) key message)
 
 -- a conference of its own, unless as many are live as may
 abbrev pub after_opening_if : Directory → ℕ → TKey → MessageView → (tag : List ℕ) → (is_full : Bool) → RunState → RunState
-after_opening_if directory at key said tag true state = after_newcomer_refusal directory at key said tag 503 state
-after_opening_if directory at key said tag false state = with_conference_output at (opening_op directory at key said tag) (output_of_conference_op directory (opening_op directory at key said tag) state) state
+after_opening_if directory at key message tag true state = after_newcomer_refusal directory at key message tag 503 state
+after_opening_if directory at key message tag false state = with_conference_output at (opening_op directory at key message tag) (output_of_conference_op directory (opening_op directory at key message tag) state) state
 
 abbrev pub after_factory_invite : Directory → (token : List ℕ) → ℕ → TKey → MessageView → RunState → RunState
-after_factory_invite directory token at key said state = after_opening_if directory at key said (next_tag token state) (is_table_full (conferences_in directory state).live) (with_draws 1 state)
+after_factory_invite directory token at key message state = after_opening_if directory at key message (next_tag token state) (is_table_full (conferences_in directory state).live) (with_draws 1 state)
 
 abbrev pub join_op : Directory → ℕ → TKey → MessageView → RoomNo → (tag : List ℕ) → TokensView → rooms.TableOp
-join_op directory at key said room tag tokens = rooms.Joins room.0 (record {
+join_op directory at key message room tag tokens = rooms.Joins room.0 (record {
   at = at;
   tokens = tokens;
-  leg = released.Caller (leg_by tag said);
-  account = caller_account directory.names.accounts said.parsed;
+  leg = released.Caller (leg_by tag message);
+  account = caller_account directory.names.accounts message.parsed;
   key = key;
-  invite = said;
+  invite = message;
 })
 
 -- a participant, where the conference is live and has a free place
 abbrev pub after_join_if : Directory → (token : List ℕ) → ℕ → TKey → MessageView → RoomNo → (tag : List ℕ) → Result ℕ RoomFault → RunState → RunState
-after_join_if directory token at key said room tag (Err fault) state = after_newcomer_refusal directory at key said tag (status_of_fault fault) state
-after_join_if directory token at key said room tag (Ok place) state = after_conference_op directory at (join_op directory at key said room tag (tokens_now token state)) state
+after_join_if directory token at key message room tag (Err fault) state = after_newcomer_refusal directory at key message tag (status_of_fault fault) state
+after_join_if directory token at key message room tag (Ok place) state = after_conference_op directory at (join_op directory at key message room tag (tokens_now token state)) state
 
 abbrev pub after_conference_invite : Directory → (token : List ℕ) → ℕ → TKey → MessageView → RoomNo → RunState → RunState
-after_conference_invite directory token at key said room state =
-    after_join_if directory token at key said room (next_tag token state) (access room.0 (conferences_in directory state).live) (with_draws 1 state)
+after_conference_invite directory token at key message room state =
+    after_join_if directory token at key message room (next_tag token state) (access room.0 (conferences_in directory state).live) (with_draws 1 state)
 
 -- ---- a REFER of a participant with Replaces (RFC 3891 §3, RFC 4579 §5.6): the other leg of the call becomes a participant in the place of the dialog, and the call ends
 
@@ -256,32 +256,32 @@ after_replaces directory token at peer room seat (Some replaces) state = after_r
 
 -- a request of a participant, and what follows from it where it was accepted
 abbrev pub after_participant_request : Directory → (token : List ℕ) → ℕ → TKey → MessageView → RoomNo → (seat : ℕ) → RunState → RunState
-after_participant_request directory token at key said room seat state =
-    after_replaces directory token at said.peer room seat
-    (replacement_in said.parsed (output_of_conference_op directory (conference_signal_op token at (of_room.Request room seat key said) state) state).out)
-    (after_conference_signal directory token at (of_room.Request room seat key said) state)
+after_participant_request directory token at key message room seat state =
+    after_replaces directory token at message.peer room seat
+    (replacement_in message.parsed (output_of_conference_op directory (conference_signal_op token at (of_room.Request room seat key message) state) state).out)
+    (after_conference_signal directory token at (of_room.Request room seat key message) state)
 
 -- ---- messages
 
 abbrev pub after_disposition : Directory → (token : List ℕ) → ℕ → TKey → MessageView → Disposition → RunState → RunState
-after_disposition directory token at key said (Respond answer) state = with_response directory token at key said answer state
-after_disposition directory token at key said (Enter call side) state = after_call_signal directory token at (signal.Request call side key said) state
-after_disposition directory token at key said (EnterConference room seat) state = after_participant_request directory token at key said room seat state
-after_disposition directory token at key said OpenCall state = after_call_signal directory token at (arrival_signal directory.names.accounts key said) state
-after_disposition directory token at key said OpenConference state = after_factory_invite directory token at key said state
-after_disposition directory token at key said (JoinConference room) state = after_conference_invite directory token at key said room state
-after_disposition directory token at key said (Register account seconds) state = after_register directory token at key said account seconds state
-after_disposition directory token at key said Subscribe state = after_subscribe directory token at key said state
-after_disposition directory token at key said (EnterSubscription sub) state = after_subscription_request directory token at key said sub state
+after_disposition directory token at key message (Respond answer) state = with_response directory token at key message answer state
+after_disposition directory token at key message (Enter call side) state = after_call_signal directory token at (signal.Request call side key message) state
+after_disposition directory token at key message (EnterConference room seat) state = after_participant_request directory token at key message room seat state
+after_disposition directory token at key message OpenCall state = after_call_signal directory token at (arrival_signal directory.names.accounts key message) state
+after_disposition directory token at key message OpenConference state = after_factory_invite directory token at key message state
+after_disposition directory token at key message (JoinConference room) state = after_conference_invite directory token at key message room state
+after_disposition directory token at key message (Register account seconds) state = after_register directory token at key message account seconds state
+after_disposition directory token at key message Subscribe state = after_subscribe directory token at key message state
+after_disposition directory token at key message (EnterSubscription sub) state = after_subscription_request directory token at key message sub state
 
 -- a request that opened a transaction, in this state of the calls, the conferences and the mailboxes
 abbrev pub after_new_request_among : Directory → (token : List ℕ) → ℕ → TKey → MessageView → List Entry → List Conference → mailboxes.Table → RunState → RunState
-after_new_request_among directory token at key said entries live_rooms table state =
-    after_disposition directory token at key said (disposition directory (is_merged key.0 (live state.actions)) (are_full entries) (dialog_owner_of said.parsed entries live_rooms table) said.parsed) state
+after_new_request_among directory token at key message entries live_rooms table state =
+    after_disposition directory token at key message (disposition directory (is_merged key.0 (live state.actions)) (are_full entries) (dialog_owner_of message.parsed entries live_rooms table) message.parsed) state
 
 abbrev pub after_new_request : Directory → (token : List ℕ) → ℕ → TKey → MessageView → RunState → RunState
-after_new_request directory token at key said state =
-    after_new_request_among directory token at key said (calls_in directory state).entries (conferences_in directory state).live (subscriptions_in state) state
+after_new_request directory token at key message state =
+    after_new_request_among directory token at key message (calls_in directory state).entries (conferences_in directory state).live (subscriptions_in state) state
 
 -- what was sent is retransmitted, to the peer to which it was sent
 abbrev pub with_retransmission : ℕ → Option (Peer × List ℕ) → RunState → RunState
@@ -290,57 +290,58 @@ with_retransmission at (Some sent) state = with_emits at (emit.Plain sent.0 sent
 
 -- a CANCEL of the INVITE of a live call is received by that call; of another INVITE it only gets its response: that of a participant has had its final response
 abbrev pub after_cancel_of : Directory → (token : List ℕ) → ℕ → TKey → MessageView → (invite : TKey) → Option (CallNo × Side) → RunState → RunState
-after_cancel_of directory token at key said invite None state = with_response directory token at key said (plain_response 200) state
-after_cancel_of directory token at key said invite (Some asked) state = after_call_signal directory token at (signal.Cancel asked.0 key said invite) state
+after_cancel_of directory token at key message invite None state = with_response directory token at key message (plain_response 200) state
+after_cancel_of directory token at key message invite (Some asked) state = after_call_signal directory token at (signal.Cancel asked.0 key message invite) state
 
 -- a CANCEL, by the live INVITE transaction that it cancels, if there is one (§9.2)
 abbrev pub after_cancel : Directory → (token : List ℕ) → ℕ → TKey → MessageView → (invite : Option TKey) → RunState → RunState
-after_cancel directory token at key said None state = with_response directory token at key said (plain_response 481) state
-after_cancel directory token at key said (Some invite) state = after_cancel_of directory token at key said invite (call_of_invite invite (calls_in directory state).entries) state
+after_cancel directory token at key message None state = with_response directory token at key message (plain_response 481) state
+after_cancel directory token at key message (Some invite) state =
+    after_cancel_of directory token at key message invite (call_of_invite invite (calls_in directory state).entries) state
 
 -- an ACK of a 2xx belongs to the dialog that it names
 abbrev pub after_ack_by : Directory → (token : List ℕ) → ℕ → MessageView → Option DialogOwner → RunState → RunState
-after_ack_by directory token at said None state = state
-after_ack_by directory token at said (Some (InCall call side)) state = after_call_signal directory token at (signal.Ack call side said) state
-after_ack_by directory token at said (Some (InConference room seat)) state = after_conference_signal directory token at (of_room.Ack room seat said) state
-after_ack_by directory token at said (Some (InSubscription sub)) state = state
+after_ack_by directory token at message None state = state
+after_ack_by directory token at message (Some (InCall call side)) state = after_call_signal directory token at (signal.Ack call side message) state
+after_ack_by directory token at message (Some (InConference room seat)) state = after_conference_signal directory token at (of_room.Ack room seat message) state
+after_ack_by directory token at message (Some (InSubscription sub)) state = state
 
 abbrev pub after_ack : Directory → (token : List ℕ) → ℕ → MessageView → RunState → RunState
-after_ack directory token at said state = after_ack_by directory token at said (dialog_owner_in directory said.parsed state) state
+after_ack directory token at message state = after_ack_by directory token at message (dialog_owner_in directory message.parsed state) state
 
 -- a response goes to whoever sent its request: to the calls where an INVITE of one has its branch, to the subscriptions where a NOTIFY of one has it, and else to the
 -- conferences
 abbrev pub after_response_to : Directory → (token : List ℕ) → ℕ → TKey → MessageView → Owner → RunState → RunState
-after_response_to directory token at key said OfCalls state = after_call_signal directory token at (signal.Answer key said) state
-after_response_to directory token at key said OfSubscriptions state = after_notify_response (branch_in said.parsed.vias) (status_of said.parsed.start) state
-after_response_to directory token at key said OfConferences state = after_conference_signal directory token at (of_room.Answer key said) state
+after_response_to directory token at key message OfCalls state = after_call_signal directory token at (signal.Answer key message) state
+after_response_to directory token at key message OfSubscriptions state = after_notify_response (branch_in message.parsed.vias) (status_of message.parsed.start) state
+after_response_to directory token at key message OfConferences state = after_conference_signal directory token at (of_room.Answer key message) state
 
 abbrev pub after_response : Directory → (token : List ℕ) → ℕ → TKey → MessageView → RunState → RunState
-after_response directory token at key said state =
-    after_response_to directory token at key said
-    (owner_of_branch (awaited_request_branch said) (branch_in said.parsed.vias) (calls_in directory state).entries (subscriptions_in state)) state
+after_response directory token at key message state =
+    after_response_to directory token at key message
+    (owner_of_branch (awaited_request_branch message) (branch_in message.parsed.vias) (calls_in directory state).entries (subscriptions_in state)) state
 
 -- what is done with a message, by how the transactions classify it; None where too many of them are live
 abbrev pub after_classified_message : Directory → (token : List ℕ) → ℕ → MessageView → Option transaction.Heard → RunState → RunState
-after_classified_message directory token at said None state = with_stateless_response directory token at said (plain_response 503) state
-after_classified_message directory token at said (Some (heard.Fresh key message)) state = after_new_request directory token at key said state
-after_classified_message directory token at said (Some (heard.Answer key message)) state = after_response directory token at key said state
-after_classified_message directory token at said (Some (heard.Repeat sent)) state = with_retransmission at sent state
-after_classified_message directory token at said (Some (heard.Acked key)) state = state
-after_classified_message directory token at said (Some (heard.Cancel key invite message)) state = after_cancel directory token at key said invite state
-after_classified_message directory token at said (Some (heard.AckOf2xx message)) state = after_ack directory token at said state
-after_classified_message directory token at said (Some heard.Stray) state = state
+after_classified_message directory token at received None state = with_stateless_response directory token at received (plain_response 503) state
+after_classified_message directory token at received (Some (heard.Fresh key message)) state = after_new_request directory token at key received state
+after_classified_message directory token at received (Some (heard.Answer key message)) state = after_response directory token at key received state
+after_classified_message directory token at received (Some (heard.Repeat sent)) state = with_retransmission at sent state
+after_classified_message directory token at received (Some (heard.Acked key)) state = state
+after_classified_message directory token at received (Some (heard.Cancel key invite message)) state = after_cancel directory token at key received invite state
+after_classified_message directory token at received (Some (heard.AckOf2xx message)) state = after_ack directory token at received state
+after_classified_message directory token at received (Some heard.Stray) state = state
 
 -- a message beyond the capacity of the transactions is no operation on them
 abbrev pub with_received_action : ℕ → MessageView → Option transaction.Heard → RunState → RunState
-with_received_action at said None state = state
-with_received_action at said (Some taken) state = record state { actions = after_hear state.actions said.peer (message_in said.parsed) at }
+with_received_action at message None state = state
+with_received_action at message (Some classified) state = record state { actions = after_hear state.actions message.peer (message_in message.parsed) at }
 
 abbrev pub after_message_as : Directory → (token : List ℕ) → ℕ → MessageView → Option transaction.Heard → RunState → RunState
-after_message_as directory token at said taken state = after_classified_message directory token at said taken (with_received_action at said taken state)
+after_message_as directory token at message classified state = after_classified_message directory token at message classified (with_received_action at message classified state)
 
 abbrev pub after_message : Directory → (token : List ℕ) → ℕ → MessageView → RunState → RunState
-after_message directory token at said state = after_message_as directory token at said (hear_result state.actions said.peer (message_in said.parsed)) state
+after_message directory token at message state = after_message_as directory token at message (hear_result state.actions message.peer (message_in message.parsed)) state
 
 -- ---- CDRs
 
@@ -358,7 +359,7 @@ after_handover took (row ∷ rows) state = if took then with_filed_rows (row ∷
 abbrev pub after_parsed_event : Directory → (token : List ℕ) → ℕ → ParsedEvent → RunState → RunState
 after_parsed_event directory token at Nothing state = state
 after_parsed_event directory token at (Refused peer source reply) state = with_refusal_of_bytes token at peer source reply state
-after_parsed_event directory token at (Received said) state = after_message directory token at said state
+after_parsed_event directory token at (Received message) state = after_message directory token at message state
 after_parsed_event directory token at (WebRequested request kept rows) state = after_web_request directory token at request kept rows state
 
 -- at the end of an event the CDRs that wait are handed over

@@ -48,7 +48,7 @@ pub fn rows_are_filed()
 /// Take two messages that are equal without their private places, and that register the same account if any, under configurations that are equal but for the URIs of
 /// accounts: the decisions on them and the responses to them are the same, but for texts that go to trusted peers, and of these the heads are the same.
 pub fn equal_masks_are_equivalent()
-    ensures kin { EqualMasksAreEquivalent }
+    ensures equivalent { EqualMasksAreEquivalent }
     // The account that a trusted peer registers is read from what is never private.
     ensures names { MasksNameTheRegistrant }
 {

@@ -389,10 +389,10 @@ module _ (d : Directory) (token : List ℕ) where
   after_events_adds fuel [] b w = refl
   after_events_adds fuel (x ∷ xs) b w = ap (after_events d token fuel xs) (one_adds fuel x b w) ∙ after_events_adds fuel xs b (after_event_in_order d token fuel x w)
 
-  after_events_parts : (fuel : ℕ) (earlier happened : List EventRecord) (w : RunState) →
-      after_events d token fuel (timed_events d (earlier ++ happened)) w ≡ after_events d token fuel (timed_events d happened) (after_events d token fuel (timed_events d earlier) w)
-  after_events_parts fuel [] happened w = refl
-  after_events_parts fuel (one ∷ earlier) happened w = after_events_parts fuel earlier happened (after_event_in_order d token fuel (timed_event_of d one) w)
+  after_events_parts : (fuel : ℕ) (earlier recorded : List EventRecord) (w : RunState) →
+      after_events d token fuel (timed_events d (earlier ++ recorded)) w ≡ after_events d token fuel (timed_events d recorded) (after_events d token fuel (timed_events d earlier) w)
+  after_events_parts fuel [] recorded w = refl
+  after_events_parts fuel (one ∷ earlier) recorded w = after_events_parts fuel earlier recorded (after_event_in_order d token fuel (timed_event_of d one) w)
 
 pub events_add : EventsAdd
 events_add d token fuel notice before state = one_adds d token fuel notice before state
@@ -401,8 +401,8 @@ pub deadlines_add : DeadlinesAdd
 deadlines_add d token fuel now before state = after_due_deadlines_adds d token fuel now before state
 
 pub runs_add : RunsAdd
-runs_add d token loaded fuel earlier happened =
+runs_add d token loaded fuel earlier recorded =
     let w : RunState = state_after d token loaded fuel earlier in
-    ap (λ (u : RunState). u.offers) (after_events_parts d token fuel earlier happened (initial_state loaded)
-    ∙ (ap (λ (os : List Offer). after_events d token fuel (timed_events d happened) (record w { offers = os })) (sym (append-nil w.offers))
-    ∙ after_events_adds d token fuel (timed_events d happened) w.offers (without_offers w)))
+    ap (λ (u : RunState). u.offers) (after_events_parts d token fuel earlier recorded (initial_state loaded)
+    ∙ (ap (λ (os : List Offer). after_events d token fuel (timed_events d recorded) (record w { offers = os })) (sym (append-nil w.offers))
+    ∙ after_events_adds d token fuel (timed_events d recorded) w.offers (without_offers w)))

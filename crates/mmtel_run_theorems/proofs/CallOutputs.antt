@@ -301,13 +301,13 @@ module _ (d : Directory) where
         go true = g.0
         go false = tt
 
-    all_gone : (loaded : Texts) (fuel : ℕ) (happened : List EventRecord) → IsGoneIn (state_after d token loaded fuel happened)
-    all_gone loaded fuel happened = after_gone fuel (timed_events d happened) (initial_state loaded) (record { gone = tt; said = tt })
+    all_gone : (loaded : Texts) (fuel : ℕ) (recorded : List EventRecord) → IsGoneIn (state_after d token loaded fuel recorded)
+    all_gone loaded fuel recorded = after_gone fuel (timed_events d recorded) (initial_state loaded) (record { gone = tt; said = tt })
 
-    pub calls_go_out : (loaded : Texts) (fuel : ℕ) (happened : List EventRecord) (number : ℕ) →
-        Each (GoesOut (state_after d token loaded fuel happened)) (emits_of (call_config d) number (state_after d token loaded fuel happened).call_ops)
-    calls_go_out loaded fuel happened number =
-        let w : RunState = state_after d token loaded fuel happened in of_call_gone w number w.call_ops (all_gone loaded fuel happened).gone
+    pub calls_go_out : (loaded : Texts) (fuel : ℕ) (recorded : List EventRecord) (number : ℕ) →
+        Each (GoesOut (state_after d token loaded fuel recorded)) (emits_of (call_config d) number (state_after d token loaded fuel recorded).call_ops)
+    calls_go_out loaded fuel recorded number =
+        let w : RunState = state_after d token loaded fuel recorded in of_call_gone w number w.call_ops (all_gone loaded fuel recorded).gone
 
-    pub replies_said : (loaded : Texts) (fuel : ℕ) (happened : List EventRecord) → AreHandedOver (state_after d token loaded fuel happened) (state_after d token loaded fuel happened).actions
-    replies_said loaded fuel happened = (all_gone loaded fuel happened).said
+    pub replies_said : (loaded : Texts) (fuel : ℕ) (recorded : List EventRecord) → AreHandedOver (state_after d token loaded fuel recorded) (state_after d token loaded fuel recorded).actions
+    replies_said loaded fuel recorded = (all_gone loaded fuel recorded).said

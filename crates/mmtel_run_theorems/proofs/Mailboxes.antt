@@ -659,9 +659,9 @@ module _ (d : Directory) where
     also_more said more None = refl
     also_more said more (Some put) = append_assoc said (put ∷ []) more
 
-    after_sound : (fuel : ℕ) (happened : List EventRecord) (said : List (Account × Counts)) (w : RunState) → Sound said w → Sound (said ++ mailbox_uploads_of d.names happened) (after_events d token fuel (timed_events d happened) w)
+    after_sound : (fuel : ℕ) (recorded : List EventRecord) (said : List (Account × Counts)) (w : RunState) → Sound said w → Sound (said ++ mailbox_uploads_of d.names recorded) (after_events d token fuel (timed_events d recorded) w)
     after_sound fuel [] said w g = subst (λ (l : List (Account × Counts)). Sound l w) (sym (append-nil said)) g
-    after_sound fuel (x ∷ happened) said w g =
+    after_sound fuel (x ∷ recorded) said w g =
         let n : TimedEvent = notice_at d x in
         let now : ℕ = clock_at w n.at in
         let one : RunState = after_due_deadlines d token fuel now w in
@@ -669,13 +669,13 @@ module _ (d : Directory) where
         came_sound said now n.parsed n.accepted one (event_own x.event x.outcome x.rows) (settled_sound said token counts fuel now w g) in
         let o : Option (Account × Counts) = mailbox_upload_at d.names x.event x.outcome in
         let same : also said (put_by n.parsed) ≡ also said o = ap (also said) (event_put x.event x.outcome x.rows) in
-        subst (λ (l : List (Account × Counts)). Sound l (after_events d token fuel (timed_events d (x ∷ happened)) w)) (also_more said (mailbox_uploads_of d.names happened) o)
-        (after_sound fuel happened (also said o) (after_event_in_order d token fuel n w) (subst (λ (l : List (Account × Counts)). Sound l (after_event_in_order d token fuel n w)) same came_so))
+        subst (λ (l : List (Account × Counts)). Sound l (after_events d token fuel (timed_events d (x ∷ recorded)) w)) (also_more said (mailbox_uploads_of d.names recorded) o)
+        (after_sound fuel recorded (also said o) (after_event_in_order d token fuel n w) (subst (λ (l : List (Account × Counts)). Sound l (after_event_in_order d token fuel n w)) same came_so))
 
-    pub told_so : (loaded : Texts) (fuel : ℕ) (happened : List EventRecord) → RunNotifiesSubscribers d token loaded fuel happened
-    told_so loaded fuel happened =
-        let w : RunState = state_after d token loaded fuel happened in
-        let g : Sound (mailbox_uploads_of d.names happened) w = after_sound fuel happened [] (initial_state loaded) (record { puts = refl; by = tt; asks = tt }) in
+    pub told_so : (loaded : Texts) (fuel : ℕ) (recorded : List EventRecord) → RunNotifiesSubscribers d token loaded fuel recorded
+    told_so loaded fuel recorded =
+        let w : RunState = state_after d token loaded fuel recorded in
+        let g : Sound (mailbox_uploads_of d.names recorded) w = after_sound fuel recorded [] (initial_state loaded) (record { puts = refl; by = tt; asks = tt }) in
         record { puts = g.puts; subscribers = all_trusted w.mailbox_ops g.by; asks = g.asks }
 
 -- ---- a SUBSCRIBE of a peer that is not trusted
@@ -780,6 +780,6 @@ untrusted_are_refused d token at key s w is untrusted =
 
 pub subscribers_are_notified : ((ops : List boxes.TableOp) (account : Account) → counts_in account (table_after ops) ≡ last_counts ops account) → SubscribersAreNotified
 subscribers_are_notified counts = record {
-  notified = λ d token loaded fuel happened. told_so d token counts loaded fuel happened;
+  notified = λ d token loaded fuel recorded. told_so d token counts loaded fuel recorded;
   refused = untrusted_are_refused;
 }

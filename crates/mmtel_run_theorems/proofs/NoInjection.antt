@@ -626,11 +626,11 @@ module _ (d : Directory) (whole : List EventRecord) (own_law : (m : Message Star
     event_good (event.Web at bytes) kept rows = tt
     event_good (event.Quiet at) kept rows = tt
 
-    notices_good : (earlier happened : List EventRecord) → whole ≡ earlier ++ happened → AreGoodNotices (timed_events d happened)
+    notices_good : (earlier recorded : List EventRecord) → whole ≡ earlier ++ recorded → AreGoodNotices (timed_events d recorded)
     notices_good earlier [] is = tt
-    notices_good earlier (x ∷ happened) is = (
-      (event_good x.event x.outcome x.rows, came_in earlier x happened is),
-      notices_good (earlier ++ x ∷ []) happened (is ∙ sym (append_assoc earlier (x ∷ []) happened)),
+    notices_good earlier (x ∷ recorded) is = (
+      (event_good x.event x.outcome x.rows, came_in earlier x recorded is),
+      notices_good (earlier ++ x ∷ []) recorded (is ∙ sym (append_assoc earlier (x ∷ []) recorded)),
     )
 
     abbrev after_all : (loaded : Texts) (fuel : ℕ) → RunState

@@ -476,17 +476,17 @@ module _ (below : Below) (its : PutIts) (others : PutOthers) (records : List She
 -- where each client transaction and each INVITE that is acknowledged is with the peer that was sent the request
 module _ (below : Below) (keeps : KeepsPeers) (its : PutIts) (others : PutOthers) (tied : RunsAreTied) where
   pub both : NoninterferenceInBoth
-  both d e token loaded fuel happened run seer read sites looks early strange same =
-      let records : List Sheet = records_in d loaded happened in
+  both d e token loaded fuel recorded run seer read sites looks early strange same =
+      let records : List Sheet = records_in d loaded recorded in
       let final : List TransactionOp = (state_after e token loaded fuel run).actions in
       let keys : TKey → Bool = keys_in d final in
       let asked : identities_asked_by records ≡ identities_asked_by (records_in e loaded run) = ap (λ (x : Mask). x.asked) same in
-      let among : AreAmong records (initial_state loaded).texts = loaded_all its others records loaded [] (λ s is. inr (in_left loaded (uploads_of d.names happened) s is)) (record { each = λ account text is. absurd (no_text text is); none = inl refl }) in
-      (after_events-equivalent below its others records d e token keys sites (IsLast final) (older final) (knows keeps d final) fuel (timed_events d happened) (timed_events e run) (initial_state loaded) (initial_state loaded)
+      let among : AreAmong records (initial_state loaded).texts = loaded_all its others records loaded [] (λ s is. inr (in_left loaded (uploads_of d.names recorded) s is)) (record { each = λ account text is. absurd (no_text text is); none = inl refl }) in
+      (after_events-equivalent below its others records d e token keys sites (IsLast final) (older final) (knows keeps d final) fuel (timed_events d recorded) (timed_events e run) (initial_state loaded) (initial_state loaded)
       (ap (λ (x : Mask). x.events) same ∙ ap (λ (z : List Who). mask_all e token fuel z (timed_events e run) (initial_state loaded)) (sym asked))
-      (all_trusted d happened) (all_trusted e run) (all_among records d happened (λ s is. inr (in_right loaded (uploads_of d.names happened) s is)))
+      (all_trusted d recorded) (all_trusted e run) (all_among records d recorded (λ s is. inr (in_right loaded (uploads_of d.names recorded) s is)))
       (subst (λ (z : List Who). AllLookUpEqually d e (mask_all e token fuel z (timed_events e run) (initial_state loaded))) (sym asked) looks)
-      (tied d token loaded fuel happened read)
+      (tied d token loaded fuel recorded read)
       (tied e token loaded fuel run (record { text = read.text; source = subst IsSource sites.equal.sip read.source; port = subst (λ (a : Addr). 0 < a.port) sites.equal.sip read.port })) early ([], refl)
       (initial_state-equivalent below its others records d e token keys sites (IsLast final) (older final) (knows keeps d final) loaded among)).alike.seen seer strange
     where
@@ -495,7 +495,7 @@ module _ (below : Below) (keeps : KeepsPeers) (its : PutIts) (others : PutOthers
 
   -- under one configuration
   pub one : RenamedAreLookedUpEqually → NobodyIsRenamed → Noninterference
-  one looks nobody d token loaded fuel happened run seer read early strange same =
-      let none = nobody d (records_in d loaded happened) (mask d token loaded fuel run) in
-      let alike = looks d d [] (records_in d loaded happened) (mask d token loaded fuel run) none.0 none.1 in
-      both d d token loaded fuel happened run seer read alike.0 alike.1 early strange same
+  one looks nobody d token loaded fuel recorded run seer read early strange same =
+      let none = nobody d (records_in d loaded recorded) (mask d token loaded fuel run) in
+      let alike = looks d d [] (records_in d loaded recorded) (mask d token loaded fuel run) none.0 none.1 in
+      both d d token loaded fuel recorded run seer read alike.0 alike.1 early strange same

@@ -10,7 +10,7 @@ use Rattle.mmtel_call_theorems.specs.Continuation.{CallsContinue}
 use Rattle.mmtel_call_theorems.specs.Outcomes as story_known
 use Rattle.mmtel_call_theorems.specs.Outcomes.{call_inputs_of}
 use Rattle.mmtel_call_theorems.specs.Theorems.{ChargingIsExact}
-use Rattle.mmtel_call_theorems.specs.CallTrace as story
+use Rattle.mmtel_call_theorems.specs.CallTrace as traces
 use Rattle.mmtel_call_theorems.specs.CallTrace.{TraceStart, TraceStep, items_added, next_step, opening_in}
 use Rattle.mmtel_call_theorems.specs.Notifications.Theorems.{EndsWithoutNotification, NotifiesItsDiversions, NotifiesNothingLater}
 use Rattle.mmtel_call_theorems.specs.Notifications.DueNotifications.{is_relayed_notification, notifications_after, notifications_due, notifications_in, own_notifications, without_relayed_notification}
@@ -57,7 +57,7 @@ module _ (silent : NotifiesNothingLater) (ends : EndsWithoutNotification) (s : T
     later = λ x earlier received stands offered r.
         no-more (notifications_of s earlier) _
         (none-own s x (items_added x.output.out (step s.config x.now x.signal (call_after s earlier) x.output).output.out) (silent s.config x.now x.signal (call_after s earlier) x.output s.arrival.key offered))
-        ∙ (r ∙ sym (no-more (notifications_after s received) _ (quiet-none s x (story.call_after s received))));
+        ∙ (r ∙ sym (no-more (notifications_after s received) _ (quiet-none s x (traces.call_after s received))));
     releases = λ side earlier received r. append-nil (notifications_of s earlier) ∙ r;
     restores = λ away earlier received r. append-nil (notifications_of s earlier) ∙ r;
     finishes = λ at output earlier received r. no-more (notifications_of s earlier) _ (ends s.config at (call_after s earlier) output s.arrival.key) ∙ r;

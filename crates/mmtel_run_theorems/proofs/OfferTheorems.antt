@@ -45,52 +45,52 @@ module _ (d : Directory) (token : List ℕ) where
       ∙ ap (λ (l : List (ℕ × MaskedEvent)). (x.at, mask_event d asked (state_at_event d token n x w) x.parsed) ∷ l) (mask_same asked n more xs (after_event_in_order d token n x w) e.1))
 
   -- of a whole run
-  masked_same : (loaded : Texts) (happened : List EventRecord) (n more : ℕ) → IsEnough d token loaded n happened → mask d token loaded (n + more) happened ≡ mask d token loaded n happened
-  masked_same loaded happened n more e =
-      ap (λ (l : List (ℕ × MaskedEvent)). record { asked = identities_asked_by (records_in d loaded happened); events = l })
-      (mask_same (identities_asked_by (records_in d loaded happened)) n more (timed_events d happened) (initial_state loaded) e)
+  masked_same : (loaded : Texts) (recorded : List EventRecord) (n more : ℕ) → IsEnough d token loaded n recorded → mask d token loaded (n + more) recorded ≡ mask d token loaded n recorded
+  masked_same loaded recorded n more e =
+      ap (λ (l : List (ℕ × MaskedEvent)). record { asked = identities_asked_by (records_in d loaded recorded); events = l })
+      (mask_same (identities_asked_by (records_in d loaded recorded)) n more (timed_events d recorded) (initial_state loaded) e)
 
-  offers_of_run_same : (loaded : Texts) (happened : List EventRecord) (n more : ℕ) → IsEnough d token loaded n happened → offers_of_run d token loaded (n + more) happened ≡ offers_of_run d token loaded n happened
-  offers_of_run_same loaded happened n more e = ap (λ (w : RunState). w.offers) (world_same n more (timed_events d happened) (initial_state loaded) e)
+  offers_of_run_same : (loaded : Texts) (recorded : List EventRecord) (n more : ℕ) → IsEnough d token loaded n recorded → offers_of_run d token loaded (n + more) recorded ≡ offers_of_run d token loaded n recorded
+  offers_of_run_same loaded recorded n more e = ap (λ (w : RunState). w.offers) (world_same n more (timed_events d recorded) (initial_state loaded) e)
 
 turned : (n m : ℕ) → n + m ≡ m + n
 turned n m = omega arith
 
 -- by two counts of firings that are enough, so by any more
-masked_by : (d : Directory) (token : List ℕ) (loaded : Texts) (happened : List EventRecord) (masked : Mask) (more : ℕ) (is : Masks d token loaded happened masked) → masked ≡ mask d token loaded (is.fuel + more) happened
-masked_by d token loaded happened masked more is = is.exact ∙ sym (masked_same d token loaded happened is.fuel more is.enough)
+masked_by : (d : Directory) (token : List ℕ) (loaded : Texts) (recorded : List EventRecord) (masked : Mask) (more : ℕ) (is : Masks d token loaded recorded masked) → masked ≡ mask d token loaded (is.fuel + more) recorded
+masked_by d token loaded recorded masked more is = is.exact ∙ sym (masked_same d token loaded recorded is.fuel more is.enough)
 
 pub masks_once : MasksOnce
-masks_once d token loaded happened masked other is too =
-    masked_by d token loaded happened masked too.fuel is
-    ∙ (ap (λ (n : ℕ). mask d token loaded n happened) (turned is.fuel too.fuel) ∙ sym (masked_by d token loaded happened other is.fuel too))
+masks_once d token loaded recorded masked other is too =
+    masked_by d token loaded recorded masked too.fuel is
+    ∙ (ap (λ (n : ℕ). mask d token loaded n recorded) (turned is.fuel too.fuel) ∙ sym (masked_by d token loaded recorded other is.fuel too))
 
 -- ---- the run whose outputs are observed
 
 module _ (once : Once) (secret : NoninterferenceInBoth) (looks : RenamedAreLookedUpEqually) where
   -- where few numbers are drawn by so many firings as are enough, few are by more
-  early_by : (d : Directory) (token : List ℕ) (loaded : Texts) (happened : List EventRecord) (n more : ℕ) → IsEnough d token loaded n happened → IsShortRun d token loaded happened → AllEarly d token (n + more) (timed_events d happened) (initial_state loaded)
-  early_by d token loaded happened n more enough short =
-      let few : (state_after d token loaded n happened).drawn < 2 ^ 60 = (short n enough).drawn in
-      early_in d token once (n + more) (timed_events d happened) (initial_state loaded) (begins d token loaded)
-      (subst (λ (w : RunState). w.drawn < 2 ^ 60) (sym (world_same d token n more (timed_events d happened) (initial_state loaded) enough)) few)
+  early_by : (d : Directory) (token : List ℕ) (loaded : Texts) (recorded : List EventRecord) (n more : ℕ) → IsEnough d token loaded n recorded → IsShortRun d token loaded recorded → AllEarly d token (n + more) (timed_events d recorded) (initial_state loaded)
+  early_by d token loaded recorded n more enough short =
+      let few : (state_after d token loaded n recorded).drawn < 2 ^ 60 = (short n enough).drawn in
+      early_in d token once (n + more) (timed_events d recorded) (initial_state loaded) (begins d token loaded)
+      (subst (λ (w : RunState). w.drawn < 2 ^ 60) (sym (world_same d token n more (timed_events d recorded) (initial_state loaded) enough)) few)
 
   pub offers_keep : OffersKeepNoninterference
-  offers_keep d token loaded happened offers given e renamed run others masked seer read short strange renames neutral is too other =
+  offers_keep d token loaded recorded offers given e renamed run others masked seer read short strange renames neutral is too other =
       -- all four counts together
       let a : ℕ = given.fuel in
       let b : ℕ = is.fuel in
       let c : ℕ = too.fuel in
       let f : ℕ = other.fuel in
       let all : ℕ = a + (b + (c + f)) in
-      let of_given : offers_of_run d token loaded all happened ≡ offers_of_run d token loaded a happened = offers_of_run_same d token loaded happened a (b + (c + f)) given.enough in
+      let of_given : offers_of_run d token loaded all recorded ≡ offers_of_run d token loaded a recorded = offers_of_run_same d token loaded recorded a (b + (c + f)) given.enough in
       let of_other : offers_of_run e token loaded all run ≡ offers_of_run e token loaded f run =
       ap (λ (n : ℕ). offers_of_run e token loaded n run) (last a b c f) ∙ offers_of_run_same e token loaded run f (a + (b + c)) other.enough in
-      let one : masked ≡ mask d token loaded all happened = masked_by d token loaded happened masked (a + (c + f)) is ∙ ap (λ (n : ℕ). mask d token loaded n happened) (second a b c f) in
+      let one : masked ≡ mask d token loaded all recorded = masked_by d token loaded recorded masked (a + (c + f)) is ∙ ap (λ (n : ℕ). mask d token loaded n recorded) (second a b c f) in
       let two : masked ≡ mask e token loaded all run = masked_by e token loaded run masked (a + (b + f)) too ∙ ap (λ (n : ℕ). mask e token loaded n run) (third a b c f) in
-      let alike = looks d e renamed (records_in d loaded happened) masked renames neutral in
+      let alike = looks d e renamed (records_in d loaded recorded) masked renames neutral in
       ap (view seer) (given.exact ∙ sym of_given)
-      ∙ (secret d e token loaded all happened run seer read alike.0 (subst (λ (x : Mask). AllLookUpEqually d e x.events) two alike.1) (early_by d token loaded happened a (b + (c + f)) given.enough short) strange (sym one ∙ two)
+      ∙ (secret d e token loaded all recorded run seer read alike.0 (subst (λ (x : Mask). AllLookUpEqually d e x.events) two alike.1) (early_by d token loaded recorded a (b + (c + f)) given.enough short) strange (sym one ∙ two)
       ∙ ap (view seer) (of_other ∙ sym other.exact))
     where
       last : (a b c f : ℕ) → a + (b + (c + f)) ≡ f + (a + (b + c))
@@ -103,9 +103,9 @@ module _ (once : Once) (secret : NoninterferenceInBoth) (looks : RenamedAreLooke
       third a b c f = omega arith
 
   pub offers_keep_in_one : NobodyIsRenamed → OffersKeepItInOneConfig
-  offers_keep_in_one nobody d token loaded happened offers given run others masked seer read short strange is too other =
-      let none = nobody d (records_in d loaded happened) masked in
-      offers_keep d token loaded happened offers given d [] run others masked seer read short strange none.0 none.1 is too other
+  offers_keep_in_one nobody d token loaded recorded offers given run others masked seer read short strange is too other =
+      let none = nobody d (records_in d loaded recorded) masked in
+      offers_keep d token loaded recorded offers given d [] run others masked seer read short strange none.0 none.1 is too other
 
 -- ---- runs that read the same of their events
 
@@ -120,11 +120,11 @@ mask_by d token loaded fuel xs uploads = record {
 }
 
 pub seen_by_notices : SeenByTimedEvents
-seen_by_notices d token loaded happened whole offers same kept sees other renamed run others masked seer read short strange renames neutral is too given =
+seen_by_notices d token loaded recorded whole offers same kept sees other renamed run others masked seer read short strange renames neutral is too given =
     sees other renamed run others masked seer read (subst (λ (l : List TimedEvent). IsShortBy d token loaded l) (sym same) short) strange renames
     (subst (λ (u : Texts). Neutral renamed d other (records_of (loaded ++ u)) masked) (sym kept) neutral)
     (record {
       fuel = is.fuel;
       enough = subst (λ (l : List TimedEvent). IsEnoughAfter d token is.fuel l (initial_state loaded)) (sym same) is.enough;
-      exact = is.exact ∙ (ap (λ (l : List TimedEvent). mask_by d token loaded is.fuel l (uploads_of d.names whole)) (sym same) ∙ ap (mask_by d token loaded is.fuel (timed_events d happened)) (sym kept));
+      exact = is.exact ∙ (ap (λ (l : List TimedEvent). mask_by d token loaded is.fuel l (uploads_of d.names whole)) (sym same) ∙ ap (mask_by d token loaded is.fuel (timed_events d recorded)) (sym kept));
     }) too given

@@ -25,7 +25,7 @@ timed_events-append d (x ∷ xs) ys = ap (λ (ns : List TimedEvent). timed_event
 
 module _ (d : Directory) (token : List ℕ) (loaded : Texts) (fuel : ℕ) (whole : List EventRecord) where
   abbrev at_end_of : List EventRecord → RunState
-  at_end_of happened = state_after d token loaded fuel happened
+  at_end_of recorded = state_after d token loaded fuel recorded
 
   one-event : (earlier : List EventRecord) (event : EventRecord) → at_end_of (earlier ++ event ∷ []) ≡ after_event_in_order d token fuel (timed_event_of d event) (at_end_of earlier)
   one-event earlier event =
@@ -58,12 +58,12 @@ module _ (d : Directory) (token : List ℕ) (loaded : Texts) (fuel : ℕ) (whole
   AllTold (op ∷ older) = IsTold op older × AllTold older
 
   -- the run of these events, up to that point
-  pub record WellTold (happened : List EventRecord) : Type 0 where
-    pub deeds : AllTold (operations_after (inputs_of d token loaded) fuel happened)
-    pub keyed : IsKeyed d (at_end_of happened)
-    pub lent : IsWhole (call_config d) None (operations_after (inputs_of d token loaded) fuel happened)
-    pub rooms : Each IsOfRun (at_end_of happened).conference_ops
-    pub awaited : AreAwaited d (at_end_of happened)
+  pub record WellTold (recorded : List EventRecord) : Type 0 where
+    pub deeds : AllTold (operations_after (inputs_of d token loaded) fuel recorded)
+    pub keyed : IsKeyed d (at_end_of recorded)
+    pub lent : IsWhole (call_config d) None (operations_after (inputs_of d token loaded) fuel recorded)
+    pub rooms : Each IsOfRun (at_end_of recorded).conference_ops
+    pub awaited : AreAwaited d (at_end_of recorded)
 
   -- ---- those of one event
 

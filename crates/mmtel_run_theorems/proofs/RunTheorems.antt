@@ -102,33 +102,33 @@ still_pending c offered = go c.phase c.answered offered
 
 module _ (back : LegsGoBack) (room_replies : ConferencesReplyInTheirOwn) (steps : CallsTakeTheirSteps) (exact_law : CallsOfTablesAreExact) (rows_law : ChargingRecordsAreOfCalls) (seats : OperationsAreCharged) (filed : RowsAreFiled) where
   -- the CDRs of a short run
-  charged : ParticipantsAreAccountedFor → ParticipantsAreMetered → RowsAreAccountedFor → (d : Directory) (token : List ℕ) (loaded : Texts) (fuel : ℕ) (happened : List EventRecord) → IsShort (state_after d token loaded fuel happened) →
-      RowsAreCharged d (state_after d token loaded fuel happened)
-  charged due metered named d token loaded fuel happened short =
-      let w : RunState = state_after d token loaded fuel happened in
-      let told : WellTold d token loaded fuel happened happened = all_told d token loaded fuel happened back room_replies in
-      rows_charged steps exact_law rows_law seats d w (filed d token loaded fuel happened) (has_numbers d w told.keyed short) (put_back (call_config d) None w.call_ops told.lent) told.rooms due metered named
+  charged : ParticipantsAreAccountedFor → ParticipantsAreMetered → RowsAreAccountedFor → (d : Directory) (token : List ℕ) (loaded : Texts) (fuel : ℕ) (recorded : List EventRecord) → IsShort (state_after d token loaded fuel recorded) →
+      RowsAreCharged d (state_after d token loaded fuel recorded)
+  charged due metered named d token loaded fuel recorded short =
+      let w : RunState = state_after d token loaded fuel recorded in
+      let told : WellTold d token loaded fuel recorded recorded = all_told d token loaded fuel recorded back room_replies in
+      rows_charged steps exact_law rows_law seats d w (filed d token loaded fuel recorded) (has_numbers d w told.keyed short) (put_back (call_config d) None w.call_ops told.lent) told.rooms due metered named
 
   pub seats_charged : ParticipantsAreAccountedFor → ParticipantsAreMetered → RowsAreAccountedFor → RowsAreInOrder → BeginsChangeNothing → RunParticipantsChargedOnce
-  seats_charged due metered named order begins d token loaded happened short fuel enough = record {
-    rows = charged due metered named d token loaded fuel happened (short fuel enough);
-    order = order d token loaded fuel happened;
-    timed = all_timed d token begins fuel (timed_events d happened) (initial_state loaded);
+  seats_charged due metered named order begins d token loaded recorded short fuel enough = record {
+    rows = charged due metered named d token loaded fuel recorded (short fuel enough);
+    order = order d token loaded fuel recorded;
+    timed = all_timed d token begins fuel (timed_events d recorded) (initial_state loaded);
   }
 
   module _ (own_law : CallOutputsAreOfTheTrace) (call_replies : CallsReplyInTheirOwn) (nobodys : OtherOperationsOutputNothing) (goes : CallsContinue) (charging : ChargingIsExact) (told_law : NotifiesItsDiversions) (silent : NotifiesNothingLater) (ends : EndsWithoutNotification)
       (bound_law : StaysWithinBound) (forwards : DiversionsHaveForwards) (texts : TextsAreThoseKept) (last : LastIsInForce) (views : CallsSeeWhatIsInForce) (begins : BeginsChangeNothing) where
-    comes : (d : Directory) (token : List ℕ) (loaded : Texts) (fuel : ℕ) (happened : List EventRecord) → IsShort (state_after d token loaded fuel happened) →
-        (number : ℕ) (trace : CallTraceWithTransfers) → trace_of (call_config d) number (state_after d token loaded fuel happened).call_ops ≡ Some trace → CallReachesOutcome d token loaded fuel happened number trace
-    comes d token loaded fuel happened short number trace is =
-        let w : RunState = state_after d token loaded fuel happened in
-        let told : WellTold d token loaded fuel happened happened = all_told d token loaded fuel happened back room_replies in
+    comes : (d : Directory) (token : List ℕ) (loaded : Texts) (fuel : ℕ) (recorded : List EventRecord) → IsShort (state_after d token loaded fuel recorded) →
+        (number : ℕ) (trace : CallTraceWithTransfers) → trace_of (call_config d) number (state_after d token loaded fuel recorded).call_ops ≡ Some trace → CallReachesOutcome d token loaded fuel recorded number trace
+    comes d token loaded fuel recorded short number trace is =
+        let w : RunState = state_after d token loaded fuel recorded in
+        let told : WellTold d token loaded fuel recorded recorded = all_told d token loaded fuel recorded back room_replies in
         let few : HasNumbers (call_config d) w.call_ops = has_numbers d w told.keyed short in
         let put : ArePutBack (call_config d) w.call_ops = put_back (call_config d) None w.call_ops told.lent in
         let exact : CallIsExact (call_config d) w.call_ops number trace = exact_law (call_config d) w.call_ops number trace few is in
         let own : OutputsAreOfTheTrace (call_config d) w.call_ops number trace = own_law (call_config d) w.call_ops number trace few is in
-        let lived : LifeStood texts last views d token loaded fuel happened number trace = life_stood texts last views d token loaded fuel happened number w.call_ops trace told.deeds is in
-        let rows : rows_of_call w number ≡ charging_records_of (call_config d) number w.call_ops = of_call steps exact_law rows_law seats d w (filed d token loaded fuel happened) few put told.rooms number in
+        let lived : LifeStood texts last views d token loaded fuel recorded number trace = life_stood texts last views d token loaded fuel recorded number w.call_ops trace told.deeds is in
+        let rows : rows_of_call w number ≡ charging_records_of (call_config d) number w.call_ops = of_call steps exact_law rows_law seats d w (filed d token loaded fuel recorded) few put told.rooms number in
         let shown : ShowsOutcome trace = exact.shown told.keyed.own in
         let awaited : AwaitsItsFinal w trace.start =
         (λ none. let (e, is, waits) = life_opened (call_config d) w.actions number w.call_ops trace told.awaited.asked is in
@@ -145,12 +145,12 @@ module _ (back : LegsGoBack) (room_replies : ConferencesReplyInTheirOwn) (steps 
               (exact.throughout told.keyed.own
               ∙ ap (λ (result : CallResult). labels_of_targets (opening_in trace.start) (outcome_after trace.start trace.events).targets ++ label_of_result result) pending)
               w.actions told.awaited.answered);
-          sent = calls_go_out d token begins loaded fuel happened number;
+          sent = calls_go_out d token begins loaded fuel recorded number;
           answered =
               let (e, opens, waits) = life_opened (call_config d) w.actions number w.call_ops trace told.awaited.asked is in
               finals_come w trace.start trace.events (emits_of (call_config d) number w.call_ops) exact.emits (opening_in trace.start) (outcome_after trace.start trace.events).targets
-              (outcome_after trace.start trace.events).result (exact.throughout told.keyed.own) (calls_go_out d token begins loaded fuel happened number)
-              (replies_said d token begins loaded fuel happened) told.awaited.run e opens waits
+              (outcome_after trace.start trace.events).result (exact.throughout told.keyed.own) (calls_go_out d token begins loaded fuel recorded number)
+              (replies_said d token begins loaded fuel recorded) told.awaited.run e opens waits
               (λ newer older m at all. answered_own (call_config d) steps nobodys call_replies w.call_ops few told.keyed.rises number trace is newer older m at
               (subst (AllRepliesAllowed (call_config d) w.call_ops) all told.awaited.answered))
               (λ newer older m at all. answered_below (call_config d) steps nobodys call_replies w.call_ops few newer older trace.start.arrival.key.0 m at
@@ -170,13 +170,13 @@ module _ (back : LegsGoBack) (room_replies : ConferencesReplyInTheirOwn) (steps 
             ended = exact.ended;
           };
           opened = lived.opened;
-          reached = λ k. reached texts last views d token loaded fuel happened number trace.start trace.events k lived.events;
+          reached = λ k. reached texts last views d token loaded fuel recorded number trace.start trace.events k lived.events;
         }
 
     pub calls_come : CallsOfRunsReachOutcome
-    calls_come d token loaded happened short fuel number trace enough is = comes d token loaded fuel happened (short fuel enough) number trace is
+    calls_come d token loaded recorded short fuel number trace enough is = comes d token loaded fuel recorded (short fuel enough) number trace is
 
 -- ---- what is sent
 
 pub sends_no_injection : OperationsSendNoInjection → ReleasedLegsHaveNoInjection → EmitsHaveNoInjection → CallsSeeWhatIsInForce → ReadingHasNoInjection → ((m : Message Start) → MessageHasNoInjection m → HasOwnFields m) → RunsSendNoInjection
-sends_no_injection sends legs seats views read own d token loaded happened home clean_token short fuel enough = all_own d happened own sends legs seats views read token home clean_token loaded fuel
+sends_no_injection sends legs seats views read own d token loaded recorded home clean_token short fuel enough = all_own d recorded own sends legs seats views read token home clean_token loaded fuel

@@ -21,7 +21,7 @@ use Rattle.mmtel_call.specs.declared.calls.Phase.TheVariants.{Detached, Establis
 use Rattle.mmtel_call.specs.declared.calls.Stage.TheVariants.{Answered, Departing, Reinviting, Stable}
 use Rattle.mmtel_call.specs.declared.signals.Signal as calls
 use Rattle.mmtel_call_theorems.specs.Outcomes.{initially_remaining}
-use Rattle.mmtel_call_theorems.specs.CallTrace as story
+use Rattle.mmtel_call_theorems.specs.CallTrace as traces
 use Rattle.mmtel_call_theorems.specs.CallTrace.{TraceStart}
 use Rattle.mmtel_output.specs.Outputs.{empty_output}
 use Rattle.mmtel_output.specs.declared.outputs.StepOutput.{StepOutput}
@@ -212,7 +212,7 @@ module _ (texts_law : TextsAreThoseKept) (last_law : LastIsInForce) (told_law : 
     abbrev HeardSo : SnapshotView → Type 0
     HeardSo now = ReceivedIn (inputs_of d token loaded) fuel whole number whole_life now
 
-    abbrev heard-so : (x : story.TraceStep) (newer older : List CallEvent) → events ≡ newer ++ lives.Receives x ∷ older → StoodThen number s (lives.Receives x) older → HeardSo x.now
+    abbrev heard-so : (x : traces.TraceStep) (newer older : List CallEvent) → events ≡ newer ++ lives.Receives x ∷ older → StoodThen number s (lives.Receives x) older → HeardSo x.now
     heard-so x newer older is t = record { received = x; earlier = older; later = newer; in_order = is; so = refl; snapshot = t }
 
     -- a diversion that was made by then

@@ -300,7 +300,7 @@ module _ (differ : TokensDiffer) (owners : OwnersAreLive)
     (cseqs : (ls : List Line) (five : Five) → five_at ls ≡ Some five → (v : List ℕ) × IsOnly (codes "CSeq") ls v × (cseq_at v ≡ Some five.cseq))
     (once : Once) where
   pub runs_are_tied : RunsAreTied
-  runs_are_tied d token loaded fuel happened read = all_tied differ owners fives vias cseqs d token read once fuel (timed_events d happened) (initial_state loaded) (begins d token loaded) (all_read happened)
+  runs_are_tied d token loaded fuel recorded read = all_tied differ owners fives vias cseqs d token read once fuel (timed_events d recorded) (initial_state loaded) (begins d token loaded) (all_read recorded)
     where
       all_read : (xs : List EventRecord) → AllRead differ owners fives vias cseqs d token read (timed_events d xs)
       all_read [] = tt

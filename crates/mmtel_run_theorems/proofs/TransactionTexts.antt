@@ -22,7 +22,7 @@ use Rattle.mmtel_transaction.specs.declared.entries.TransactionTimer.{Transactio
 use Rattle.mmtel_transaction.specs.declared.entries.Entry.{Entry}
 use Rattle.mmtel_transaction.specs.declared.entries.State.{State}
 use Rattle.mmtel_transaction.specs.declared.entries.State.TheVariants.{Proceeding, Calling, Trying, SlowProceeding, Completed, Absorbing}
-use Rattle.mmtel_transaction.specs.declared.entries.State.TheVariants as plan
+use Rattle.mmtel_transaction.specs.declared.entries.State.TheVariants as states
 use Rattle.mmtel_transaction.specs.declared.entries.ReliableResponse.{ReliableResponse}
 use Rattle.mmtel_transaction.specs.declared.heads.Head.{Head}
 use Rattle.mmtel_transaction.specs.declared.message_class.MessageClass.{MessageClass}
@@ -67,7 +67,7 @@ Waits Trying last = ⊥
 Waits SlowProceeding last = ⊥
 Waits Completed last = IsSome last
 Waits Absorbing last = Unit {0}
-Waits plan.Confirmed last = Unit {0}
+Waits states.Confirmed last = Unit {0}
 
 -- the texts of reliable responses are of these
 abbrev AreOf : (List ℕ → Type 0) → List ReliableResponse → Type 0
@@ -87,7 +87,7 @@ still-waits Trying last text w = w
 still-waits SlowProceeding last text w = w
 still-waits Completed last text w = refl
 still-waits Absorbing last text w = tt
-still-waits plan.Confirmed last text w = tt
+still-waits states.Confirmed last text w = tt
 
 -- ---- its reliable responses
 
@@ -163,11 +163,11 @@ module _ (K : ℕ → Bool → Type 0) (T : List ℕ → Type 0) where
 
   -- the same transaction, in what is kept of it
   as-before : (e x : Entry) → x.key ≡ e.key → x.is_server ≡ e.is_server → x.request ≡ e.request → x.last ≡ e.last → x.state ≡ e.state → x.reliable ≡ e.reliable → Keeps K T e → Keeps K T x
-  as-before e x key server request last plan reliable k = record {
+  as-before e x key server request last states reliable k = record {
     kind = subst (λ (b : Bool). K x.key b) (sym server) (subst (λ (n : ℕ). K n e.is_server) (sym key) k.kind);
     request = λ s. subst T (sym request) (k.request (sym server ∙ s));
     last = subst (λ (o : Option (List ℕ)). IfSome o T) (sym last) k.last;
-    waits = λ s. subst (λ (o : Option (List ℕ)). Waits x.state o) (sym last) (subst (λ (p : State). Waits p e.last) (sym plan) (k.waits (sym server ∙ s)));
+    waits = λ s. subst (λ (o : Option (List ℕ)). Waits x.state o) (sym last) (subst (λ (p : State). Waits p e.last) (sym states) (k.waits (sym server ∙ s)));
     reliable = subst (AreOf T) (sym reliable) k.reliable;
   }
 
@@ -215,7 +215,7 @@ module _ (K : ℕ → Bool → Type 0) (T : List ℕ → Type 0) where
 
   after_failure_ack-keeps : (step now : ℕ) (e : Entry) → Keeps K T e → Keeps K T (after_failure_ack step now e)
   after_failure_ack-keeps step now e k =
-      either e.is_acked e (record e { is_acked = true; state = plan.Confirmed; start = now; retransmissions = 0; step = step }) k
+      either e.is_acked e (record e { is_acked = true; state = states.Confirmed; start = now; retransmissions = 0; step = step }) k
       (record { kind = k.kind; request = k.request; last = k.last; waits = λ s. tt; reliable = k.reliable })
 
   after_failure_ack-2xx-keeps : (step : ℕ) (m : Head) (e : Entry) → Keeps K T e → Keeps K T (after_ack_2xx step m e)
@@ -537,7 +537,7 @@ module _ (K : ℕ → Bool → Type 0) (T : List ℕ → Type 0) where
   server-text SlowProceeding start at shots last w s h = absurd w
   server-text Completed start at shots last w s h = unwrapped last h w
   server-text Absorbing start at shots last w s h = absurd (let f : false ≡ true = s in cc)
-  server-text plan.Confirmed start at shots last w s h = absurd (let f : false ≡ true = s in cc)
+  server-text states.Confirmed start at shots last w s h = absurd (let f : false ≡ true = s in cc)
 
   planned-own : (e : Entry) → Keeps K T e → is_some (state_retransmission_at e) ≡ true → T (state_text e)
   planned-own e k s = go e.is_server refl

@@ -27,6 +27,6 @@ DeadlinesAdd = (directory : Directory) (token : List ℕ) (fuel now : ℕ) (befo
 
 -- the outputs of a run with further events are those without them, and then those of the further events from the state that it had reached
 abbrev pub RunsAdd : Type 0
-RunsAdd = (directory : Directory) (token : List ℕ) (loaded : Texts) (fuel : ℕ) (earlier happened : List EventRecord) →
-    offers_of_run directory token loaded fuel (earlier ++ happened)
-    ≡ offers_of_run directory token loaded fuel earlier ++ (after_events directory token fuel (timed_events directory happened) (without_offers (state_after directory token loaded fuel earlier))).offers
+RunsAdd = (directory : Directory) (token : List ℕ) (loaded : Texts) (fuel : ℕ) (earlier recorded : List EventRecord) →
+    offers_of_run directory token loaded fuel (earlier ++ recorded)
+    ≡ offers_of_run directory token loaded fuel earlier ++ (after_events directory token fuel (timed_events directory recorded) (without_offers (state_after directory token loaded fuel earlier))).offers

@@ -101,16 +101,16 @@ pub record RowsAreCharged (directory : Directory) (state : RunState) : Type 0 wh
       AreRowsAccountedFor (conference_config directory) (op ∷ older) (moment_of op) (effects_after (conference_config directory) older op).output.rows
 
 -- whose all CDRs are; in which order they are: that of the steps in which the call ended or the participant left; and at which moments: those of these steps
-pub record AreCharged (directory : Directory) (token : List ℕ) (loaded : Texts) (fuel : ℕ) (happened : List EventRecord) : Type 0 where
-  pub rows : RowsAreCharged directory (state_after directory token loaded fuel happened)
-  pub order : AreInOrder directory token loaded fuel happened
-  pub timed : AreTimed directory token fuel (timed_events directory happened) (initial_state loaded)
+pub record AreCharged (directory : Directory) (token : List ℕ) (loaded : Texts) (fuel : ℕ) (recorded : List EventRecord) : Type 0 where
+  pub rows : RowsAreCharged directory (state_after directory token loaded fuel recorded)
+  pub order : AreInOrder directory token loaded fuel recorded
+  pub timed : AreTimed directory token fuel (timed_events directory recorded) (initial_state loaded)
 
 abbrev pub ParticipantsChargedOnce : Directory → (token : List ℕ) → (loaded : Texts) → List EventRecord → Type 0
-ParticipantsChargedOnce directory token loaded happened =
-    (fuel : ℕ) → IsEnough directory token loaded fuel happened → AreCharged directory token loaded fuel happened
+ParticipantsChargedOnce directory token loaded recorded =
+    (fuel : ℕ) → IsEnough directory token loaded fuel recorded → AreCharged directory token loaded fuel recorded
 
 -- of every run within the range of the counters
 abbrev pub RunParticipantsChargedOnce : Type 0
-RunParticipantsChargedOnce = (directory : Directory) (token : List ℕ) (loaded : Texts) (happened : List EventRecord) → IsShortRun directory token loaded happened →
-    ParticipantsChargedOnce directory token loaded happened
+RunParticipantsChargedOnce = (directory : Directory) (token : List ℕ) (loaded : Texts) (recorded : List EventRecord) → IsShortRun directory token loaded recorded →
+    ParticipantsChargedOnce directory token loaded recorded

@@ -167,7 +167,7 @@ pub record MessageIsTied (directory : Directory) (state : RunState) (m : Message
 abbrev pub EventIsTied : Directory → RunState → ParsedEvent → Type 0
 EventIsTied directory state Events.Nothing = Unit {0}
 EventIsTied directory state (Events.Refused peer source reply) = Unit {0}
-EventIsTied directory state (Events.Received said) = MessageIsTied directory state said
+EventIsTied directory state (Events.Received message) = MessageIsTied directory state message
 EventIsTied directory state (Events.WebRequested request kept rows) = Unit {0}
 
 -- ---- runs in which no token is drawn twice

@@ -51,7 +51,7 @@ mailbox_upload_at names (event.Quiet at) kept = None
 -- those that were accepted in all events, in their order
 abbrev pub mailbox_uploads_of : WebDirectory → List EventRecord → List (Account × Counts)
 mailbox_uploads_of names [] = []
-mailbox_uploads_of names (one ∷ happened) = option_to_list (mailbox_upload_at names one.event one.outcome) ++ mailbox_uploads_of names happened
+mailbox_uploads_of names (one ∷ recorded) = option_to_list (mailbox_upload_at names one.event one.outcome) ++ mailbox_uploads_of names recorded
 
 -- the counts that operations on mailboxes set, in their order
 abbrev pub mailbox_uploads_in : List TableOp → List (Account × Counts)
@@ -119,36 +119,36 @@ RequestIsOfOwner directory on_calls on_rooms on_mailboxes (DidSettle key own) = 
 
 -- ---- of a run
 
-pub record RunNotifiesSubscribers (directory : Directory) (token : List ℕ) (loaded : Texts) (fuel : ℕ) (happened : List EventRecord) : Type 0 where
+pub record RunNotifiesSubscribers (directory : Directory) (token : List ℕ) (loaded : Texts) (fuel : ℕ) (recorded : List EventRecord) : Type 0 where
   -- the counts of the mailboxes are those of its accepted uploads, in their order
-  pub puts : mailbox_uploads_in (state_after directory token loaded fuel happened).mailbox_ops ≡ mailbox_uploads_of directory.names happened
+  pub puts : mailbox_uploads_in (state_after directory token loaded fuel recorded).mailbox_ops ≡ mailbox_uploads_of directory.names recorded
   -- each subscriber is trusted
-  pub subscribers : Each (IsOfTrusted directory) (subscriptions_in (state_after directory token loaded fuel happened)).live
+  pub subscribers : Each (IsOfTrusted directory) (subscriptions_in (state_after directory token loaded fuel recorded)).live
   -- each request of the server's own is of a call, of a conference, or a NOTIFY to the trusted peer of a live subscription
-  pub asks : Each (RequestIsOfOwner directory (state_after directory token loaded fuel happened).call_ops (state_after directory token loaded fuel happened).conference_ops
-      (state_after directory token loaded fuel happened).mailbox_ops) (state_after directory token loaded fuel happened).actions
+  pub asks : Each (RequestIsOfOwner directory (state_after directory token loaded fuel recorded).call_ops (state_after directory token loaded fuel recorded).conference_ops
+      (state_after directory token loaded fuel recorded).mailbox_ops) (state_after directory token loaded fuel recorded).actions
 
 -- ---- a SUBSCRIBE of a peer that is not trusted
 
 -- in the dialog of a subscription its CSeq number is the last that was received, and otherwise nothing was done
 abbrev pub IsReceivedAlone : MessageView → (before after : RunState) → Type 0
-IsReceivedAlone said before after = (after ≡ before) ⊎ ((sub : SubNo) × (after ≡ with_mailbox_op (Receives sub (message_in said.parsed)) before))
+IsReceivedAlone message before after = (after ≡ before) ⊎ ((sub : SubNo) × (after ≡ with_mailbox_op (Receives sub (message_in message.parsed)) before))
 
 -- it is refused, with no 2xx, and that is all
-pub record IsRefused (directory : Directory) (token : List ℕ) (at : ℕ) (key : TKey) (said : MessageView) (before after : RunState) : Type 0 where
+pub record IsRefused (directory : Directory) (token : List ℕ) (at : ℕ) (key : TKey) (message : MessageView) (before after : RunState) : Type 0 where
   pub response : StatusResponse
   pub code : nat_le 300 response.code ≡ true
   pub received : RunState
-  pub alone : IsReceivedAlone said before received
-  pub is : after ≡ with_response directory token at key said response received
+  pub alone : IsReceivedAlone message before received
+  pub is : after ≡ with_response directory token at key message response received
 
 -- this holds in every state
 abbrev pub UntrustedAreRefused : Type 0
-UntrustedAreRefused = (directory : Directory) (token : List ℕ) (at : ℕ) (key : TKey) (said : MessageView) (state : RunState) → is_method (codes "SUBSCRIBE") said.parsed.start ≡ true →
-    said.parsed.trusted ≡ false → IsRefused directory token at key said state (after_new_request directory token at key said state)
+UntrustedAreRefused = (directory : Directory) (token : List ℕ) (at : ℕ) (key : TKey) (message : MessageView) (state : RunState) → is_method (codes "SUBSCRIBE") message.parsed.start ≡ true →
+    message.parsed.trusted ≡ false → IsRefused directory token at key message state (after_new_request directory token at key message state)
 
 -- ---- of every run
 
 pub record SubscribersAreNotified : Type 0 where
-  pub notified : (directory : Directory) (token : List ℕ) (loaded : Texts) (fuel : ℕ) (happened : List EventRecord) → RunNotifiesSubscribers directory token loaded fuel happened
+  pub notified : (directory : Directory) (token : List ℕ) (loaded : Texts) (fuel : ℕ) (recorded : List EventRecord) → RunNotifiesSubscribers directory token loaded fuel recorded
   pub refused : UntrustedAreRefused

@@ -39,7 +39,7 @@ records_of texts = empty_sheet ∷ map (λ text. stored_sheet text.1) texts
 
 -- all records of a run: those that were loaded, and those that were stored
 abbrev pub records_in : Directory → (loaded : Texts) → List EventRecord → List Sheet
-records_in directory loaded happened = records_of (loaded ++ uploads_of directory.names happened)
+records_in directory loaded recorded = records_of (loaded ++ uploads_of directory.names recorded)
 
 -- the identity parts of the rules by which a record decides about a caller
 abbrev pub parts_of : Sheet → List Who
@@ -84,8 +84,8 @@ pub data MaskedEvent : Type 0 where
 abbrev pub mask_event : Directory → (asked : List Who) → RunState → ParsedEvent → MaskedEvent
 mask_event directory asked state Events.Nothing = Nothing
 mask_event directory asked state (Events.Refused peer source reply) = Refused peer source reply
-mask_event directory asked state (Events.Received said) =
-    Received (without_private (role_of directory state said) said) (tests_beside directory.names.accounts asked (role_of directory state said) said.parsed)
+mask_event directory asked state (Events.Received message) =
+    Received (without_private (role_of directory state message) message) (tests_beside directory.names.accounts asked (role_of directory state message) message.parsed)
 mask_event directory asked state (Events.WebRequested request kept rows) = WebRequested (stored_upload kept (upload_in directory.names request)) (counts_put_in directory.names request kept)
 
 -- the state in which an event comes: after the timers that are due by then, in a step of its own
@@ -104,7 +104,7 @@ pub record Mask : Type 0 where
   pub events : List (ℕ × MaskedEvent)
 
 abbrev pub mask : Directory → (token : List ℕ) → (loaded : Texts) → (fuel : ℕ) → List EventRecord → Mask
-mask directory token loaded fuel happened = record {
-  asked = identities_asked_by (records_in directory loaded happened);
-  events = mask_all directory token fuel (identities_asked_by (records_in directory loaded happened)) (timed_events directory happened) (initial_state loaded);
+mask directory token loaded fuel recorded = record {
+  asked = identities_asked_by (records_in directory loaded recorded);
+  events = mask_all directory token fuel (identities_asked_by (records_in directory loaded recorded)) (timed_events directory recorded) (initial_state loaded);
 }

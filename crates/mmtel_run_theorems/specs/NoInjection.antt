@@ -65,29 +65,29 @@ pub record IsSentIn (acts : List TransactionOp) (text : List ℕ) : Type 0 where
 -- ---- those that no transaction sends
 
 -- this message was received in an event of the run
-pub record IsReceivedIn (directory : Directory) (happened : List EventRecord) (said : MessageView) : Type 0 where
+pub record IsReceivedIn (directory : Directory) (recorded : List EventRecord) (received : MessageView) : Type 0 where
   pub earlier : List EventRecord
   pub event : EventRecord
   pub later : List EventRecord
-  pub in_order : happened ≡ earlier ++ event ∷ later
-  pub is : parsed_record directory event ≡ Received said
+  pub in_order : recorded ≡ earlier ++ event ∷ later
+  pub is : parsed_record directory event ≡ Received received
 
 -- an ACK was received in a call while both its sides were confirmed, and is relayed in the dialog of the other side: with those of its header fields that the header table copies,
 -- and none of any other message; with its body, and one hop less (RFC 3261 §13.2.2.4, §16.6)
-pub record IsRelayedInCall (directory : Directory) (happened : List EventRecord) (ops : List TableOp) (dialogue : Dialogue) (given : RequestPartsView) : Type 0 where
+pub record IsRelayedInCall (directory : Directory) (recorded : List EventRecord) (ops : List TableOp) (dialogue : Dialogue) (given : RequestPartsView) : Type 0 where
   pub acked : ReceivedAck
   pub in_call : IsIn acked (acked_after (call_config directory) ops)
-  pub received : IsReceivedIn directory happened acked.ack
+  pub received : IsReceivedIn directory recorded acked.ack
   pub is_ack : is_method (codes "ACK") acked.ack.parsed.start ≡ true
   pub dialog : dialogue ≡ acked.dialogue
   pub is : given ≡ relayed_parts given.sip given.branch (passed_lines acked.facing acked.to_trusted [] acked.ack.parsed.lines) acked.ack.parsed
 
 -- the ACK of a 2xx (RFC 3261 §13.2.2.4) was made from a dialog and from what was passed for it, and has no injected header fields: the server acknowledges by itself, with nothing
 -- passed, or relays an ACK
-pub record IsOwnAck (directory : Directory) (happened : List EventRecord) (ops : List TableOp) (text : List ℕ) : Type 0 where
+pub record IsOwnAck (directory : Directory) (recorded : List EventRecord) (ops : List TableOp) (text : List ℕ) : Type 0 where
   pub dialogue : Dialogue
   pub given : RequestPartsView
-  pub passes : (given ≡ bare_parts given.sip given.branch) ⊎ IsRelayedInCall directory happened ops dialogue given
+  pub passes : (given ≡ bare_parts given.sip given.branch) ⊎ IsRelayedInCall directory recorded ops dialogue given
   pub lines : HasOwnFields (ack_of dialogue given)
   pub is : text ≡ message_text (ack_of dialogue given)
 
@@ -95,15 +95,15 @@ pub record IsOwnAck (directory : Directory) (happened : List EventRecord) (ops :
 abbrev pub stateless_reply : Directory → (tag : List ℕ) → ParsedEvent → Option (Message Start)
 stateless_reply directory tag Nothing = None
 stateless_reply directory tag (Refused peer source reply) = Some (completed_reply tag source reply)
-stateless_reply directory tag (Received said) = Some (response_to directory.sip tag said (plain_response 503))
+stateless_reply directory tag (Received received) = Some (response_to directory.sip tag received (plain_response 503))
 stateless_reply directory tag (WebRequested request kept rows) = None
 
 -- this is the text of the response to one of these events, which has no injected header fields
-pub record IsOwnReply (directory : Directory) (happened : List EventRecord) (text : List ℕ) : Type 0 where
+pub record IsOwnReply (directory : Directory) (recorded : List EventRecord) (text : List ℕ) : Type 0 where
   pub earlier : List EventRecord
   pub event : EventRecord
   pub later : List EventRecord
-  pub in_order : happened ≡ earlier ++ event ∷ later
+  pub in_order : recorded ≡ earlier ++ event ∷ later
   pub tag : List ℕ
   pub message : Message Start
   pub replies : stateless_reply directory tag (parsed_record directory event) ≡ Some message
@@ -114,22 +114,22 @@ pub record IsOwnReply (directory : Directory) (happened : List EventRecord) (tex
 
 -- what is sent to a peer is the text of one of these messages
 abbrev pub IsOwnOffer : Directory → List EventRecord → List TransactionOp → List TableOp → Offer → Type 0
-IsOwnOffer directory happened acts ops (offer.To peer at text) = IsSentIn acts text ⊎ (IsOwnAck directory happened ops text ⊎ IsOwnReply directory happened text)
-IsOwnOffer directory happened acts ops (offer.Web at text) = Unit {0}
+IsOwnOffer directory recorded acts ops (offer.To peer at text) = IsSentIn acts text ⊎ (IsOwnAck directory recorded ops text ⊎ IsOwnReply directory recorded text)
+IsOwnOffer directory recorded acts ops (offer.Web at text) = Unit {0}
 
 -- so each message that was built has no injected header fields, and nothing is sent to a peer but the texts of messages that were built
-pub record RunHasNoInjection (directory : Directory) (happened : List EventRecord) (state : RunState) : Type 0 where
+pub record RunHasNoInjection (directory : Directory) (recorded : List EventRecord) (state : RunState) : Type 0 where
   pub built : Each ActionHasOwnFields state.actions
-  pub offered : Each (IsOwnOffer directory happened state.actions state.call_ops) state.offers
+  pub offered : Each (IsOwnOffer directory recorded state.actions state.call_ops) state.offers
 
 abbrev pub SendsNoInjection : Directory → (token : List ℕ) → (loaded : Texts) → List EventRecord → Type 0
-SendsNoInjection directory token loaded happened =
-    (fuel : ℕ) → IsEnough directory token loaded fuel happened → RunHasNoInjection directory happened (state_after directory token loaded fuel happened)
+SendsNoInjection directory token loaded recorded =
+    (fuel : ℕ) → IsEnough directory token loaded fuel recorded → RunHasNoInjection directory recorded (state_after directory token loaded fuel recorded)
 
 -- of every run within the range of the counters, under a home domain and a token that are of one line each, whatever was received, loaded and uploaded
 abbrev pub RunsSendNoInjection : Type 0
-RunsSendNoInjection = (directory : Directory) (token : List ℕ) (loaded : Texts) (happened : List EventRecord) → HasNoInjection directory.home → HasNoInjection token →
-    IsShortRun directory token loaded happened → SendsNoInjection directory token loaded happened
+RunsSendNoInjection = (directory : Directory) (token : List ℕ) (loaded : Texts) (recorded : List EventRecord) → HasNoInjection directory.home → HasNoInjection token →
+    IsShortRun directory token loaded recorded → SendsNoInjection directory token loaded recorded
 
 -- each home domain that was read of a configuration is one line
 abbrev pub HomesHaveNoInjection : Type 0

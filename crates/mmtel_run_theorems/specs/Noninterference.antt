@@ -43,11 +43,11 @@ ConfigurationsAreRead = (text : List ℕ) (directory : Directory) (token : List 
 
 -- for runs in which fewer than 2^60 numbers are drawn: under two configurations that are equal but for the URIs of accounts, where lookups in the masked run have equal results
 abbrev pub NoninterferenceInBoth : Type 0
-NoninterferenceInBoth = (directory far : Directory) (token : List ℕ) (loaded : Texts) (fuel : ℕ) (happened run : List EventRecord) (seer : Peer) →
-    BranchesAreRead directory token → EquivalentConfigs (records_in directory loaded happened) directory far → AllLookUpEqually directory far (mask far token loaded fuel run).events →
-    AllEarly directory token fuel (timed_events directory happened) (initial_state loaded) → trusts directory seer ≡ false →
-    mask directory token loaded fuel happened ≡ mask far token loaded fuel run →
-    view seer (offers_of_run directory token loaded fuel happened) ≡ view seer (offers_of_run far token loaded fuel run)
+NoninterferenceInBoth = (directory far : Directory) (token : List ℕ) (loaded : Texts) (fuel : ℕ) (recorded run : List EventRecord) (seer : Peer) →
+    BranchesAreRead directory token → EquivalentConfigs (records_in directory loaded recorded) directory far → AllLookUpEqually directory far (mask far token loaded fuel run).events →
+    AllEarly directory token fuel (timed_events directory recorded) (initial_state loaded) → trusts directory seer ≡ false →
+    mask directory token loaded fuel recorded ≡ mask far token loaded fuel run →
+    view seer (offers_of_run directory token loaded fuel recorded) ≡ view seer (offers_of_run far token loaded fuel run)
 
 -- this is the case where one configuration renames accounts that no URI names by which an account is looked up
 abbrev pub RenamedAreLookedUpEqually : Type 0
@@ -56,58 +56,58 @@ RenamedAreLookedUpEqually = (directory other : Directory) (renamed : List Accoun
 
 -- and for runs under one configuration
 abbrev pub Noninterference : Type 0
-Noninterference = (directory : Directory) (token : List ℕ) (loaded : Texts) (fuel : ℕ) (happened run : List EventRecord) (seer : Peer) →
-    BranchesAreRead directory token → AllEarly directory token fuel (timed_events directory happened) (initial_state loaded) → trusts directory seer ≡ false →
-    mask directory token loaded fuel happened ≡ mask directory token loaded fuel run →
-    view seer (offers_of_run directory token loaded fuel happened) ≡ view seer (offers_of_run directory token loaded fuel run)
+Noninterference = (directory : Directory) (token : List ℕ) (loaded : Texts) (fuel : ℕ) (recorded run : List EventRecord) (seer : Peer) →
+    BranchesAreRead directory token → AllEarly directory token fuel (timed_events directory recorded) (initial_state loaded) → trusts directory seer ≡ false →
+    mask directory token loaded fuel recorded ≡ mask directory token loaded fuel run →
+    view seer (offers_of_run directory token loaded fuel recorded) ≡ view seer (offers_of_run directory token loaded fuel run)
 
 -- each client transaction of a run in which a call or a participant gets a response, and each INVITE of a call that is acknowledged, is with the peer that was sent the request
 abbrev pub RunsAreTied : Type 0
-RunsAreTied = (directory : Directory) (token : List ℕ) (loaded : Texts) (fuel : ℕ) (happened : List EventRecord) → BranchesAreRead directory token →
-    AllTied directory token fuel (timed_events directory happened) (initial_state loaded)
+RunsAreTied = (directory : Directory) (token : List ℕ) (loaded : Texts) (fuel : ℕ) (recorded : List EventRecord) → BranchesAreRead directory token →
+    AllTied directory token fuel (timed_events directory recorded) (initial_state loaded)
 
 -- ---- for the exact outputs, however many timers fire
 
 -- this is the run with these events, without its private places
-pub record Masks (directory : Directory) (token : List ℕ) (loaded : Texts) (happened : List EventRecord) (masked : Mask) : Type 0 where
+pub record Masks (directory : Directory) (token : List ℕ) (loaded : Texts) (recorded : List EventRecord) (masked : Mask) : Type 0 where
   pub fuel : ℕ
-  pub enough : IsEnough directory token loaded fuel happened
-  pub exact : masked ≡ mask directory token loaded fuel happened
+  pub enough : IsEnough directory token loaded fuel recorded
+  pub exact : masked ≡ mask directory token loaded fuel recorded
 
 -- and it is only one: more firings than are enough do not change it
 abbrev pub MasksOnce : Type 0
-MasksOnce = (directory : Directory) (token : List ℕ) (loaded : Texts) (happened : List EventRecord) (masked other : Mask) →
-    Masks directory token loaded happened masked → Masks directory token loaded happened other → masked ≡ other
+MasksOnce = (directory : Directory) (token : List ℕ) (loaded : Texts) (recorded : List EventRecord) (masked other : Mask) →
+    Masks directory token loaded recorded masked → Masks directory token loaded recorded other → masked ≡ other
 
 -- of these outputs an untrusted peer observes what it would observe of any other run that is the same without its private places, also under a configuration that renames accounts,
 -- where no URI by which an account is looked up in these runs names one of them
 abbrev pub IsIndistinguishable : Directory → (token : List ℕ) → (loaded : Texts) → List EventRecord → List Offer → Type 0
-IsIndistinguishable directory token loaded happened offers =
+IsIndistinguishable directory token loaded recorded offers =
     (other : Directory) (renamed : List Account) (run : List EventRecord) (others : List Offer) (masked : Mask) (seer : Peer) →
-    BranchesAreRead directory token → IsShortRun directory token loaded happened → trusts directory seer ≡ false →
-    Renames renamed directory other → Neutral renamed directory other (records_in directory loaded happened) masked →
-    Masks directory token loaded happened masked → Masks other token loaded run masked →
+    BranchesAreRead directory token → IsShortRun directory token loaded recorded → trusts directory seer ≡ false →
+    Renames renamed directory other → Neutral renamed directory other (records_in directory loaded recorded) masked →
+    Masks directory token loaded recorded masked → Masks other token loaded run masked →
     Gives other token loaded run others → view seer offers ≡ view seer others
 
 -- this holds for any outputs that are exactly those of the run
 abbrev pub OffersKeepNoninterference : Type 0
-OffersKeepNoninterference = (directory : Directory) (token : List ℕ) (loaded : Texts) (happened : List EventRecord) (offers : List Offer) →
-    Gives directory token loaded happened offers → IsIndistinguishable directory token loaded happened offers
+OffersKeepNoninterference = (directory : Directory) (token : List ℕ) (loaded : Texts) (recorded : List EventRecord) (offers : List Offer) →
+    Gives directory token loaded recorded offers → IsIndistinguishable directory token loaded recorded offers
 
 -- and under one configuration, which renames nobody
 abbrev pub IsIndistinguishableInOne : Directory → (token : List ℕ) → (loaded : Texts) → List EventRecord → List Offer → Type 0
-IsIndistinguishableInOne directory token loaded happened offers =
+IsIndistinguishableInOne directory token loaded recorded offers =
     (run : List EventRecord) (others : List Offer) (masked : Mask) (seer : Peer) →
-    BranchesAreRead directory token → IsShortRun directory token loaded happened → trusts directory seer ≡ false →
-    Masks directory token loaded happened masked → Masks directory token loaded run masked →
+    BranchesAreRead directory token → IsShortRun directory token loaded recorded → trusts directory seer ≡ false →
+    Masks directory token loaded recorded masked → Masks directory token loaded run masked →
     Gives directory token loaded run others → view seer offers ≡ view seer others
 
 abbrev pub OffersKeepItInOneConfig : Type 0
-OffersKeepItInOneConfig = (directory : Directory) (token : List ℕ) (loaded : Texts) (happened : List EventRecord) (offers : List Offer) →
-    Gives directory token loaded happened offers → IsIndistinguishableInOne directory token loaded happened offers
+OffersKeepItInOneConfig = (directory : Directory) (token : List ℕ) (loaded : Texts) (recorded : List EventRecord) (offers : List Offer) →
+    Gives directory token loaded recorded offers → IsIndistinguishableInOne directory token loaded recorded offers
 
 -- runs that read the same of their events and store the same are indistinguishable, whatever else they were requested to do
 abbrev pub SeenByTimedEvents : Type 0
-SeenByTimedEvents = (directory : Directory) (token : List ℕ) (loaded : Texts) (happened whole : List EventRecord) (offers : List Offer) →
-    timed_events directory happened ≡ timed_events directory whole → uploads_of directory.names happened ≡ uploads_of directory.names whole →
-    IsIndistinguishable directory token loaded happened offers → IsIndistinguishable directory token loaded whole offers
+SeenByTimedEvents = (directory : Directory) (token : List ℕ) (loaded : Texts) (recorded whole : List EventRecord) (offers : List Offer) →
+    timed_events directory recorded ≡ timed_events directory whole → uploads_of directory.names recorded ≡ uploads_of directory.names whole →
+    IsIndistinguishable directory token loaded recorded offers → IsIndistinguishable directory token loaded whole offers

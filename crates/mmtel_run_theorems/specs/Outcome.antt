@@ -101,9 +101,9 @@ pub record IsChargedExactly (state : RunState) (number : ℕ) (trace : CallTrace
   pub ended : (cause : Cause) → (call_after trace.start trace.events).phase ≡ Over cause → is_some (answer_moment (endings_after trace.start trace.events)) ≡ true → cause ≡ Ended
 
 -- by its Outcome, which is a function of how its attempts ended and of the states of the run
-pub record CallReachesOutcome (directory : Directory) (token : List ℕ) (loaded : Texts) (fuel : ℕ) (happened : List EventRecord) (number : ℕ) (trace : CallTraceWithTransfers) : Type 0 where
+pub record CallReachesOutcome (directory : Directory) (token : List ℕ) (loaded : Texts) (fuel : ℕ) (recorded : List EventRecord) (number : ℕ) (trace : CallTraceWithTransfers) : Type 0 where
   -- its state in the table, its result, what was sent for it, and what was counted of it
-  pub exact : CallIsExact (call_config directory) (state_after directory token loaded fuel happened).call_ops number trace
+  pub exact : CallIsExact (call_config directory) (state_after directory token loaded fuel recorded).call_ops number trace
   -- the INVITEs to its targets, each by the diversion that led there, and its final response are those of Outcome, in order
   pub shown : labels_of_trace trace ≡ labels_of_targets (opening_in trace.start) (outcome_after trace.start trace.events).targets ++
       label_of_result (outcome_after trace.start trace.events).result
@@ -111,15 +111,15 @@ pub record CallReachesOutcome (directory : Directory) (token : List ℕ) (loaded
   pub throughout : labels_after trace.start trace.events ≡ labels_of_targets (opening_in trace.start) (outcome_after trace.start trace.events).targets ++
       label_of_result (outcome_after trace.start trace.events).result
   -- the server transaction of the INVITE that opened it is live, and of the peer that sent that, as long as no final response was sent in it; so that response is sent to that peer
-  pub awaited : AwaitsItsFinal (state_after directory token loaded fuel happened) trace.start
+  pub awaited : AwaitsItsFinal (state_after directory token loaded fuel recorded) trace.start
   -- while it is offered no final response was sent in it, by itself, by another call, by a conference or by the server; so that transaction is live then, without condition
-  pub replied : is_offered (call_after trace.start trace.events).phase ≡ true → CanBeResponded (state_after directory token loaded fuel happened) trace.start
+  pub replied : is_offered (call_after trace.start trace.events).phase ≡ true → CanBeResponded (state_after directory token loaded fuel recorded) trace.start
   -- whatever it outputs is sent: each request and each ACK to its peer, and each response to its transaction, which sends it to its peer where it is live
-  pub sent : Each (GoesOut (state_after directory token loaded fuel happened))
-      (emits_of (call_config directory) number (state_after directory token loaded fuel happened).call_ops)
+  pub sent : Each (GoesOut (state_after directory token loaded fuel recorded))
+      (emits_of (call_config directory) number (state_after directory token loaded fuel recorded).call_ops)
   -- its final response to its caller, where it has one, is sent to the peer that sent that INVITE
-  pub answered : Each (FinalIsSent (state_after directory token loaded fuel happened) trace.start)
-      (emits_of (call_config directory) number (state_after directory token loaded fuel happened).call_ops)
+  pub answered : Each (FinalIsSent (state_after directory token loaded fuel recorded) trace.start)
+      (emits_of (call_config directory) number (state_after directory token loaded fuel recorded).call_ops)
   -- how its attempts ended is what was observed of them: what was sent, and what was received
   pub observed : endings_after trace.start trace.events ≡ endings_observed trace.start trace.events
   -- while it is offered its attempt is the current one, whose timers were armed, each for its moment, and no others, and the reliable responses that wait for their PRACK
@@ -138,22 +138,22 @@ pub record CallReachesOutcome (directory : Directory) (token : List ℕ) (loaded
   pub notified : notifications_of trace.start trace.events
       ≡ notifications_due (call_config directory) (opening_in trace.start) (received_history trace.start.arrival.invite) (outcome_after trace.start trace.events).targets
   pub bounded : StaysWithinTheBound directory trace
-  pub charged : IsChargedExactly (state_after directory token loaded fuel happened) number trace
+  pub charged : IsChargedExactly (state_after directory token loaded fuel recorded) number trace
   -- the state was that of the run in the operation by which it opened,
-  pub opened : SnapshotIn (inputs_of directory token loaded) fuel happened number (record { start = trace.start; events = [] }) trace.start.arrival.served.origin trace.start.now
+  pub opened : SnapshotIn (inputs_of directory token loaded) fuel recorded number (record { start = trace.start; events = [] }) trace.start.arrival.served.origin trace.start.now
   -- and in the one by which it reached the target of its next diversion after k others
-  pub reached : (k : ℕ) → ReachedIn (inputs_of directory token loaded) fuel happened number trace k (snapshot_at_diversion trace.start trace.events k)
+  pub reached : (k : ℕ) → ReachedIn (inputs_of directory token loaded) fuel recorded number trace k (snapshot_at_diversion trace.start trace.events k)
 
 -- ---- of a run
 
 -- this holds for each of its calls
 abbrev pub AllCallsReachOutcome : Directory → (token : List ℕ) → (loaded : Texts) → List EventRecord → Type 0
-AllCallsReachOutcome directory token loaded happened =
-    (fuel : ℕ) (number : ℕ) (trace : CallTraceWithTransfers) → IsEnough directory token loaded fuel happened →
-    trace_of (call_config directory) number (state_after directory token loaded fuel happened).call_ops ≡ Some trace →
-    CallReachesOutcome directory token loaded fuel happened number trace
+AllCallsReachOutcome directory token loaded recorded =
+    (fuel : ℕ) (number : ℕ) (trace : CallTraceWithTransfers) → IsEnough directory token loaded fuel recorded →
+    trace_of (call_config directory) number (state_after directory token loaded fuel recorded).call_ops ≡ Some trace →
+    CallReachesOutcome directory token loaded fuel recorded number trace
 
 -- of every run within the range of the counters
 abbrev pub CallsOfRunsReachOutcome : Type 0
-CallsOfRunsReachOutcome = (directory : Directory) (token : List ℕ) (loaded : Texts) (happened : List EventRecord) → IsShortRun directory token loaded happened →
-    AllCallsReachOutcome directory token loaded happened
+CallsOfRunsReachOutcome = (directory : Directory) (token : List ℕ) (loaded : Texts) (recorded : List EventRecord) → IsShortRun directory token loaded recorded →
+    AllCallsReachOutcome directory token loaded recorded

@@ -46,9 +46,9 @@ pub record LeavesAll (before after : RunState) : Type 0 where
 
 -- in this state a request that opened this transaction has no other ground of refusal than the session that it asks for
 abbrev pub IsElseAcceptedIn : Directory → RunState → TKey → MessageView → Type 0
-IsElseAcceptedIn directory state key said =
+IsElseAcceptedIn directory state key message =
     IsElseAccepted directory (is_merged key.0 (live state.actions))
-    (is_some (dialog_owner_of said.parsed (calls_in directory state).entries (conferences_in directory state).live (subscriptions_in state))) said.parsed
+    (is_some (dialog_owner_of message.parsed (calls_in directory state).entries (conferences_in directory state).live (subscriptions_in state))) message.parsed
 
 pub record ShortSessionsAreRefused : Type 0 where
   -- such a request gets 422, with the minimum interval,
@@ -59,8 +59,9 @@ pub record ShortSessionsAreRefused : Type 0 where
       disposition directory merged full named message ≡ Respond answer → answer.code ≡ 422 →
       RequestsShortSession directory message × IsElseAccepted directory merged (is_some named) message × (answer ≡ interval_too_small)
   -- in every state it gets that response, which is its only effect,
-  pub answered : (directory : Directory) (token : List ℕ) (at : ℕ) (key : TKey) (said : MessageView) (state : RunState) → RequestsShortSession directory said.parsed →
-      IsElseAcceptedIn directory state key said → after_new_request directory token at key said state ≡ with_response directory token at key said interval_too_small state
+  pub answered : (directory : Directory) (token : List ℕ) (at : ℕ) (key : TKey) (received : MessageView) (state : RunState) → RequestsShortSession directory received.parsed →
+      IsElseAcceptedIn directory state key received →
+      after_new_request directory token at key received state ≡ with_response directory token at key received interval_too_small state
   -- and leaves all else unchanged
-  pub leaves : (directory : Directory) (token : List ℕ) (at : ℕ) (key : TKey) (said : MessageView) (answer : StatusResponse) (state : RunState) →
-      LeavesAll state (with_response directory token at key said answer state)
+  pub leaves : (directory : Directory) (token : List ℕ) (at : ℕ) (key : TKey) (received : MessageView) (answer : StatusResponse) (state : RunState) →
+      LeavesAll state (with_response directory token at key received answer state)

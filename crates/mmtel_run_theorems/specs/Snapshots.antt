@@ -9,7 +9,7 @@ use Rattle.mmtel_b2bua_theorems.specs.TracesWithTransfers as lives
 use Rattle.mmtel_b2bua_theorems.specs.TracesWithTransfers.{CallEvent, CallTraceWithTransfers, call_after}
 use Rattle.mmtel_call_services.specs.CallConfig.{calls_among}
 use Rattle.mmtel_call_theorems.specs.Outcomes.{diversions_made_in}
-use Rattle.mmtel_call_theorems.specs.CallTrace as story
+use Rattle.mmtel_call_theorems.specs.CallTrace as traces
 use Rattle.mmtel_call_theorems.specs.CallTrace.{TraceStart}
 use Rattle.mmtel_directory.specs.declared.directories.Directory.{Directory}
 use Rattle.mmtel_records_in_force.specs.Texts.{Texts, registration_end_at}
@@ -33,19 +33,19 @@ inputs_of directory token loaded = record { directory = directory; token = token
 
 -- the state after these events of a run, and the operations on the calls until then
 abbrev pub state_in : RunInputs → (fuel : ℕ) → List EventRecord → RunState
-state_in run fuel happened = state_after run.directory run.token run.loaded fuel happened
+state_in run fuel recorded = state_after run.directory run.token run.loaded fuel recorded
 
 abbrev pub operations_after : RunInputs → (fuel : ℕ) → List EventRecord → List TableOp
-operations_after run fuel happened = (state_in run fuel happened).call_ops
+operations_after run fuel recorded = (state_in run fuel recorded).call_ops
 
 -- this was the state for the call of this number when it received a signal in the run, by which its trace became this one; where that signal opened the call, the call itself kept
 -- this account busy
-pub record SnapshotIn (run : RunInputs) (fuel : ℕ) (happened : List EventRecord) (number : ℕ) (came : CallTraceWithTransfers) (own : Option Account) (now : SnapshotView) : Type 0 where
+pub record SnapshotIn (run : RunInputs) (fuel : ℕ) (recorded : List EventRecord) (number : ℕ) (came : CallTraceWithTransfers) (own : Option Account) (now : SnapshotView) : Type 0 where
   -- the event in which it received the signal, and those before and after it
   pub earlier : List EventRecord
   pub event : EventRecord
   pub later : List EventRecord
-  pub in_order : happened ≡ earlier ++ event ∷ later
+  pub in_order : recorded ≡ earlier ++ event ∷ later
   -- the signal, and the operations on the calls in that event before it and after it
   pub received : ReceivedSignal
   pub before : List TableOp
@@ -71,20 +71,20 @@ abbrev pub diversions_made_by : TraceStart → List CallEvent → ℕ
 diversions_made_by s events = diversions_made_in s (call_after s events)
 
 -- a signal that the call of this trace received after it had opened, and the state then, which is the state in the run
-pub record ReceivedIn (run : RunInputs) (fuel : ℕ) (happened : List EventRecord) (number : ℕ) (trace : CallTraceWithTransfers) (now : SnapshotView) : Type 0 where
+pub record ReceivedIn (run : RunInputs) (fuel : ℕ) (recorded : List EventRecord) (number : ℕ) (trace : CallTraceWithTransfers) (now : SnapshotView) : Type 0 where
   -- the signal, and what happened to the call before it and after it, the last first
-  pub received : story.TraceStep
+  pub received : traces.TraceStep
   pub earlier : List CallEvent
   pub later : List CallEvent
   pub in_order : trace.events ≡ later ++ lives.Receives received ∷ earlier
   pub so : now ≡ received.now
-  pub snapshot : SnapshotIn run fuel happened number (record { start = trace.start; events = lives.Receives received ∷ earlier }) None received.now
+  pub snapshot : SnapshotIn run fuel recorded number (record { start = trace.start; events = lives.Receives received ∷ earlier }) None received.now
 
 -- the step in which the call of this trace made its next diversion after k others, and so reached the target of it: that in which it opened, or the one after which it had made
 -- more than k, and before which no more than k; and the state in that step
-pub data ReachedIn (run : RunInputs) (fuel : ℕ) (happened : List EventRecord) (number : ℕ) (trace : CallTraceWithTransfers) (k : ℕ) (now : SnapshotView) : Type 0 where
-  Opening : nat_lt k (diversions_made_by trace.start []) ≡ true → now ≡ trace.start.now → ReachedIn run fuel happened number trace k now
-  Later : (step : ReceivedIn run fuel happened number trace now) → nat_lt k (diversions_made_by trace.start step.earlier) ≡ false →
-      nat_lt k (diversions_made_by trace.start (lives.Receives step.received ∷ step.earlier)) ≡ true → ReachedIn run fuel happened number trace k now
+pub data ReachedIn (run : RunInputs) (fuel : ℕ) (recorded : List EventRecord) (number : ℕ) (trace : CallTraceWithTransfers) (k : ℕ) (now : SnapshotView) : Type 0 where
+  Opening : nat_lt k (diversions_made_by trace.start []) ≡ true → now ≡ trace.start.now → ReachedIn run fuel recorded number trace k now
+  Later : (step : ReceivedIn run fuel recorded number trace now) → nat_lt k (diversions_made_by trace.start step.earlier) ≡ false →
+      nat_lt k (diversions_made_by trace.start (lives.Receives step.received ∷ step.earlier)) ≡ true → ReachedIn run fuel recorded number trace k now
   -- the call has not made it, and the state is that of some step of it
-  NotYet : nat_lt k (diversions_made_by trace.start trace.events) ≡ false → ReceivedIn run fuel happened number trace now ⊎ (now ≡ trace.start.now) → ReachedIn run fuel happened number trace k now
+  NotYet : nat_lt k (diversions_made_by trace.start trace.events) ≡ false → ReceivedIn run fuel recorded number trace now ⊎ (now ≡ trace.start.now) → ReachedIn run fuel recorded number trace k now

@@ -22,7 +22,7 @@ use mmtel_transaction::theorems::{
 /// Under a configuration that renames accounts, the lookup of each account has the same result in two runs that are the same without their private places, where no URI by
 /// which an account is looked up names one of the renamed ones (RFC 3325 §9.1, RFC 5502 §6, TS 24.604 §4.5.2.6).
 pub fn renamed_are_looked_up_equally()
-    ensures looks { RenamedAreLookedUpEqually }
+    ensures lookups { RenamedAreLookedUpEqually }
     // One configuration renames nobody, and then nothing is required.
     ensures nobody { NobodyIsRenamed }
 {
@@ -90,5 +90,5 @@ pub fn masks_compute()
     ensures restricted { RestrictedAreHidden }
     ensures unshown { UnshownAreHidden }
     ensures shown { PublicAreShown }
-    ensures worlds { EachOccurs }
+    ensures states { EachOccurs }
 {}

@@ -44,7 +44,7 @@ impl ScriptLink {
     /// `BadLine` exactly with the first line that breaks this; else out of memory only.
     pub fn read(alloc: Global, bytes: &[u8], peers: &PeerTable) -> Result<ScriptLink, ScriptFault>
         ensures exact { ReadsScript result (events_of peers.now.known bytes.now) }
-        ensures unheard { IfOk result (λ script. script ≡ initial_input script.events) }
+        ensures no_arrivals { IfOk result (λ script. script ≡ initial_input script.events) }
     {
         let events = read_events(alloc, bytes, peers)?;
         Ok(ScriptLink {

@@ -81,7 +81,7 @@ fn read_hex(alloc: Global, digits: &[u8]) -> Result<Option<Text>, NoMemory>
 }
 
 fn digits_line(alloc: Global, digits: &[u8]) -> Result<Option<ScriptLine>, NoMemory>
-    ensures { IfOk result (λ said. said ≡ digits_line digits.now) }
+    ensures { IfOk result (λ line. line ≡ digits_line digits.now) }
 {
     match read_hex(alloc, digits)? {
         None => Ok(None),
@@ -147,7 +147,7 @@ pub fn read_script_line(
     line: &[u8],
     peers: &PeerTable,
 ) -> Result<Option<ScriptLine>, NoMemory>
-    ensures { IfOk result (λ said. said ≡ line_of peers.now.known line.now) }
+    ensures { IfOk result (λ read. read ≡ line_of peers.now.known line.now) }
 {
     match line {
         [] => Ok(Some(ScriptLine::Comment)),

@@ -7,5 +7,5 @@ ghost use Rattle.mmtel_trust.specs.declared.known_peers.KnownPeer.{KnownPeer};
 /// A theorem, without code: the lines that list bytes are data lines of scripts that give these bytes, so different lists of bytes have different listings.
 pub fn listed_bytes_read_back()
     ensures reads_back { (known : List KnownPeer) (bytes : List ℕ) → AreBytes bytes → ReadsBack known bytes }
-    ensures told_apart { (a b : List ℕ) → AreBytes a → AreBytes b → data_lines a ≡ data_lines b → a ≡ b }
+    ensures distinguished { (a b : List ℕ) → AreBytes a → AreBytes b → data_lines a ≡ data_lines b → a ≡ b }
 {}

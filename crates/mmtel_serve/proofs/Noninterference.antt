@@ -41,13 +41,13 @@ sent_there known offers (Some given) (Some now) addr texts gave seen =
     ∙ (bytes_then addr (map send_of given.offers) (map send_of gave.sent)
     ∙ ap (λ (l : List (List ℕ)). bytes_to addr (map send_of given.offers) ++ l) (ap (bytes_to addr) gave.sends_same ∙ seen)))
 
-pub kept_of : OffersKeepNoninterference → GivesAlways → BytesAreSeen → (happened : List EventRecord) (old : Server) (given now : Option LinkOutput) → DeliveredOn happened old given now → KeepsNoninterference happened old given now
-kept_of keeps always bytes happened old given now gave d token loaded serves short =
-    let enough = always d token loaded happened in
+pub kept_of : OffersKeepNoninterference → GivesAlways → BytesAreSeen → (recorded : List EventRecord) (old : Server) (given now : Option LinkOutput) → DeliveredOn recorded old given now → KeepsNoninterference recorded old given now
+kept_of keeps always bytes recorded old given now gave d token loaded serves short =
+    let enough = always d token loaded recorded in
     let here = gave d token loaded [] enough.0 serves short enough.1 in
-    let exact : Gives d token loaded happened here.0 = record { fuel = enough.0; enough = enough.1; exact = sym here.1 } in (
+    let exact : Gives d token loaded recorded here.0 = record { fuel = enough.0; enough = enough.1; exact = sym here.1 } in (
       here.0,
-      keeps d token loaded happened here.0 exact,
+      keeps d token loaded recorded here.0 exact,
       λ seer addr apart at. sent_there d.peers.known here.0 given now addr (texts_seen seer here.0) here.2 (bytes d.peers.known seer addr here.0 apart at),
     )
 
@@ -65,18 +65,18 @@ seen_then : (p : Peer) (xs ys : List Offer) → texts_seen p (xs ++ ys) ≡ text
 seen_then p xs ys = ap (map (λ (seen : ℕ × List ℕ). seen.1)) (view_then p xs ys) ∙ map-append (λ (seen : ℕ × List ℕ). seen.1) (view p xs) (view p ys)
 
 -- what was passed is a prefix of the outputs of the run, so what was sent is a prefix of what is observed of these
-pub front_of : OffersKeepNoninterference → GivesAlways → BytesAreSeen → (happened : List EventRecord) (old : Server) (given now : Option LinkOutput) → DeliveryAborted happened old given now
-    → KeepsNoninterferenceSoFar happened old given now
-front_of keeps always bytes happened old given now s d token loaded serves short =
-    let enough = always d token loaded happened in
+pub front_of : OffersKeepNoninterference → GivesAlways → BytesAreSeen → (recorded : List EventRecord) (old : Server) (given now : Option LinkOutput) → DeliveryAborted recorded old given now
+    → KeepsNoninterferenceSoFar recorded old given now
+front_of keeps always bytes recorded old given now s d token loaded serves short =
+    let enough = always d token loaded recorded in
     let few = subst (λ (l : List EventRecord). IsShortRun d token loaded l) s.parts short in
     let so_far = subst (λ (l : List EventRecord). IsEnough d token loaded enough.0 l) s.parts enough.1 in
     let here = s.delivered d token loaded [] enough.0 serves few so_far in
-    let offers : List Offer = offers_of_run d token loaded enough.0 happened in
+    let offers : List Offer = offers_of_run d token loaded enough.0 recorded in
     let front : here.0 ++ here.1.1.0 ≡ offers = here.1.1.1 ∙ ap (offers_of_run d token loaded enough.0) (sym s.parts) in
-    let exact : Gives d token loaded happened offers = record { fuel = enough.0; enough = enough.1; exact = refl } in (
+    let exact : Gives d token loaded recorded offers = record { fuel = enough.0; enough = enough.1; exact = refl } in (
       offers,
-      keeps d token loaded happened offers exact,
+      keeps d token loaded recorded offers exact,
       λ seer addr apart at. (
         texts_seen seer here.0,
         texts_seen seer here.1.1.0,

@@ -28,7 +28,7 @@ use Rattle.mmtel_serve.proofs.Reading.{reads_all_last, reads_lost, reads_lost_la
 module _ (laws : RunTheorems) (none : NothingIsDelivered) (both : PartsAreDelivered) (keeps : OffersKeepNoninterference) (bytes : BytesAreSeen) (start : ServingState) where
   pub begun : ServeEffectSoFar 0 start start
   begun = record {
-    happened = [];
+    recorded = [];
     effect = made_none laws start;
     read = reads_nothing start.link.input start.link.output start.link.delivery_faults;
     delivered_all = delivered_nothing none start.server start.link.output;
@@ -45,13 +45,13 @@ module _ (laws : RunTheorems) (none : NothingIsDelivered) (both : PartsAreDelive
 
     read_more : (link : LinkState) → ReadsOn link → ReadsBetween start.link.input link.input start.link.output mid.link.output start.link.delivery_faults link.delivery_faults
     read_more link each =
-        reads_then start.link.input mid.link.input link.input start.link.output mid.link.output start.link.delivery_faults mid.link.delivery_faults link.delivery_faults (events_in s.happened) s.effect.receives s.read each
+        reads_then start.link.input mid.link.input link.input start.link.output mid.link.output start.link.delivery_faults mid.link.delivery_faults link.delivery_faults (events_in s.recorded) s.effect.receives s.read each
 
-    front_kept : (happened : List EventRecord) (given : Option LinkOutput) → DeliveryAborted happened start.server start.link.output given → KeepsNoninterferenceSoFar happened start.server start.link.output given
-    front_kept happened given gave = front_of keeps laws.always bytes happened start.server start.link.output given gave
+    front_kept : (recorded : List EventRecord) (given : Option LinkOutput) → DeliveryAborted recorded start.server start.link.output given → KeepsNoninterferenceSoFar recorded start.server start.link.output given
+    front_kept recorded given gave = front_of keeps laws.always bytes recorded start.server start.link.output given gave
 
-    secret_kept : KeepsNoninterference s.happened start.server start.link.output mid.link.output
-    secret_kept = kept_of keeps laws.always bytes s.happened start.server start.link.output mid.link.output s.delivered_all
+    secret_kept : KeepsNoninterference s.recorded start.server start.link.output mid.link.output
+    secret_kept = kept_of keeps laws.always bytes s.recorded start.server start.link.output mid.link.output s.delivered_all
 
     -- nothing was passed to the link as the event was read, and it received nothing as the outputs were passed
     module _ (read : LinkState) (new : ServingState) (e : Event) (told : ReceivesMore mid.link.input read.input (e ∷ []) × ReadsOn read) (same : read.output ≡ mid.link.output)
@@ -71,10 +71,10 @@ module _ (laws : RunTheorems) (none : NothingIsDelivered) (both : PartsAreDelive
       goes_on x served =
           let one : EventRecord = event_record e served.step.outcome served.step.rows served.step.rows_accepted in
           record {
-            happened = s.happened ++ one ∷ [];
-            effect = made_more laws start s.happened turns mid s.effect new [] served.offers e heard_new served.step;
+            recorded = s.recorded ++ one ∷ [];
+            effect = made_more laws start s.recorded turns mid s.effect new [] served.offers e heard_new served.step;
             read = read_new;
-            delivered_all = gave_then laws.draws laws.always both s.happened start.server mid.server s.effect.serves start.link.output mid.link.output s.delivered_all one new.server served.offers
+            delivered_all = gave_then laws.draws laws.always both s.recorded start.server mid.server s.effect.serves start.link.output mid.link.output s.delivered_all one new.server served.offers
                 served.step.adds served.known served.peers new.link.output
                 (subst (λ (given : Option LinkOutput). Delivered served.known served.offers given new.link.output) same served.delivered);
           }
@@ -84,35 +84,35 @@ module _ (laws : RunTheorems) (none : NothingIsDelivered) (both : PartsAreDelive
         stopped : EventAborted e (since read) new → ServeEffect most start new (Err NoMemory)
         stopped ev =
             let one : EventRecord = event_record e ev.aborted.outcome ev.aborted.rows false in
-            let gave_none : DeliveryAborted (s.happened ++ one ∷ []) start.server start.link.output new.link.output =
-            subst (λ (given : Option LinkOutput). DeliveryAborted (s.happened ++ one ∷ []) start.server start.link.output given) (sym (ev.same_output ∙ same))
-            (gave_still laws.draws laws.always both s.happened start.server mid.server s.effect.serves start.link.output mid.link.output s.delivered_all (one ∷ []) (omega arith)) in
+            let gave_none : DeliveryAborted (s.recorded ++ one ∷ []) start.server start.link.output new.link.output =
+            subst (λ (given : Option LinkOutput). DeliveryAborted (s.recorded ++ one ∷ []) start.server start.link.output given) (sym (ev.same_output ∙ same))
+            (gave_still laws.draws laws.always both s.recorded start.server mid.server s.effect.serves start.link.output mid.link.output s.delivered_all (one ∷ []) (omega arith)) in
             record {
-              happened = s.happened ++ one ∷ [];
-              effect = made_broken laws start s.happened turns mid s.effect most less new e
+              recorded = s.recorded ++ one ∷ [];
+              effect = made_broken laws start s.recorded turns mid s.effect most less new e
                   (λ kept rows. (took : Bool) → AddsPrefixInRun mid.server [] ev.offers (event_record e kept rows took) × AddsPrefixWhileServing mid.server [] ev.offers (event_record e kept rows took))
                   heard_new ev.aborted;
               read = reads_all_last start.link.input new.link.input start.link.output new.link.output start.link.delivery_faults new.link.delivery_faults read_new;
               delivered_all = gave_none;
-              noninterference = front_kept (s.happened ++ one ∷ []) new.link.output gave_none;
+              noninterference = front_kept (s.recorded ++ one ∷ []) new.link.output gave_none;
             }
 
         -- or in passing its outputs
         cut : (x : memory.NoMemory) → EventEffect e (since read) new (Err x) → ServeEffect most start new (Err NoMemory)
         cut x ev =
             let one : EventRecord = event_record e ev.step.outcome ev.step.rows ev.step.rows_accepted in
-            let made = made_more laws start s.happened turns mid s.effect new [] ev.offers e heard_new ev.step in
-            let gave_some : DeliveryAborted ((s.happened ++ one ∷ []) ++ lost_events []) start.server start.link.output new.link.output =
-            subst (λ (l : List EventRecord). DeliveryAborted l start.server start.link.output new.link.output) (sym (append-nil (s.happened ++ one ∷ [])))
-            (gave_part laws.draws laws.always both s.happened start.server mid.server s.effect.serves start.link.output mid.link.output s.delivered_all one new.server ev.offers
+            let made = made_more laws start s.recorded turns mid s.effect new [] ev.offers e heard_new ev.step in
+            let gave_some : DeliveryAborted ((s.recorded ++ one ∷ []) ++ lost_events []) start.server start.link.output new.link.output =
+            subst (λ (l : List EventRecord). DeliveryAborted l start.server start.link.output new.link.output) (sym (append-nil (s.recorded ++ one ∷ [])))
+            (gave_part laws.draws laws.always both s.recorded start.server mid.server s.effect.serves start.link.output mid.link.output s.delivered_all one new.server ev.offers
             ev.step.adds ev.known ev.peers new.link.output x
             (subst (λ (given : Option LinkOutput). DeliveredAll ev.known ev.offers given new.link.output (Err x)) same ev.delivered)) in
             record {
-              happened = (s.happened ++ one ∷ []) ++ lost_events [];
-              effect = made_lost laws start (s.happened ++ one ∷ []) (turns + 1) new made most new.link [] (omega arith) (omega (arith, less)) (receives_nothing new.link.input);
+              recorded = (s.recorded ++ one ∷ []) ++ lost_events [];
+              effect = made_lost laws start (s.recorded ++ one ∷ []) (turns + 1) new made most new.link [] (omega arith) (omega (arith, less)) (receives_nothing new.link.input);
               read = reads_all_last start.link.input new.link.input start.link.output new.link.output start.link.delivery_faults new.link.delivery_faults read_new;
               delivered_all = gave_some;
-              noninterference = front_kept ((s.happened ++ one ∷ []) ++ lost_events []) new.link.output gave_some;
+              noninterference = front_kept ((s.recorded ++ one ∷ []) ++ lost_events []) new.link.output gave_some;
             }
 
         pub breaks : (x : memory.NoMemory) → EventAborted e (since read) new ⊎ EventEffect e (since read) new (Err x) → ServeEffect most start new (Err NoMemory)
@@ -125,34 +125,34 @@ module _ (laws : RunTheorems) (none : NothingIsDelivered) (both : PartsAreDelive
       read_still each =
           subst (λ (given : Option LinkOutput). ReadsBetween start.link.input link.input start.link.output given start.link.delivery_faults link.delivery_faults) (sym same) (read_more link each)
 
-      gave_then_none : DeliveredOn s.happened start.server start.link.output link.output
-      gave_then_none = subst (λ (given : Option LinkOutput). DeliveredOn s.happened start.server start.link.output given) (sym same) s.delivered_all
+      gave_then_none : DeliveredOn s.recorded start.server start.link.output link.output
+      gave_then_none = subst (λ (given : Option LinkOutput). DeliveredOn s.recorded start.server start.link.output given) (sym same) s.delivered_all
 
-      kept_still : KeepsNoninterference s.happened start.server start.link.output link.output
-      kept_still = subst (λ (given : Option LinkOutput). KeepsNoninterference s.happened start.server start.link.output given) (sym same) secret_kept
+      kept_still : KeepsNoninterference s.recorded start.server start.link.output link.output
+      kept_still = subst (λ (given : Option LinkOutput). KeepsNoninterference s.recorded start.server start.link.output given) (sym same) secret_kept
 
       -- memory ran out before the connection was read to its end
       lost_one : StaysOrRises mid.link.delivery_faults link.delivery_faults → (es : List Event) → length es ≤ 1 → ReceivesMore mid.link.input link.input es × AddsOne mid.link.input link.input
           → ServeEffect most start (since link) (Err NoMemory)
       lost_one stands es one told =
           let few_lost : length (lost_events es) ≤ 1 = omega (arith, length_lost es, one) in
-          let gave_none : DeliveryAborted (s.happened ++ lost_events es) start.server start.link.output link.output =
-          subst (λ (given : Option LinkOutput). DeliveryAborted (s.happened ++ lost_events es) start.server start.link.output given) (sym same)
-          (gave_still laws.draws laws.always both s.happened start.server mid.server s.effect.serves start.link.output mid.link.output s.delivered_all (lost_events es) few_lost) in
+          let gave_none : DeliveryAborted (s.recorded ++ lost_events es) start.server start.link.output link.output =
+          subst (λ (given : Option LinkOutput). DeliveryAborted (s.recorded ++ lost_events es) start.server start.link.output given) (sym same)
+          (gave_still laws.draws laws.always both s.recorded start.server mid.server s.effect.serves start.link.output mid.link.output s.delivered_all (lost_events es) few_lost) in
           record {
-            happened = s.happened ++ lost_events es;
-            effect = made_lost laws start s.happened turns mid s.effect most link es one (omega (arith, less, one)) told.0;
+            recorded = s.recorded ++ lost_events es;
+            effect = made_lost laws start s.recorded turns mid s.effect most link es one (omega (arith, less, one)) told.0;
             read = subst (λ (given : Option LinkOutput). ReadsButLast start.link.input link.input start.link.output given start.link.delivery_faults link.delivery_faults) (sym same)
                 (reads_lost_last start.link.input mid.link.input link.input start.link.output mid.link.output start.link.delivery_faults mid.link.delivery_faults link.delivery_faults s.read told.1 stands);
             delivered_all = gave_none;
-            noninterference = front_kept (s.happened ++ lost_events es) link.output gave_none;
+            noninterference = front_kept (s.recorded ++ lost_events es) link.output gave_none;
           }
 
       -- the link is closed
       pub closes : ReceivesMore mid.link.input link.input [] × (ReadsOn link × IsAtEnd link.input) → ServeEffect most start (since link) (Ok true)
       closes told = record {
-        happened = s.happened;
-        effect = made_closed laws start s.happened turns mid s.effect most link less told.0 told.1.1;
+        recorded = s.recorded;
+        effect = made_closed laws start s.recorded turns mid s.effect most link less told.0 told.1.1;
         read = read_still told.1.0;
         delivered_all = (s.effect.serves, gave_then_none);
         noninterference = kept_still;
@@ -161,8 +161,8 @@ module _ (laws : RunTheorems) (none : NothingIsDelivered) (both : PartsAreDelive
       -- it failed
       pub fails : StaysOrRises mid.link.delivery_faults link.delivery_faults → (e : DriveFault) → ReceivesEvent mid.link.input link.input mid.link.delivery_faults link.delivery_faults (Err e) → ServeEffect most start (since link) (Err e)
       fails stands LinkFault told = record {
-        happened = s.happened;
-        effect = made_failed laws start s.happened turns mid s.effect most link less told.0;
+        recorded = s.recorded;
+        effect = made_failed laws start s.recorded turns mid s.effect most link less told.0;
         read = read_still told.1;
         delivered_all = (s.effect.serves, gave_then_none);
         noninterference = kept_still;
@@ -172,8 +172,8 @@ module _ (laws : RunTheorems) (none : NothingIsDelivered) (both : PartsAreDelive
     -- the turns were done
     pub ends : (most : ℕ) → turns ≡ most → ServeEffect most start mid (Ok false)
     ends most all = record {
-      happened = s.happened;
-      effect = made_all laws start s.happened turns mid s.effect most all;
+      recorded = s.recorded;
+      effect = made_all laws start s.recorded turns mid s.effect most all;
       read = s.read;
       delivered_all = (s.effect.serves, s.delivered_all);
       noninterference = secret_kept;

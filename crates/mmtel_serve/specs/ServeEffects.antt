@@ -75,10 +75,10 @@ ReadsAll old new (Err NoMemory) = ReadsButLast old.input new.input old.output ne
 
 -- whatever run the server serves in, these are the outputs that these events add to those of the run, and exactly they were passed, with the addresses of its configuration
 abbrev pub DeliveredOn : List EventRecord → Server → Option LinkOutput → Option LinkOutput → Type 0
-DeliveredOn happened old given now =
+DeliveredOn recorded old given now =
     (directory : Directory) (token : List ℕ) (loaded : Texts) (earlier : List EventRecord) (fuel : ℕ) →
-    RepresentsRun directory token loaded earlier old → IsShortRun directory token loaded (earlier ++ happened) → IsEnough directory token loaded fuel (earlier ++ happened) →
-    (added : List Offer) × (offers_of_run directory token loaded fuel (earlier ++ happened) ≡ offers_of_run directory token loaded fuel earlier ++ added) ×
+    RepresentsRun directory token loaded earlier old → IsShortRun directory token loaded (earlier ++ recorded) → IsEnough directory token loaded fuel (earlier ++ recorded) →
+    (added : List Offer) × (offers_of_run directory token loaded fuel (earlier ++ recorded) ≡ offers_of_run directory token loaded fuel earlier ++ added) ×
     Delivered directory.peers.known added given now
 
 -- nothing of what is due in the run without the last of these is missing, and nothing was passed that is not due in the whole
@@ -92,18 +92,18 @@ DeliveredUpTo done last old given now =
     × Delivered directory.peers.known added given now
 
 -- all of these were processed and their outputs passed, but for the last, if memory ran out in it: a prefix of its outputs was passed
-pub record DeliveryAborted (happened : List EventRecord) (old : Server) (given now : Option LinkOutput) : Type 0 where
+pub record DeliveryAborted (recorded : List EventRecord) (old : Server) (given now : Option LinkOutput) : Type 0 where
   pub done : List EventRecord
   pub last : List EventRecord
-  pub parts : happened ≡ done ++ last
+  pub parts : recorded ≡ done ++ last
   pub one : length last ≤ 1
   pub delivered : DeliveredUpTo done last old given now
 
 -- the server processed all of these and the outputs that are due were passed to the link, unless memory ran out
 abbrev pub DeliveredAllOf : List EventRecord → (old new : ServingState) → Result Bool DriveFault → Type 0
-DeliveredAllOf happened old new (Ok closed) = ContinuesServingBy happened old.server new.server × DeliveredOn happened old.server old.link.output new.link.output
-DeliveredAllOf happened old new (Err LinkFault) = ContinuesServingBy happened old.server new.server × DeliveredOn happened old.server old.link.output new.link.output
-DeliveredAllOf happened old new (Err NoMemory) = DeliveryAborted happened old.server old.link.output new.link.output
+DeliveredAllOf recorded old new (Ok closed) = ContinuesServingBy recorded old.server new.server × DeliveredOn recorded old.server old.link.output new.link.output
+DeliveredAllOf recorded old new (Err LinkFault) = ContinuesServingBy recorded old.server new.server × DeliveredOn recorded old.server old.link.output new.link.output
+DeliveredAllOf recorded old new (Err NoMemory) = DeliveryAborted recorded old.server old.link.output new.link.output
 
 -- ---- what was sent, by address
 
@@ -116,34 +116,34 @@ SentTo addr (Some given) (Some now) texts = bytes_to addr (map send_of now.offer
 -- in a run that the server serves in from its first event on there are outputs of which an untrusted peer observes what it would observe of any other run that is equal without its
 -- private places, and what it observes of them was sent to its address, in order, and nothing else, where each peer has a number and an address of its own
 abbrev pub KeepsNoninterference : List EventRecord → Server → Option LinkOutput → Option LinkOutput → Type 0
-KeepsNoninterference happened old given now =
-    (directory : Directory) (token : List ℕ) (loaded : Texts) → RepresentsRun directory token loaded [] old → IsShortRun directory token loaded happened →
-    (offers : List Offer) × IsIndistinguishable directory token loaded happened offers
+KeepsNoninterference recorded old given now =
+    (directory : Directory) (token : List ℕ) (loaded : Texts) → RepresentsRun directory token loaded [] old → IsShortRun directory token loaded recorded →
+    (offers : List Offer) × IsIndistinguishable directory token loaded recorded offers
     × ((seer : Peer) (addr : Addr) → are_apart directory.peers.known ≡ true → addr_of seer directory.peers.known ≡ Some addr → SentTo addr given now (texts_seen seer offers))
 
 -- the same where memory ran out: what was sent to its address is a prefix of what it observes of them
 abbrev pub KeepsNoninterferenceSoFar : List EventRecord → Server → Option LinkOutput → Option LinkOutput → Type 0
-KeepsNoninterferenceSoFar happened old given now =
-    (directory : Directory) (token : List ℕ) (loaded : Texts) → RepresentsRun directory token loaded [] old → IsShortRun directory token loaded happened →
-    (offers : List Offer) × IsIndistinguishable directory token loaded happened offers
+KeepsNoninterferenceSoFar recorded old given now =
+    (directory : Directory) (token : List ℕ) (loaded : Texts) → RepresentsRun directory token loaded [] old → IsShortRun directory token loaded recorded →
+    (offers : List Offer) × IsIndistinguishable directory token loaded recorded offers
     × ((seer : Peer) (addr : Addr) → are_apart directory.peers.known ≡ true → addr_of seer directory.peers.known ≡ Some addr →
     (front : List (List ℕ)) × (rest : List (List ℕ)) × (front ++ rest ≡ texts_seen seer offers) × SentTo addr given now front)
 
 abbrev pub KeepsNoninterferenceOf : List EventRecord → Server → Option LinkOutput → Option LinkOutput → Result Bool DriveFault → Type 0
-KeepsNoninterferenceOf happened old given now (Ok closed) = KeepsNoninterference happened old given now
-KeepsNoninterferenceOf happened old given now (Err LinkFault) = KeepsNoninterference happened old given now
-KeepsNoninterferenceOf happened old given now (Err NoMemory) = KeepsNoninterferenceSoFar happened old given now
+KeepsNoninterferenceOf recorded old given now (Ok closed) = KeepsNoninterference recorded old given now
+KeepsNoninterferenceOf recorded old given now (Err LinkFault) = KeepsNoninterference recorded old given now
+KeepsNoninterferenceOf recorded old given now (Err NoMemory) = KeepsNoninterferenceSoFar recorded old given now
 
 -- ---- the whole
 
 -- the effect on a link and on a keeper in so many turns, the server before and after, and the result
 pub record ServeEffect (turns : ℕ) (old new : ServingState) (result : Result Bool DriveFault) : Type 0 where
   -- there are events that came, each with the keeper's results in it,
-  pub happened : List EventRecord
-  pub effect : RunEffect happened turns old new result
+  pub recorded : List EventRecord
+  pub effect : RunEffect recorded turns old new result
   -- the web connections among them were read to the end,
   pub read : ReadsAll old.link new.link result
   -- the server processed them all, and its outputs were passed to the link,
-  pub delivered_all : DeliveredAllOf happened old new result
+  pub delivered_all : DeliveredAllOf recorded old new result
   -- and noninterference holds
-  pub noninterference : KeepsNoninterferenceOf happened old.server old.link.output new.link.output result
+  pub noninterference : KeepsNoninterferenceOf recorded old.server old.link.output new.link.output result

@@ -17,7 +17,7 @@ use Rattle.mmtel_serve.specs.ServeEffects.{DeliveredOn, ReadsBetween}
 
 -- these are the peers of whatever run the server serves in
 abbrev pub ArePeersOf : List KnownPeer → Server → Type 0
-ArePeersOf known server = (directory : Directory) (token : List ℕ) (loaded : Texts) (happened : List EventRecord) → RepresentsRun directory token loaded happened server →
+ArePeersOf known server = (directory : Directory) (token : List ℕ) (loaded : Texts) (recorded : List EventRecord) → RepresentsRun directory token loaded recorded server →
     known ≡ directory.peers.known
 
 -- one event was processed with an empty list of outputs, and the outputs were passed to the link; or, where memory ran out meanwhile, a prefix of them
@@ -36,7 +36,7 @@ pub record EventAborted (event : Event) (old new : ServingState) : Type 0 where
 
 -- so many turns received an event each, and the server processed them all and its outputs were passed
 pub record ServeEffectSoFar (turns : ℕ) (old new : ServingState) : Type 0 where
-  pub happened : List EventRecord
-  pub effect : EffectSoFar happened turns old new
+  pub recorded : List EventRecord
+  pub effect : EffectSoFar recorded turns old new
   pub read : ReadsBetween old.link.input new.link.input old.link.output new.link.output old.link.delivery_faults new.link.delivery_faults
-  pub delivered_all : DeliveredOn happened old.server old.link.output new.link.output
+  pub delivered_all : DeliveredOn recorded old.server old.link.output new.link.output

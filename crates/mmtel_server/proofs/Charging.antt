@@ -26,21 +26,21 @@ module _ (d : Directory) (token : List ℕ) where
 
   module _ (law : NoneWaits) where
     -- none waits after the last of these, where the keeper accepted what was handed to it
-    none_behind : (fuel : ℕ) (happened : List EventRecord) (w : RunState) → accepted_last happened ≡ true → (after_events d token fuel (timed_events d happened) w).waiting ≡ []
+    none_behind : (fuel : ℕ) (recorded : List EventRecord) (w : RunState) → accepted_last recorded ≡ true → (after_events d token fuel (timed_events d recorded) w).waiting ≡ []
     none_behind fuel [] w took = absurd (false≢true took)
     none_behind fuel (one ∷ []) w took =
         let at : ℕ = clock_at w (moment_of one.event) in
         let v : RunState = after_due_deadlines d token fuel at w in
         subst (λ (b : Bool). (after_event d token at (parsed_record d one) b v).waiting ≡ []) (sym took) (law d token at (parsed_record d one) v)
-    none_behind fuel (one ∷ other ∷ happened) w took = none_behind fuel (other ∷ happened) (after_event_in_order d token fuel (timed_event_of d one) w) took
+    none_behind fuel (one ∷ other ∷ recorded) w took = none_behind fuel (other ∷ recorded) (after_event_in_order d token fuel (timed_event_of d one) w) took
 
-    pub none_after : (fuel : ℕ) (earlier happened : List EventRecord) (w : RunState) → accepted_last happened ≡ true → (after_events d token fuel (timed_events d (earlier ++ happened)) w).waiting ≡ []
-    none_after fuel [] happened w took = none_behind fuel happened w took
-    none_after fuel (one ∷ earlier) happened w took = none_after fuel earlier happened (after_event_in_order d token fuel (timed_event_of d one) w) took
+    pub none_after : (fuel : ℕ) (earlier recorded : List EventRecord) (w : RunState) → accepted_last recorded ≡ true → (after_events d token fuel (timed_events d (earlier ++ recorded)) w).waiting ≡ []
+    none_after fuel [] recorded w took = none_behind fuel recorded w took
+    none_after fuel (one ∷ earlier) recorded w took = none_after fuel earlier recorded (after_event_in_order d token fuel (timed_event_of d one) w) took
 
 -- all CDRs of a run are filed or wait
-pub charged : RowsAreFiled → NoneWaits → (happened : List EventRecord) (old : Server) → ChargesRun happened old
-charged all none happened old d token loaded earlier fuel serves short enough = record {
-  all = all d token loaded fuel (earlier ++ happened);
-  none = λ took. none_after d token none fuel earlier happened (initial_state loaded) took;
+pub charged : RowsAreFiled → NoneWaits → (recorded : List EventRecord) (old : Server) → ChargesRun recorded old
+charged all none recorded old d token loaded earlier fuel serves short enough = record {
+  all = all d token loaded fuel (earlier ++ recorded);
+  none = λ took. none_after d token none fuel earlier recorded (initial_state loaded) took;
 }

@@ -82,7 +82,7 @@ kept secret xs s t out now did d token loaded es went short = secret d token loa
 module _ (laws : RunTheorems) (start : ServingState) (out : List Offer) where
   pub begun : DriveEffectSoFar 0 start start out out
   begun = record {
-    happened = [];
+    recorded = [];
     effect = made_none laws start;
     read = read_nothing start.link.input start.link.delivery_faults start.link.delivery_faults refl;
     runs = went_nothing start.server out;
@@ -91,7 +91,7 @@ module _ (laws : RunTheorems) (start : ServingState) (out : List Offer) where
   module _ (turns : ℕ) (mid : ServingState) (between : List Offer) (d : DriveEffectSoFar turns start mid out between) where
     read_more : (link : LinkState) → ReadEach mid.link.input link.input mid.link.delivery_faults link.delivery_faults → ReadEach start.link.input link.input start.link.delivery_faults link.delivery_faults
     read_more link read =
-        read_then start.link.input mid.link.input link.input start.link.delivery_faults mid.link.delivery_faults link.delivery_faults (events_in d.happened) d.effect.receives d.read read
+        read_then start.link.input mid.link.input link.input start.link.delivery_faults mid.link.delivery_faults link.delivery_faults (events_in d.recorded) d.effect.receives d.read read
 
     -- one turn received an event, and it was processed
     pub goes_on : (new : ServingState) (now : List Offer) (e : Event)
@@ -100,10 +100,10 @@ module _ (laws : RunTheorems) (start : ServingState) (out : List Offer) where
     goes_on new now e told step =
         let one : EventRecord = event_record e step.outcome step.rows step.rows_accepted in
         record {
-          happened = d.happened ++ one ∷ [];
-          effect = made_more laws start d.happened turns mid d.effect new between now e told.0 step;
+          recorded = d.recorded ++ one ∷ [];
+          effect = made_more laws start d.recorded turns mid d.effect new between now e told.0 step;
           read = read_more new.link told.1;
-          runs = went_then laws.draws laws.always d.happened (one ∷ []) start.server mid.server out between d.runs new.server now step.continues;
+          runs = went_then laws.draws laws.always d.recorded (one ∷ []) start.server mid.server out between d.runs new.server now step.continues;
         }
 
     module _ (most : ℕ) (less : turns < most) where
@@ -114,11 +114,11 @@ module _ (laws : RunTheorems) (start : ServingState) (out : List Offer) where
       breaks new now e told met =
           let one : EventRecord = event_record e met.outcome met.rows false in
           record {
-            happened = d.happened ++ one ∷ [];
-            effect = made_broken laws start d.happened turns mid d.effect most less new e
+            recorded = d.recorded ++ one ∷ [];
+            effect = made_broken laws start d.recorded turns mid d.effect most less new e
                 (λ kept rows. (took : Bool) → AddsPrefixInRun mid.server between now (event_record e kept rows took) × AddsPrefixWhileServing mid.server between now (event_record e kept rows took)) told.0 met;
             read = read_all_last start.link.input new.link.input start.link.delivery_faults new.link.delivery_faults (read_more new.link told.1);
-            runs = broke_then laws.draws laws.always d.happened one start.server mid.server out between now d.runs (met.broke false).0;
+            runs = broke_then laws.draws laws.always d.recorded one start.server mid.server out between now d.runs (met.broke false).0;
             noninterference = tt;
           }
 
@@ -132,10 +132,10 @@ module _ (laws : RunTheorems) (start : ServingState) (out : List Offer) where
         lost stands es one told =
             let few_lost : length (lost_events es) ≤ 1 = omega (arith, length_lost es, one) in
             record {
-              happened = d.happened ++ lost_events es;
-              effect = made_lost laws start d.happened turns mid d.effect most link es one (omega (arith, less, one)) told.0;
+              recorded = d.recorded ++ lost_events es;
+              effect = made_lost laws start d.recorded turns mid d.effect most link es one (omega (arith, less, one)) told.0;
               read = read_lost_last start.link.input mid.link.input link.input start.link.delivery_faults mid.link.delivery_faults link.delivery_faults d.read told.1 stands;
-              runs = broke_there laws.draws laws.always d.happened (lost_events es) start.server mid.server out between few_lost d.runs;
+              runs = broke_there laws.draws laws.always d.recorded (lost_events es) start.server mid.server out between few_lost d.runs;
               noninterference = tt;
             }
 
@@ -143,30 +143,30 @@ module _ (laws : RunTheorems) (start : ServingState) (out : List Offer) where
           -- the link is closed
           pub closes : ReceivesMore mid.link.input link.input [] × (ReadEach mid.link.input link.input mid.link.delivery_faults link.delivery_faults × IsAtEnd link.input) → Ends (Ok true)
           closes told = record {
-            happened = d.happened;
-            effect = made_closed laws start d.happened turns mid d.effect most link less told.0 told.1.1;
+            recorded = d.recorded;
+            effect = made_closed laws start d.recorded turns mid d.effect most link less told.0 told.1.1;
             read = read_more link told.1.0;
             runs = d.runs;
-            noninterference = kept secret d.happened start.server mid.server out between d.runs;
+            noninterference = kept secret d.recorded start.server mid.server out between d.runs;
           }
 
           -- it failed
           pub fails : StaysOrRises mid.link.delivery_faults link.delivery_faults → (e : DriveFault) → ReceivesEvent mid.link.input link.input mid.link.delivery_faults link.delivery_faults (Err e) → Ends (Err e)
           fails stands LinkFault told = record {
-            happened = d.happened;
-            effect = made_failed laws start d.happened turns mid d.effect most link less told.0;
+            recorded = d.recorded;
+            effect = made_failed laws start d.recorded turns mid d.effect most link less told.0;
             read = read_more link told.1;
             runs = d.runs;
-            noninterference = kept secret d.happened start.server mid.server out between d.runs;
+            noninterference = kept secret d.recorded start.server mid.server out between d.runs;
           }
           fails stands NoMemory told = lost stands told.0 told.1 told.2
 
     -- the turns were done
     pub ends : OffersAreIndistinguishable → (most : ℕ) → turns ≡ most → DriveEffect most start mid out between (Ok false)
     ends secret most all = record {
-      happened = d.happened;
-      effect = made_all laws start d.happened turns mid d.effect most all;
+      recorded = d.recorded;
+      effect = made_all laws start d.recorded turns mid d.effect most all;
       read = d.read;
       runs = d.runs;
-      noninterference = kept secret d.happened start.server mid.server out between d.runs;
+      noninterference = kept secret d.recorded start.server mid.server out between d.runs;
     }

@@ -41,14 +41,14 @@ events_both (x ∷ xs) ys = ap (λ (es : List Event). x.event ∷ es) (events_bo
 
 -- ---- the outcomes of calls, and what is sent
 
-arrival_made : CallsOfRunsReachOutcome → (happened : List EventRecord) (old : Server) → CallsReachOutcome happened old
-arrival_made law happened old d token loaded es serves short = law d token loaded (es ++ happened) short
+arrival_made : CallsOfRunsReachOutcome → (recorded : List EventRecord) (old : Server) → CallsReachOutcome recorded old
+arrival_made law recorded old d token loaded es serves short = law d token loaded (es ++ recorded) short
 
-participants_charged : RunParticipantsChargedOnce → (happened : List EventRecord) (old : Server) → ChargesParticipants happened old
-participants_charged law happened old d token loaded es serves short = law d token loaded (es ++ happened) short
+participants_charged : RunParticipantsChargedOnce → (recorded : List EventRecord) (old : Server) → ChargesParticipants recorded old
+participants_charged law recorded old d token loaded es serves short = law d token loaded (es ++ recorded) short
 
-no_injection_sent : RunsSendNoInjection → (happened : List EventRecord) (old : Server) → SendsNoInjectionInRun happened old
-no_injection_sent law happened old d token loaded es serves short home text = law d token loaded (es ++ happened) home text short
+no_injection_sent : RunsSendNoInjection → (recorded : List EventRecord) (old : Server) → SendsNoInjectionInRun recorded old
+no_injection_sent law recorded old d token loaded es serves short home text = law d token loaded (es ++ recorded) home text short
 
 -- ---- the run that the server serves in
 
@@ -125,15 +125,15 @@ module _ (laws : RunTheorems) (start : ServingState) where
     counts = refl;
   }
 
-  module _ (happened : List EventRecord) (turns : ℕ) (mid : ServingState) (m : EffectSoFar happened turns start mid) where
-    told_more : (later : Option LinkInput) (ys : List EventRecord) → ReceivesMore mid.link.input later (events_in ys) → ReceivesMore start.link.input later (events_in (happened ++ ys))
+  module _ (recorded : List EventRecord) (turns : ℕ) (mid : ServingState) (m : EffectSoFar recorded turns start mid) where
+    told_more : (later : Option LinkInput) (ys : List EventRecord) → ReceivesMore mid.link.input later (events_in ys) → ReceivesMore start.link.input later (events_in (recorded ++ ys))
     told_more later ys told =
-        subst (λ (es : List Event). ReceivesMore start.link.input later es) (sym (events_both happened ys))
-        (receives_then start.link.input mid.link.input later (events_in happened) (events_in ys) m.receives told)
+        subst (λ (es : List Event). ReceivesMore start.link.input later es) (sym (events_both recorded ys))
+        (receives_then start.link.input mid.link.input later (events_in recorded) (events_in ys) m.receives told)
 
     -- one turn received an event, and it was processed
     pub made_more : (new : ServingState) (out offers : List Offer) (e : Event) → ReceivesMore mid.link.input new.link.input (e ∷ [])
-        → (step : StepEffect e (step_of mid out) (step_of new offers)) → EffectSoFar (happened ++ event_record e step.outcome step.rows step.rows_accepted ∷ []) (turns + 1) start new
+        → (step : StepEffect e (step_of mid out) (step_of new offers)) → EffectSoFar (recorded ++ event_record e step.outcome step.rows step.rows_accepted ∷ []) (turns + 1) start new
     made_more new out offers e told step =
         let one : EventRecord = event_record e step.outcome step.rows step.rows_accepted in
         let here : KeeperResultsOfRun (one ∷ []) mid.server mid.keeper new.keeper = λ dir token loaded es serves short.
@@ -141,12 +141,12 @@ module _ (laws : RunTheorems) (start : ServingState) where
         let on : ContinuesServingBy (one ∷ []) mid.server new.server = λ dir token loaded es serves short. (step.adds dir token loaded es serves short).0 in
         record {
           receives = told_more new.link.input (one ∷ []) told;
-          each = omega (arith, length-append happened (one ∷ []), m.each);
-          serves = serves_then laws.draws laws.always happened (one ∷ []) start.server mid.server m.serves new.server on;
-          results = asked_then laws.draws laws.always happened (one ∷ []) start.server mid.server m.serves start.keeper mid.keeper new.keeper m.results here;
-          holds = holds_then laws.draws laws.always happened (one ∷ []) start.server mid.server m.serves start.keeper.contents mid.keeper.contents new.keeper.contents m.holds
+          each = omega (arith, length-append recorded (one ∷ []), m.each);
+          serves = serves_then laws.draws laws.always recorded (one ∷ []) start.server mid.server m.serves new.server on;
+          results = asked_then laws.draws laws.always recorded (one ∷ []) start.server mid.server m.serves start.keeper mid.keeper new.keeper m.results here;
+          holds = holds_then laws.draws laws.always recorded (one ∷ []) start.server mid.server m.serves start.keeper.contents mid.keeper.contents new.keeper.contents m.holds
               (holds_step (step_of mid out) (step_of new offers) e step);
-          counts = counted_then happened (one ∷ []) start.keeper.faults mid.keeper.faults new.keeper.faults m.counts
+          counts = counted_then recorded (one ∷ []) start.keeper.faults mid.keeper.faults new.keeper.faults m.counts
               (counted_one one mid.keeper.faults step.between.faults new.keeper.faults step.counts step.handover_faults);
         }
 
@@ -154,32 +154,32 @@ module _ (laws : RunTheorems) (start : ServingState) where
       -- it was not processed to its end
       pub made_broken : turns < most → (new : ServingState) (e : Event) (Broke : KeeperOutcomeView → List Row → Type 0) → ReceivesMore mid.link.input new.link.input (e ∷ [])
           → (met : AbortedKeeperCalls Broke (λ kept rows between. (took : Bool) → AsksKeeperInRun mid.server (event_record e kept rows took) mid.keeper between) mid.keeper new.keeper)
-          → RunEffect (happened ++ event_record e met.outcome met.rows false ∷ []) most start new (Err NoMemory)
+          → RunEffect (recorded ++ event_record e met.outcome met.rows false ∷ []) most start new (Err NoMemory)
       made_broken less new e Broke told met =
           let one : EventRecord = event_record e met.outcome met.rows false in
           let here : (dir : Directory) (token : List ℕ) (loaded : Texts) (es : List EventRecord) → RepresentsRun dir token loaded es mid.server → IsShortRun dir token loaded (es ++ one ∷ [])
           → IsKeeperResult (call_of dir.names one.event) one.outcome one.rows mid.keeper.contents new.keeper.contents mid.keeper.calls met.between.calls = λ dir token loaded es serves short.
           subst (λ (h : Option KeeperContents). IsKeeperResult (call_of dir.names one.event) one.outcome one.rows mid.keeper.contents h mid.keeper.calls met.between.calls) (sym met.handover_aborted.0)
           (met.asks false dir token loaded es serves short) in
-          let stopped : KeeperResultsButLast (happened ++ one ∷ []) start.server start.keeper new.keeper = λ dir token loaded es serves short.
-          results_last dir.names happened one start.keeper mid.keeper new.keeper met.between.calls refl
-          (m.results dir token loaded es serves (few_first laws.draws laws.always happened (one ∷ []) dir token loaded es short))
-          (here dir token loaded (es ++ happened) (there laws.draws laws.always happened (one ∷ []) start.server mid.server m.serves dir token loaded es serves short)
-          (few laws.draws laws.always happened (one ∷ []) dir token loaded es short)) met.handover_aborted.1.0 in
+          let stopped : KeeperResultsButLast (recorded ++ one ∷ []) start.server start.keeper new.keeper = λ dir token loaded es serves short.
+          results_last dir.names recorded one start.keeper mid.keeper new.keeper met.between.calls refl
+          (m.results dir token loaded es serves (few_first laws.draws laws.always recorded (one ∷ []) dir token loaded es short))
+          (here dir token loaded (es ++ recorded) (there laws.draws laws.always recorded (one ∷ []) start.server mid.server m.serves dir token loaded es serves short)
+          (few laws.draws laws.always recorded (one ∷ []) dir token loaded es short)) met.handover_aborted.1.0 in
           record {
             receives = told_more new.link.input (one ∷ []) told;
-            ends = omega (arith, length-append happened (one ∷ []), m.each, less);
+            ends = omega (arith, length-append recorded (one ∷ []), m.each, less);
             keeper = record {
               results = stopped;
-              holds = holds_then laws.draws laws.always happened (one ∷ []) start.server mid.server m.serves start.keeper.contents mid.keeper.contents new.keeper.contents m.holds
+              holds = holds_then laws.draws laws.always recorded (one ∷ []) start.server mid.server m.serves start.keeper.contents mid.keeper.contents new.keeper.contents m.holds
                   (holds_unaccepted one mid.server mid.keeper.contents new.keeper.contents mid.keeper.calls met.between.calls refl here);
-              counts = counted_last happened one start.keeper.faults mid.keeper.faults new.keeper.faults m.counts
+              counts = counted_last recorded one start.keeper.faults mid.keeper.faults new.keeper.faults m.counts
                   (subst (λ (n : ℕ). CountsFaults met.outcome mid.keeper.faults n) (sym met.handover_aborted.1.1) met.counts);
             };
-            charges = charged laws.filed laws.none_waits (happened ++ one ∷ []) start.server;
-            outcome = arrival_made laws.outcome (happened ++ one ∷ []) start.server;
-            participants = participants_charged laws.participants (happened ++ one ∷ []) start.server;
-            no_injection = no_injection_sent laws.no_injection (happened ++ one ∷ []) start.server;
+            charges = charged laws.filed laws.none_waits (recorded ++ one ∷ []) start.server;
+            outcome = arrival_made laws.outcome (recorded ++ one ∷ []) start.server;
+            participants = participants_charged laws.participants (recorded ++ one ∷ []) start.server;
+            no_injection = no_injection_sent laws.no_injection (recorded ++ one ∷ []) start.server;
           }
 
       -- where only the link has changed since
@@ -189,59 +189,59 @@ module _ (laws : RunTheorems) (start : ServingState) where
 
         -- memory ran out before the connection was read to its end
         pub made_lost : (es : List Event) → length es ≤ 1 → turns + length es ≤ most → ReceivesMore mid.link.input link.input es
-            → RunEffect (happened ++ lost_events es) most start since (Err NoMemory)
+            → RunEffect (recorded ++ lost_events es) most start since (Err NoMemory)
         made_lost es one less told =
             let ys : List EventRecord = lost_events es in
-            let stopped : KeeperResultsButLast (happened ++ ys) start.server start.keeper mid.keeper = λ dir token loaded earlier serves short.
-            results_lost dir.names happened es start.keeper mid.keeper one
-            (m.results dir token loaded earlier serves (few_first laws.draws laws.always happened ys dir token loaded earlier short)) in
+            let stopped : KeeperResultsButLast (recorded ++ ys) start.server start.keeper mid.keeper = λ dir token loaded earlier serves short.
+            results_lost dir.names recorded es start.keeper mid.keeper one
+            (m.results dir token loaded earlier serves (few_first laws.draws laws.always recorded ys dir token loaded earlier short)) in
             record {
               receives = told_more link.input ys (subst (λ (l : List Event). ReceivesMore mid.link.input link.input l) (sym (events_lost es)) told);
-              ends = omega (arith, length-append happened ys, m.each, less, length_lost es);
+              ends = omega (arith, length-append recorded ys, m.each, less, length_lost es);
               keeper = record {
                 results = stopped;
-                holds = holds_then laws.draws laws.always happened ys start.server mid.server m.serves start.keeper.contents mid.keeper.contents mid.keeper.contents m.holds
+                holds = holds_then laws.draws laws.always recorded ys start.server mid.server m.serves start.keeper.contents mid.keeper.contents mid.keeper.contents m.holds
                     (holds_lost es mid.server mid.keeper.contents mid.keeper.calls one);
-                counts = counted_lost happened es start.keeper.faults mid.keeper.faults one m.counts;
+                counts = counted_lost recorded es start.keeper.faults mid.keeper.faults one m.counts;
               };
-              charges = charged laws.filed laws.none_waits (happened ++ ys) start.server;
-              outcome = arrival_made laws.outcome (happened ++ ys) start.server;
-              participants = participants_charged laws.participants (happened ++ ys) start.server;
-              no_injection = no_injection_sent laws.no_injection (happened ++ ys) start.server;
+              charges = charged laws.filed laws.none_waits (recorded ++ ys) start.server;
+              outcome = arrival_made laws.outcome (recorded ++ ys) start.server;
+              participants = participants_charged laws.participants (recorded ++ ys) start.server;
+              no_injection = no_injection_sent laws.no_injection (recorded ++ ys) start.server;
             }
 
         -- the link is closed
-        pub made_closed : turns < most → ReceivesMore mid.link.input link.input [] → IsAtEnd link.input → RunEffect happened most start since (Ok true)
+        pub made_closed : turns < most → ReceivesMore mid.link.input link.input [] → IsAtEnd link.input → RunEffect recorded most start since (Ok true)
         made_closed less told over = record {
-          receives = receives_still start.link.input mid.link.input link.input (events_in happened) m.receives told;
+          receives = receives_still start.link.input mid.link.input link.input (events_in recorded) m.receives told;
           ends = (omega (arith, m.each, less), over);
           keeper = record { results = m.results; holds = m.holds; counts = m.counts };
-          charges = charged laws.filed laws.none_waits happened start.server;
-          outcome = arrival_made laws.outcome happened start.server;
-          participants = participants_charged laws.participants happened start.server;
-          no_injection = no_injection_sent laws.no_injection happened start.server;
+          charges = charged laws.filed laws.none_waits recorded start.server;
+          outcome = arrival_made laws.outcome recorded start.server;
+          participants = participants_charged laws.participants recorded start.server;
+          no_injection = no_injection_sent laws.no_injection recorded start.server;
         }
 
         -- it failed
-        pub made_failed : turns < most → ReceivesMore mid.link.input link.input [] → RunEffect happened most start since (Err LinkFault)
+        pub made_failed : turns < most → ReceivesMore mid.link.input link.input [] → RunEffect recorded most start since (Err LinkFault)
         made_failed less told = record {
-          receives = receives_still start.link.input mid.link.input link.input (events_in happened) m.receives told;
+          receives = receives_still start.link.input mid.link.input link.input (events_in recorded) m.receives told;
           ends = omega (arith, m.each, less);
           keeper = record { results = m.results; holds = m.holds; counts = m.counts };
-          charges = charged laws.filed laws.none_waits happened start.server;
-          outcome = arrival_made laws.outcome happened start.server;
-          participants = participants_charged laws.participants happened start.server;
-          no_injection = no_injection_sent laws.no_injection happened start.server;
+          charges = charged laws.filed laws.none_waits recorded start.server;
+          outcome = arrival_made laws.outcome recorded start.server;
+          participants = participants_charged laws.participants recorded start.server;
+          no_injection = no_injection_sent laws.no_injection recorded start.server;
         }
 
       -- the turns were done
-      pub made_all : turns ≡ most → RunEffect happened most start mid (Ok false)
+      pub made_all : turns ≡ most → RunEffect recorded most start mid (Ok false)
       made_all all = record {
         receives = m.receives;
         ends = m.each ∙ all;
         keeper = record { results = m.results; holds = m.holds; counts = m.counts };
-        charges = charged laws.filed laws.none_waits happened start.server;
-        outcome = arrival_made laws.outcome happened start.server;
-        participants = participants_charged laws.participants happened start.server;
-        no_injection = no_injection_sent laws.no_injection happened start.server;
+        charges = charged laws.filed laws.none_waits recorded start.server;
+        outcome = arrival_made laws.outcome recorded start.server;
+        participants = participants_charged laws.participants recorded start.server;
+        no_injection = no_injection_sent laws.no_injection recorded start.server;
       }

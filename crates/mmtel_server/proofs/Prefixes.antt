@@ -33,7 +33,7 @@ module _ (d : Directory) (token : List ℕ) where
   module _ (loaded : Texts) where
     -- the state after a run, where so many firings are enough
     abbrev done : (fuel : ℕ) → List EventRecord → RunState
-    done fuel happened = after_events d token fuel (timed_events d happened) (initial_state loaded)
+    done fuel recorded = after_events d token fuel (timed_events d recorded) (initial_state loaded)
 
     pub enough_of_front : (fuel : ℕ) (es more : List EventRecord) → IsEnough d token loaded fuel (es ++ more) → IsEnough d token loaded fuel es
     enough_of_front fuel es more e =

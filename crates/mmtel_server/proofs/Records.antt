@@ -106,11 +106,11 @@ aborted_if_not_called old event is = record {
   outcome = no_memory;
   rows = [];
   broke = λ took. (
-    λ d token loaded happened before fuel went short enough. absurd (false≢true (sym went.represents.represents.unfailed ∙ is)),
-    λ d token loaded happened fuel serves short enough. absurd (false≢true (sym serves.represents.unfailed ∙ is)),
+    λ d token loaded recorded before fuel went short enough. absurd (false≢true (sym went.represents.represents.unfailed ∙ is)),
+    λ d token loaded recorded fuel serves short enough. absurd (false≢true (sym serves.represents.unfailed ∙ is)),
   );
   between = old.keeper;
-  asks = λ took d token loaded happened serves short. result_if_not_called (call_of d.names event) old.keeper.contents old.keeper.calls;
+  asks = λ took d token loaded recorded serves short. result_if_not_called (call_of d.names event) old.keeper.contents old.keeper.calls;
   counts = refl;
   handover_aborted = (refl, (inl refl, refl));
 }

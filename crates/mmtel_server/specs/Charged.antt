@@ -14,20 +14,20 @@ use Rattle.mmtel_server.specs.declared.servers.Server.{Server}
 abbrev pub accepted_last : List EventRecord → Bool
 accepted_last [] = false
 accepted_last (one ∷ []) = one.accepted
-accepted_last (one ∷ other ∷ happened) = accepted_last (other ∷ happened)
+accepted_last (one ∷ other ∷ recorded) = accepted_last (other ∷ recorded)
 
 -- for the state of a run after these events
-pub record ChargesRows (directory : Directory) (state : RunState) (happened : List EventRecord) : Type 0 where
+pub record ChargesRows (directory : Directory) (state : RunState) (recorded : List EventRecord) : Type 0 where
   -- the CDRs that the keeper accepted in the whole run, and then those that wait, are all CDRs that its calls closed and all those of the participants that left, each
   -- in the order in which they were closed: none is lost, and none comes twice;
   pub all : AreFiled directory state
   -- and none waits after an event at whose end the keeper accepted what was handed to it
-  pub none : accepted_last happened ≡ true → state.waiting ≡ []
+  pub none : accepted_last recorded ≡ true → state.waiting ≡ []
 
 -- whatever run the server serves in, this holds for that run continued by these events
 abbrev pub ChargesRun : List EventRecord → Server → Type 0
-ChargesRun happened old =
+ChargesRun recorded old =
     (directory : Directory) (token : List ℕ) (loaded : Texts) (earlier : List EventRecord) (fuel : ℕ) →
-    RepresentsRun directory token loaded earlier old → IsShortRun directory token loaded (earlier ++ happened) →
-    IsEnough directory token loaded fuel (earlier ++ happened) →
-    ChargesRows directory (state_after directory token loaded fuel (earlier ++ happened)) happened
+    RepresentsRun directory token loaded earlier old → IsShortRun directory token loaded (earlier ++ recorded) →
+    IsEnough directory token loaded fuel (earlier ++ recorded) →
+    ChargesRows directory (state_after directory token loaded fuel (earlier ++ recorded)) recorded

@@ -11,5 +11,6 @@ use Rattle.mmtel_server.specs.declared.servers.Server.{Server}
 
 -- whichever state the server represents, this is the owner of the dialog that a message names
 abbrev pub NamesOwner : Server → MessageView → Option DialogOwner → Type 0
-NamesOwner server said named =
-    (directory : Directory) (token : List ℕ) (state : RunState) → Represents directory token server state → option_map holder_of named ≡ dialog_owner_in directory said.parsed state
+NamesOwner server message named =
+    (directory : Directory) (token : List ℕ) (state : RunState) → Represents directory token server state →
+    option_map holder_of named ≡ dialog_owner_in directory message.parsed state

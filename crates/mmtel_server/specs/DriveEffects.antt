@@ -159,17 +159,17 @@ most_calls_a_turn = most_reads_a_turn + 1
 
 -- whatever run the server went through, it has gone through that run continued by these events, with all outputs that are due in it
 abbrev pub ContinuesRunBy : List EventRecord → Server → List Offer → Server → List Offer → Type 0
-ContinuesRunBy happened old out new now =
+ContinuesRunBy recorded old out new now =
     (directory : Directory) (token : List ℕ) (loaded : Texts) (earlier : List EventRecord) (before : List Offer) →
-    RanFromStart directory token loaded earlier before old out → IsShortRun directory token loaded (earlier ++ happened) →
-    RanFromStart directory token loaded (earlier ++ happened) before new now
+    RanFromStart directory token loaded earlier before old out → IsShortRun directory token loaded (earlier ++ recorded) →
+    RanFromStart directory token loaded (earlier ++ recorded) before new now
 
 -- whatever run it serves in, it serves in that run continued by these events
 abbrev pub ContinuesServingBy : List EventRecord → Server → Server → Type 0
-ContinuesServingBy happened old new =
+ContinuesServingBy recorded old new =
     (directory : Directory) (token : List ℕ) (loaded : Texts) (earlier : List EventRecord) →
-    RepresentsRun directory token loaded earlier old → IsShortRun directory token loaded (earlier ++ happened) →
-    RepresentsRun directory token loaded (earlier ++ happened) new
+    RepresentsRun directory token loaded earlier old → IsShortRun directory token loaded (earlier ++ recorded) →
+    RepresentsRun directory token loaded (earlier ++ recorded) new
 
 -- nothing of what is due in the run without the last of these is missing, and nothing comes after what is due in the whole
 abbrev pub OffersUpTo : (done last : List EventRecord) → Server → List Offer → List Offer → Type 0
@@ -180,50 +180,50 @@ OffersUpTo done last old out now =
     IsPrefixBetween (before ++ offers_of_run directory token loaded fuel (earlier ++ done)) now (before ++ offers_of_run directory token loaded fuel (earlier ++ (done ++ last)))
 
 -- all of these were processed but for the last, if memory ran out in it: a prefix of its outputs was added
-pub record StopsInLast (happened : List EventRecord) (old : Server) (out now : List Offer) : Type 0 where
+pub record StopsInLast (recorded : List EventRecord) (old : Server) (out now : List Offer) : Type 0 where
   pub done : List EventRecord
   pub last : List EventRecord
-  pub parts : happened ≡ done ++ last
+  pub parts : recorded ≡ done ++ last
   pub one : length last ≤ 1
   pub offered : OffersUpTo done last old out now
 
 -- the server and the outputs are as after all of these, unless memory ran out
 abbrev pub RunsAll : List EventRecord → Server → List Offer → Server → List Offer → Result Bool DriveFault → Type 0
-RunsAll happened old out new now (Ok closed) = ContinuesRunBy happened old out new now
-RunsAll happened old out new now (Err LinkFault) = ContinuesRunBy happened old out new now
-RunsAll happened old out new now (Err NoMemory) = StopsInLast happened old out now
+RunsAll recorded old out new now (Ok closed) = ContinuesRunBy recorded old out new now
+RunsAll recorded old out new now (Err LinkFault) = ContinuesRunBy recorded old out new now
+RunsAll recorded old out new now (Err NoMemory) = StopsInLast recorded old out now
 
 -- of the outputs of a run from its first event on, an untrusted peer observes what it would observe of any other run that is equal without its private places
 abbrev pub KeepsNoninterference : List EventRecord → Server → List Offer → List Offer → Type 0
-KeepsNoninterference happened old out now =
+KeepsNoninterference recorded old out now =
     (directory : Directory) (token : List ℕ) (loaded : Texts) (earlier : List EventRecord) →
-    RanFromStart directory token loaded earlier [] old out → IsShortRun directory token loaded (earlier ++ happened) → IsIndistinguishable directory token loaded (earlier ++ happened) now
+    RanFromStart directory token loaded earlier [] old out → IsShortRun directory token loaded (earlier ++ recorded) → IsIndistinguishable directory token loaded (earlier ++ recorded) now
 
 abbrev pub KeepsAllUnlessAborted : List EventRecord → Server → List Offer → List Offer → Result Bool DriveFault → Type 0
-KeepsAllUnlessAborted happened old out now (Ok closed) = KeepsNoninterference happened old out now
-KeepsAllUnlessAborted happened old out now (Err LinkFault) = KeepsNoninterference happened old out now
-KeepsAllUnlessAborted happened old out now (Err NoMemory) = ⊤
+KeepsAllUnlessAborted recorded old out now (Ok closed) = KeepsNoninterference recorded old out now
+KeepsAllUnlessAborted recorded old out now (Err LinkFault) = KeepsNoninterference recorded old out now
+KeepsAllUnlessAborted recorded old out now (Err NoMemory) = ⊤
 
 -- whatever run the server serves in, each call of that run continued by these events has the outcome that the precedence of services determines from how its attempts ended, and
 -- from the states in which it reached each target, within the bound on diversions and with its CDRs
 abbrev pub CallsReachOutcome : List EventRecord → Server → Type 0
-CallsReachOutcome happened old =
+CallsReachOutcome recorded old =
     (directory : Directory) (token : List ℕ) (loaded : Texts) (earlier : List EventRecord) →
-    RepresentsRun directory token loaded earlier old → IsShortRun directory token loaded (earlier ++ happened) → AllCallsReachOutcome directory token loaded (earlier ++ happened)
+    RepresentsRun directory token loaded earlier old → IsShortRun directory token loaded (earlier ++ recorded) → AllCallsReachOutcome directory token loaded (earlier ++ recorded)
 
 -- each participant of its conferences that left was charged once, to the account of the operation that added it; and all CDRs are in the order of the steps
 abbrev pub ChargesParticipants : List EventRecord → Server → Type 0
-ChargesParticipants happened old =
+ChargesParticipants recorded old =
     (directory : Directory) (token : List ℕ) (loaded : Texts) (earlier : List EventRecord) →
-    RepresentsRun directory token loaded earlier old → IsShortRun directory token loaded (earlier ++ happened) → ParticipantsChargedOnce directory token loaded (earlier ++ happened)
+    RepresentsRun directory token loaded earlier old → IsShortRun directory token loaded (earlier ++ recorded) → ParticipantsChargedOnce directory token loaded (earlier ++ recorded)
 
 -- and each message that is built in it has no injected header fields, and each text that is sent to a peer is that of one, under a home domain and a token of one line
 -- each
 abbrev pub SendsNoInjectionInRun : List EventRecord → Server → Type 0
-SendsNoInjectionInRun happened old =
+SendsNoInjectionInRun recorded old =
     (directory : Directory) (token : List ℕ) (loaded : Texts) (earlier : List EventRecord) →
-    RepresentsRun directory token loaded earlier old → IsShortRun directory token loaded (earlier ++ happened) →
-    HasNoInjection directory.home → HasNoInjection token → SendsNoInjection directory token loaded (earlier ++ happened)
+    RepresentsRun directory token loaded earlier old → IsShortRun directory token loaded (earlier ++ recorded) →
+    HasNoInjection directory.home → HasNoInjection token → SendsNoInjection directory token loaded (earlier ++ recorded)
 
 -- ---- the effect on the keeper
 
@@ -238,13 +238,13 @@ pub record KeeperResultOfEvent (names : WebDirectory) (one : EventRecord) (old n
 -- the same for each event, in order; the count of its faults is defined below
 abbrev pub EachKeeperResult : WebDirectory → List EventRecord → (old new : KeeperState) → Type 0
 EachKeeperResult names [] old new = (new.contents ≡ old.contents) × (new.calls ≡ old.calls)
-EachKeeperResult names (one ∷ happened) old new = (between : KeeperState) × KeeperResultOfEvent names one old between × EachKeeperResult names happened between new
+EachKeeperResult names (one ∷ recorded) old new = (between : KeeperState) × KeeperResultOfEvent names one old between × EachKeeperResult names recorded between new
 
 abbrev pub KeeperResultsOfRun : List EventRecord → Server → (old new : KeeperState) → Type 0
-KeeperResultsOfRun happened server old new =
+KeeperResultsOfRun recorded server old new =
     (directory : Directory) (token : List ℕ) (loaded : Texts) (earlier : List EventRecord) →
-    RepresentsRun directory token loaded earlier server → IsShortRun directory token loaded (earlier ++ happened) →
-    EachKeeperResult directory.names happened old new
+    RepresentsRun directory token loaded earlier server → IsShortRun directory token loaded (earlier ++ recorded) →
+    EachKeeperResult directory.names recorded old new
 
 -- with these uploads put over the sheets, and these CDRs after the others
 abbrev pub with_uploads_and_rows : Texts → List Row → KeeperContents → KeeperContents
@@ -253,12 +253,12 @@ with_uploads_and_rows uploads rows held = record { sheets = put_each uploads hel
 -- where the keeper exposes its contents, each upload that was stored was put over them, in their order, the CDRs that were filed in these events come after those that it
 -- held, and nothing else changed
 abbrev pub HoldsUploads : List EventRecord → Server → (old new : Option KeeperContents) → Type 0
-HoldsUploads happened server old new =
+HoldsUploads recorded server old new =
     (directory : Directory) (token : List ℕ) (loaded : Texts) (earlier : List EventRecord) →
-    (fuel : ℕ) → IsEnough directory token loaded fuel (earlier ++ happened) →
-    RepresentsRun directory token loaded earlier server → IsShortRun directory token loaded (earlier ++ happened) →
-    (rows : List Row) × ((state_after directory token loaded fuel (earlier ++ happened)).filed ≡ (state_after directory token loaded fuel earlier).filed ++ rows)
-    × (new ≡ option_map (with_uploads_and_rows (uploads_of directory.names happened) rows) old)
+    (fuel : ℕ) → IsEnough directory token loaded fuel (earlier ++ recorded) →
+    RepresentsRun directory token loaded earlier server → IsShortRun directory token loaded (earlier ++ recorded) →
+    (rows : List Row) × ((state_after directory token loaded fuel (earlier ++ recorded)).filed ≡ (state_after directory token loaded fuel earlier).filed ++ rows)
+    × (new ≡ option_map (with_uploads_and_rows (uploads_of directory.names recorded) rows) old)
 
 -- its count of faults rose in an event in which its call failed, and where it did not accept the CDRs at the end, and is unchanged otherwise
 pub record CountsFaultsOfEvent (one : EventRecord) (old new : ℕ) : Type 0 where
@@ -268,7 +268,7 @@ pub record CountsFaultsOfEvent (one : EventRecord) (old new : ℕ) : Type 0 wher
 
 abbrev pub CountsEachFault : List EventRecord → (old new : ℕ) → Type 0
 CountsEachFault [] old new = new ≡ old
-CountsEachFault (one ∷ happened) old new = (between : ℕ) × CountsFaultsOfEvent one old between × CountsEachFault happened between new
+CountsEachFault (one ∷ recorded) old new = (between : ℕ) × CountsFaultsOfEvent one old between × CountsEachFault recorded between new
 
 -- ---- the same where memory ran out, in the last of these events or after it
 
@@ -279,33 +279,33 @@ LastKeeperResult names [] old new = (new.contents ≡ old.contents) × (new.call
 LastKeeperResult names (one ∷ []) old new =
     (asked : Option KeeperCalls) × (one.accepted ≡ false)
     × (IsKeeperResult (call_of names one.event) one.outcome one.rows old.contents new.contents old.calls asked × MayBeCalled asked new.calls)
-LastKeeperResult names (one ∷ other ∷ happened) old new = ⊥
+LastKeeperResult names (one ∷ other ∷ recorded) old new = ⊥
 
 -- and for all before it as above
-pub record EachKeeperResultButLast (names : WebDirectory) (happened : List EventRecord) (old new : KeeperState) : Type 0 where
+pub record EachKeeperResultButLast (names : WebDirectory) (recorded : List EventRecord) (old new : KeeperState) : Type 0 where
   pub done : List EventRecord
   pub last : List EventRecord
-  pub parts : happened ≡ done ++ last
+  pub parts : recorded ≡ done ++ last
   pub between : KeeperState
   pub each : EachKeeperResult names done old between
   pub rest : LastKeeperResult names last between new
 
 abbrev pub KeeperResultsButLast : List EventRecord → Server → (old new : KeeperState) → Type 0
-KeeperResultsButLast happened server old new =
+KeeperResultsButLast recorded server old new =
     (directory : Directory) (token : List ℕ) (loaded : Texts) (earlier : List EventRecord) →
-    RepresentsRun directory token loaded earlier server → IsShortRun directory token loaded (earlier ++ happened) →
-    EachKeeperResultButLast directory.names happened old new
+    RepresentsRun directory token loaded earlier server → IsShortRun directory token loaded (earlier ++ recorded) →
+    EachKeeperResultButLast directory.names recorded old new
 
 -- the count of faults rose in it where its call failed, and is unchanged otherwise
 abbrev pub CountsLastFault : List EventRecord → (old new : ℕ) → Type 0
 CountsLastFault [] old new = new ≡ old
 CountsLastFault (one ∷ []) old new = CountsFaults one.outcome old new
-CountsLastFault (one ∷ other ∷ happened) old new = ⊥
+CountsLastFault (one ∷ other ∷ recorded) old new = ⊥
 
-pub record CountsFaultsButLast (happened : List EventRecord) (old new : ℕ) : Type 0 where
+pub record CountsFaultsButLast (recorded : List EventRecord) (old new : ℕ) : Type 0 where
   pub done : List EventRecord
   pub last : List EventRecord
-  pub parts : happened ≡ done ++ last
+  pub parts : recorded ≡ done ++ last
   pub between : ℕ
   pub each : CountsEachFault done old between
   pub rest : CountsLastFault last between new
@@ -313,49 +313,49 @@ pub record CountsFaultsButLast (happened : List EventRecord) (old new : ℕ) : T
 -- ---- by the result of `drive`
 
 abbrev pub KeeperResultsUnlessAborted : List EventRecord → Server → (old new : KeeperState) → Result Bool DriveFault → Type 0
-KeeperResultsUnlessAborted happened server old new (Ok closed) = KeeperResultsOfRun happened server old new
-KeeperResultsUnlessAborted happened server old new (Err LinkFault) = KeeperResultsOfRun happened server old new
-KeeperResultsUnlessAborted happened server old new (Err NoMemory) = KeeperResultsButLast happened server old new
+KeeperResultsUnlessAborted recorded server old new (Ok closed) = KeeperResultsOfRun recorded server old new
+KeeperResultsUnlessAborted recorded server old new (Err LinkFault) = KeeperResultsOfRun recorded server old new
+KeeperResultsUnlessAborted recorded server old new (Err NoMemory) = KeeperResultsButLast recorded server old new
 
 abbrev pub CountsAllFaults : List EventRecord → (old new : ℕ) → Result Bool DriveFault → Type 0
-CountsAllFaults happened old new (Ok closed) = CountsEachFault happened old new
-CountsAllFaults happened old new (Err LinkFault) = CountsEachFault happened old new
-CountsAllFaults happened old new (Err NoMemory) = CountsFaultsButLast happened old new
+CountsAllFaults recorded old new (Ok closed) = CountsEachFault recorded old new
+CountsAllFaults recorded old new (Err LinkFault) = CountsEachFault recorded old new
+CountsAllFaults recorded old new (Err NoMemory) = CountsFaultsButLast recorded old new
 
 -- what the keeper exposes and counts
-pub record KeeperRunEffect (happened : List EventRecord) (server : Server) (old new : KeeperState) (result : Result Bool DriveFault) : Type 0 where
-  pub results : KeeperResultsUnlessAborted happened server old new result
-  pub holds : HoldsUploads happened server old.contents new.contents
-  pub counts : CountsAllFaults happened old.faults new.faults result
+pub record KeeperRunEffect (recorded : List EventRecord) (server : Server) (old new : KeeperState) (result : Result Bool DriveFault) : Type 0 where
+  pub results : KeeperResultsUnlessAborted recorded server old new result
+  pub holds : HoldsUploads recorded server old.contents new.contents
+  pub counts : CountsAllFaults recorded old.faults new.faults result
 
 -- ---- the whole
 
 -- the effect of these events in so many turns, but for the outputs
-pub record RunEffect (happened : List EventRecord) (turns : ℕ) (old new : ServingState) (result : Result Bool DriveFault) : Type 0 where
+pub record RunEffect (recorded : List EventRecord) (turns : ℕ) (old new : ServingState) (result : Result Bool DriveFault) : Type 0 where
   -- they are those that the link received, where it exposes its input,
-  pub receives : ReceivesMore old.link.input new.link.input (events_in happened)
+  pub receives : ReceivesMore old.link.input new.link.input (events_in recorded)
   -- one per turn,
-  pub ends : EndsAfter turns new.link.input (length happened) result
+  pub ends : EndsAfter turns new.link.input (length recorded) result
   -- the keeper was called as they ask, and stores what they contain,
-  pub keeper : KeeperRunEffect happened old.server old.keeper new.keeper result
+  pub keeper : KeeperRunEffect recorded old.server old.keeper new.keeper result
   -- the CDRs that it accepted in the whole run, and then those that wait, are all that were closed in it, in their order,
-  pub charges : ChargesRun happened old.server
+  pub charges : ChargesRun recorded old.server
   -- each call has its outcome, each participant that left was charged once, and what is sent has no injected header fields
-  pub outcome : CallsReachOutcome happened old.server
-  pub participants : ChargesParticipants happened old.server
-  pub no_injection : SendsNoInjectionInRun happened old.server
+  pub outcome : CallsReachOutcome recorded old.server
+  pub participants : ChargesParticipants recorded old.server
+  pub no_injection : SendsNoInjectionInRun recorded old.server
 
 -- the effect on a link and on a keeper in so many turns, with the outputs before and now
 pub record DriveEffect (turns : ℕ) (old new : ServingState) (out now : List Offer) (result : Result Bool DriveFault) : Type 0 where
   -- there are events that came, each with the keeper's results in it,
-  pub happened : List EventRecord
-  pub effect : RunEffect happened turns old new result
+  pub recorded : List EventRecord
+  pub effect : RunEffect recorded turns old new result
   -- the web connections among them were read to the end,
   pub read : ReadAll old.link new.link result
   -- the server processed them all,
-  pub runs : RunsAll happened old.server out new.server now result
+  pub runs : RunsAll recorded old.server out new.server now result
   -- and noninterference holds
-  pub noninterference : KeepsAllUnlessAborted happened old.server out now result
+  pub noninterference : KeepsAllUnlessAborted recorded old.server out now result
 
 -- the count of arrival faults rose at a link's fault, and is unchanged at every other result
 abbrev pub HasDriveCause : {T : Type 0} → ℕ → ℕ → Result T DriveFault → Type 0

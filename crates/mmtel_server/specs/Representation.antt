@@ -74,16 +74,16 @@ pub record RepresentsWithOffers (directory : Directory) (token : List ℕ) (befo
 
 -- it went through the run with these events, over the texts that were loaded, in which every timer that was due has fired, and its outputs come after what was in
 -- the list before
-pub record RanFromStart (directory : Directory) (token : List ℕ) (loaded : Texts) (happened : List EventRecord) (before : List Offer) (server : Server) (out : List Offer) : Type 0 where
+pub record RanFromStart (directory : Directory) (token : List ℕ) (loaded : Texts) (recorded : List EventRecord) (before : List Offer) (server : Server) (out : List Offer) : Type 0 where
   pub fuel : ℕ
-  pub enough : IsEnough directory token loaded fuel happened
-  pub represents : RepresentsWithOffers directory token before server out (state_after directory token loaded fuel happened)
+  pub enough : IsEnough directory token loaded fuel recorded
+  pub represents : RepresentsWithOffers directory token before server out (state_after directory token loaded fuel recorded)
 
 -- it serves in that run, wherever its outputs went
-pub record RepresentsRun (directory : Directory) (token : List ℕ) (loaded : Texts) (happened : List EventRecord) (server : Server) : Type 0 where
+pub record RepresentsRun (directory : Directory) (token : List ℕ) (loaded : Texts) (recorded : List EventRecord) (server : Server) : Type 0 where
   pub fuel : ℕ
-  pub enough : IsEnough directory token loaded fuel happened
-  pub represents : Represents directory token server (state_after directory token loaded fuel happened)
+  pub enough : IsEnough directory token loaded fuel recorded
+  pub represents : Represents directory token server (state_after directory token loaded fuel recorded)
 
 -- a prefix of a list
 abbrev pub IsPrefixOf : List Offer → List Offer → Type 0
@@ -96,36 +96,36 @@ IsPrefixBetween old now whole = IsPrefixOf old now × IsPrefixOf now whole
 -- whatever run it went through, it has gone through this further event
 abbrev pub ContinuesRun : Server → List Offer → Server → List Offer → EventRecord → Type 0
 ContinuesRun old out new now one =
-    (directory : Directory) (token : List ℕ) (loaded : Texts) (happened : List EventRecord) (before : List Offer) →
-    RanFromStart directory token loaded happened before old out → IsShortRun directory token loaded (happened ++ one ∷ []) →
-    RanFromStart directory token loaded (happened ++ one ∷ []) before new now
+    (directory : Directory) (token : List ℕ) (loaded : Texts) (recorded : List EventRecord) (before : List Offer) →
+    RanFromStart directory token loaded recorded before old out → IsShortRun directory token loaded (recorded ++ one ∷ []) →
+    RanFromStart directory token loaded (recorded ++ one ∷ []) before new now
 
 -- what a further event adds to the outputs of a run was appended to the list
 abbrev pub AddsToOffers : Directory → (token : List ℕ) → (loaded : Texts) → List EventRecord → EventRecord → (out now : List Offer) → Type 0
-AddsToOffers directory token loaded happened one out now =
-    (fuel : ℕ) → IsEnough directory token loaded fuel (happened ++ one ∷ []) →
-    (added : List Offer) × (now ≡ out ++ added) × (offers_of_run directory token loaded fuel (happened ++ one ∷ []) ≡ offers_of_run directory token loaded fuel happened ++ added)
+AddsToOffers directory token loaded recorded one out now =
+    (fuel : ℕ) → IsEnough directory token loaded fuel (recorded ++ one ∷ []) →
+    (added : List Offer) × (now ≡ out ++ added) × (offers_of_run directory token loaded fuel (recorded ++ one ∷ []) ≡ offers_of_run directory token loaded fuel recorded ++ added)
 
 -- whatever run it serves in, it serves in that with this further event, and what this adds to the outputs of the run was added
 abbrev pub ContinuesServing : Server → List Offer → Server → List Offer → EventRecord → Type 0
 ContinuesServing old out new now one =
-    (directory : Directory) (token : List ℕ) (loaded : Texts) (happened : List EventRecord) →
-    RepresentsRun directory token loaded happened old → IsShortRun directory token loaded (happened ++ one ∷ []) →
-    RepresentsRun directory token loaded (happened ++ one ∷ []) new × AddsToOffers directory token loaded happened one out now
+    (directory : Directory) (token : List ℕ) (loaded : Texts) (recorded : List EventRecord) →
+    RepresentsRun directory token loaded recorded old → IsShortRun directory token loaded (recorded ++ one ∷ []) →
+    RepresentsRun directory token loaded (recorded ++ one ∷ []) new × AddsToOffers directory token loaded recorded one out now
 
 -- whatever run it went through, a prefix of the outputs for this further event was added
 abbrev pub AddsPrefixInRun : Server → List Offer → List Offer → EventRecord → Type 0
 AddsPrefixInRun old out now one =
-    (directory : Directory) (token : List ℕ) (loaded : Texts) (happened : List EventRecord) (before : List Offer) (fuel : ℕ) →
-    RanFromStart directory token loaded happened before old out → IsShortRun directory token loaded (happened ++ one ∷ []) →
-    IsEnough directory token loaded fuel (happened ++ one ∷ []) →
-    IsPrefixBetween out now (before ++ offers_of_run directory token loaded fuel (happened ++ one ∷ []))
+    (directory : Directory) (token : List ℕ) (loaded : Texts) (recorded : List EventRecord) (before : List Offer) (fuel : ℕ) →
+    RanFromStart directory token loaded recorded before old out → IsShortRun directory token loaded (recorded ++ one ∷ []) →
+    IsEnough directory token loaded fuel (recorded ++ one ∷ []) →
+    IsPrefixBetween out now (before ++ offers_of_run directory token loaded fuel (recorded ++ one ∷ []))
 
 -- whatever run it serves in, a prefix of what this further event adds to the outputs of the run was added
 abbrev pub AddsPrefixWhileServing : Server → List Offer → List Offer → EventRecord → Type 0
 AddsPrefixWhileServing old out now one =
-    (directory : Directory) (token : List ℕ) (loaded : Texts) (happened : List EventRecord) (fuel : ℕ) →
-    RepresentsRun directory token loaded happened old → IsShortRun directory token loaded (happened ++ one ∷ []) →
-    IsEnough directory token loaded fuel (happened ++ one ∷ []) →
+    (directory : Directory) (token : List ℕ) (loaded : Texts) (recorded : List EventRecord) (fuel : ℕ) →
+    RepresentsRun directory token loaded recorded old → IsShortRun directory token loaded (recorded ++ one ∷ []) →
+    IsEnough directory token loaded fuel (recorded ++ one ∷ []) →
     (added : List Offer) × IsPrefixBetween out now (out ++ added)
-    × (offers_of_run directory token loaded fuel (happened ++ one ∷ []) ≡ offers_of_run directory token loaded fuel happened ++ added)
+    × (offers_of_run directory token loaded fuel (recorded ++ one ∷ []) ≡ offers_of_run directory token loaded fuel recorded ++ added)

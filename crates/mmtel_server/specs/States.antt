@@ -16,7 +16,7 @@ pub record LinkState : Type 0 where
   pub delivery_faults : ℕ
 
 abbrev pub link_state : {N : Type 0} → Link N → N → LinkState
-link_state told link = record { input = told.input link; output = told.given link; calls = told.calls link; arrival_faults = told.arrival_faults link; delivery_faults = told.delivery_faults link }
+link_state ghosts link = record { input = ghosts.input link; output = ghosts.given link; calls = ghosts.calls link; arrival_faults = ghosts.arrival_faults link; delivery_faults = ghosts.delivery_faults link }
 
 -- of a keeper: its contents and its calls, where it exposes them, and the count of its faults
 pub record KeeperState : Type 0 where
@@ -25,7 +25,7 @@ pub record KeeperState : Type 0 where
   pub faults : ℕ
 
 abbrev pub keeper_state : {K : Type 0} → Keeper K → K → KeeperState
-keeper_state told keeper = record { contents = told.contents keeper; calls = told.calls keeper; faults = told.faults keeper }
+keeper_state ghosts keeper = record { contents = ghosts.contents keeper; calls = ghosts.calls keeper; faults = ghosts.faults keeper }
 
 -- a server, its outputs, and its keeper
 pub record StepState : Type 0 where
@@ -34,7 +34,7 @@ pub record StepState : Type 0 where
   pub keeper : KeeperState
 
 abbrev pub step_state : {K : Type 0} → Server → List Offer → Keeper K → K → StepState
-step_state server offers told keeper = record { server = server; offers = offers; keeper = keeper_state told keeper }
+step_state server offers ghosts keeper = record { server = server; offers = offers; keeper = keeper_state ghosts keeper }
 
 -- a link, a keeper, and the server over them
 pub record ServingState : Type 0 where
@@ -43,7 +43,7 @@ pub record ServingState : Type 0 where
   pub server : Server
 
 abbrev pub serving_state : {N K : Type 0} → Link N → N → Keeper K → K → Server → ServingState
-serving_state tells link told keeper server = record { link = link_state tells link; keeper = keeper_state told keeper; server = server }
+serving_state link_ghosts link keeper_ghosts keeper server = record { link = link_state link_ghosts link; keeper = keeper_state keeper_ghosts keeper; server = server }
 
 -- what a step needs of these: the server and its keeper, with the list to which it adds its outputs
 abbrev pub step_of : ServingState → List Offer → StepState

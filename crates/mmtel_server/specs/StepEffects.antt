@@ -35,18 +35,18 @@ event_record event kept rows took = record { event = event; outcome = kept; rows
 -- whatever run the server serves in, the keeper's results are those of the call that the event asks for, and it was not called otherwise until the end of the event
 abbrev pub AsksKeeperInRun : Server → EventRecord → (old new : KeeperState) → Type 0
 AsksKeeperInRun server one old new =
-    (directory : Directory) (token : List ℕ) (loaded : Texts) (happened : List EventRecord) →
-    RepresentsRun directory token loaded happened server → IsShortRun directory token loaded (happened ++ one ∷ []) →
+    (directory : Directory) (token : List ℕ) (loaded : Texts) (recorded : List EventRecord) →
+    RepresentsRun directory token loaded recorded server → IsShortRun directory token loaded (recorded ++ one ∷ []) →
     IsKeeperResult (call_of directory.names one.event) one.outcome one.rows old.contents new.contents old.calls new.calls
 
 -- whatever run it serves in, these CDRs waited at the end of the event: they were filed, or still wait
 abbrev pub RowsWaitInRun : Server → EventRecord → List Row → Type 0
 RowsWaitInRun server one waiting =
-    (directory : Directory) (token : List ℕ) (loaded : Texts) (happened : List EventRecord) (fuel : ℕ) →
-    RepresentsRun directory token loaded happened server → IsShortRun directory token loaded (happened ++ one ∷ []) →
-    IsEnough directory token loaded fuel (happened ++ one ∷ []) →
-    let old : RunState = state_after directory token loaded fuel happened in
-    let new : RunState = state_after directory token loaded fuel (happened ++ one ∷ []) in
+    (directory : Directory) (token : List ℕ) (loaded : Texts) (recorded : List EventRecord) (fuel : ℕ) →
+    RepresentsRun directory token loaded recorded server → IsShortRun directory token loaded (recorded ++ one ∷ []) →
+    IsEnough directory token loaded fuel (recorded ++ one ∷ []) →
+    let old : RunState = state_after directory token loaded fuel recorded in
+    let new : RunState = state_after directory token loaded fuel (recorded ++ one ∷ []) in
     (new.filed ≡ old.filed ++ accepted_rows one.accepted waiting) × (new.waiting ≡ remaining_rows one.accepted waiting)
 
 -- the effect of one event on the server, on its outputs and on the keeper

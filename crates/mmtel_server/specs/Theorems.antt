@@ -23,13 +23,13 @@ use Rattle.mmtel_server.specs.declared.servers.Server.{Server}
 
 -- they are exactly those of the run,
 abbrev pub OffersAreOfRun : Type 0
-OffersAreOfRun = (directory : Directory) (token : List ℕ) (loaded : Texts) (happened : List EventRecord) (server : Server) (out : List Offer) →
-    RanFromStart directory token loaded happened [] server out → Gives directory token loaded happened out
+OffersAreOfRun = (directory : Directory) (token : List ℕ) (loaded : Texts) (recorded : List EventRecord) (server : Server) (out : List Offer) →
+    RanFromStart directory token loaded recorded [] server out → Gives directory token loaded recorded out
 
 -- and an untrusted peer observes of them what it would observe of any other run that is equal without its private places
 abbrev pub OffersAreIndistinguishable : Type 0
-OffersAreIndistinguishable = (directory : Directory) (token : List ℕ) (loaded : Texts) (happened : List EventRecord) (server : Server) (out : List Offer) →
-    RanFromStart directory token loaded happened [] server out → IsIndistinguishable directory token loaded happened out
+OffersAreIndistinguishable = (directory : Directory) (token : List ℕ) (loaded : Texts) (recorded : List EventRecord) (server : Server) (out : List Offer) →
+    RanFromStart directory token loaded recorded [] server out → IsIndistinguishable directory token loaded recorded out
 
 -- ---- what holds for every run
 

@@ -49,17 +49,17 @@ ReadsMore input later giving gave bytes (Err e) = ReadsRequest input later givin
 -- ---- all turns
 
 -- so many events came, and were processed: their effect, but for the outputs
-pub record EffectSoFar (happened : List EventRecord) (turns : ℕ) (old new : ServingState) : Type 0 where
-  pub receives : ReceivesMore old.link.input new.link.input (events_in happened)
-  pub each : length happened ≡ turns
-  pub serves : ContinuesServingBy happened old.server new.server
-  pub results : KeeperResultsOfRun happened old.server old.keeper new.keeper
-  pub holds : HoldsUploads happened old.server old.keeper.contents new.keeper.contents
-  pub counts : CountsEachFault happened old.keeper.faults new.keeper.faults
+pub record EffectSoFar (recorded : List EventRecord) (turns : ℕ) (old new : ServingState) : Type 0 where
+  pub receives : ReceivesMore old.link.input new.link.input (events_in recorded)
+  pub each : length recorded ≡ turns
+  pub serves : ContinuesServingBy recorded old.server new.server
+  pub results : KeeperResultsOfRun recorded old.server old.keeper new.keeper
+  pub holds : HoldsUploads recorded old.server old.keeper.contents new.keeper.contents
+  pub counts : CountsEachFault recorded old.keeper.faults new.keeper.faults
 
 -- and the outputs, for `drive`
 pub record DriveEffectSoFar (turns : ℕ) (old new : ServingState) (out now : List Offer) : Type 0 where
-  pub happened : List EventRecord
-  pub effect : EffectSoFar happened turns old new
+  pub recorded : List EventRecord
+  pub effect : EffectSoFar recorded turns old new
   pub read : ReadEach old.link.input new.link.input old.link.delivery_faults new.link.delivery_faults
-  pub runs : ContinuesRunBy happened old.server out new.server now
+  pub runs : ContinuesRunBy recorded old.server out new.server now

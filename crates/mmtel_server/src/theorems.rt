@@ -15,7 +15,7 @@ use mmtel_run_theorems::{
 /// Of these an untrusted peer observes what it would observe of any other run that is equal without its private places (RFC 3323, RFC 3325 §7).
 pub fn servers_offer_what_runs_give()
     ensures exact { OffersAreOfRun }
-    ensures secret { OffersAreIndistinguishable }
+    ensures noninterference { OffersAreIndistinguishable }
 {
     runs_keep_noninterference();
 }

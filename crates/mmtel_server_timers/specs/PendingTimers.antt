@@ -2,16 +2,16 @@
 use Rattle.std.specs.Prelude.{◌≡◌, ◌==◌, ◌&&◌, ◌||◌, nat_lt, nat_le, Bool, ℕ, ⊤, List, map, Option, Some}
 use Rattle.std.specs.Option.{option_map}
 use Rattle.mmtel_run_definitions.specs.Deadlines.{Deadline, FirstTimer, OfCall, OfParticipant, OfServiceTimer, OfSubscription, OfTransaction, PendingTimer, ServiceTimer, first_timer}
-use Rattle.mmtel_server_timers.specs.declared.pending_timers.ServiceTimer as alarms
-use Rattle.mmtel_server_timers.specs.declared.pending_timers.ServiceTimer.TheVariants as alarm
+use Rattle.mmtel_server_timers.specs.declared.pending_timers.ServiceTimer as service_timers
+use Rattle.mmtel_server_timers.specs.declared.pending_timers.ServiceTimer.TheVariants as service_timer
 use Rattle.mmtel_server_timers.specs.declared.pending_timers.PendingTimer as declared
 use Rattle.mmtel_server_timers.specs.declared.deadlines.Deadline as deadlines
 use Rattle.mmtel_server_timers.specs.declared.deadlines.Deadline.TheVariants as deadline
 
-abbrev pub timer_in : alarms.ServiceTimer → ServiceTimer
-timer_in (alarm.OfCall call what) = OfCall call what
-timer_in (alarm.OfParticipant room seat what) = OfParticipant room seat what
-timer_in (alarm.OfSubscription sub set) = OfSubscription sub set
+abbrev pub timer_in : service_timers.ServiceTimer → ServiceTimer
+timer_in (service_timer.OfCall call what) = OfCall call what
+timer_in (service_timer.OfParticipant room seat what) = OfParticipant room seat what
+timer_in (service_timer.OfSubscription sub set) = OfSubscription sub set
 
 abbrev pub pending_in : declared.PendingTimer → PendingTimer
 pending_in armed = record { timer = timer_in armed.timer; at = armed.at; step = armed.step }

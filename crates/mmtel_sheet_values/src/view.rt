@@ -72,7 +72,7 @@ impl SheetView {
     /// Out of memory only; the view is then as before.
     pub fn reserve(&mut self, account: Account) -> Result<(), NoMemory>
         ensures ok { OnOk result (self.new ≡ with_space self.old account.0) }
-        ensures room { OnOk result (IsTrue (has_space self.new account.0)) }
+        ensures capacity { OnOk result (IsTrue (has_space self.new account.0)) }
         ensures err { OnErr result (self.new ≡ self.old) }
     {
         if self.slots.contains_key(&account.0) {
@@ -97,7 +97,7 @@ impl SheetView {
     /// What is in the account's entry.
     fn slot(&self, account: Account) -> Option<&SharedSheet>
         ensures its { option_copied result ≡ sheet_in self.now account.0 }
-        ensures room { IfSome result (λ _. IsTrue (has_space self.now account.0)) }
+        ensures capacity { IfSome result (λ _. IsTrue (has_space self.now account.0)) }
     {
         match self.slots.get(&account.0) {
             Some(place) => place.as_ref(),
@@ -109,7 +109,7 @@ impl SheetView {
     pub fn sheet(&self, account: Account) -> Option<&Sheet>
         ensures exact { option_copied result ≡ sheet_in self.now account.0 }
         // The account has a sheet, so a `replace` allocates nothing.
-        ensures room { IfSome result (λ _. IsTrue (has_space self.now account.0)) }
+        ensures capacity { IfSome result (λ _. IsTrue (has_space self.now account.0)) }
     {
         match self.slot(account) {
             Some(shared) => Some(shared.sheet()),

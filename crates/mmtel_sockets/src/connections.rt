@@ -57,7 +57,7 @@ pub enum FirstDue {
 /// The rest after so many bytes.
 fn bytes_after(bytes: &[u8], count: usize) -> &[u8]
     ensures rest { result.now ≡ drop count bytes.now }
-    ensures room { count + length result.now < 2 ^ 64 }
+    ensures capacity { count + length result.now < 2 ^ 64 }
 {
     if count <= bytes.len() {
         &bytes[count..]

@@ -171,7 +171,7 @@ impl<'a> SocketCalls<'a> {
     /// Counts a call of `next`. At each 256th the listener is polled whatever the waits returned: while there is always a datagram, there is no wait.
     fn count_turn(&mut self)
         ensures counted { self.new.turn ≡ (self.old.turn + 1) % 256 }
-        ensures asked { (self.new.turn ≡ 0) → IsTrue self.new.web_pending }
+        ensures web_pending { (self.new.turn ≡ 0) → IsTrue self.new.web_pending }
         ensures kept { IsTrue self.old.web_pending → IsTrue self.new.web_pending }
     {
         self.turn = self.turn.wrapping_add(1);

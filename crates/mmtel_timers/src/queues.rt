@@ -139,7 +139,7 @@ fn insert_position(
 /// Removes a turn from the queue.
 fn remove_position(queue: &mut BTreeMap<QueuePosition, Key>, position: Option<QueuePosition>)
     requires { IsStrictlySortedBy queue_position_cmp (keys_of queue.old.entries) }
-    ensures taken { queue.new.entries ≡ queue_without position queue.old.entries }
+    ensures removed { queue.new.entries ≡ queue_without position queue.old.entries }
     ensures sorted { IsStrictlySortedBy queue_position_cmp (keys_of queue.new.entries) }
 {
     match position {

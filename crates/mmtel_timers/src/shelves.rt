@@ -172,7 +172,7 @@ impl<T: Ranked> Shelf<T> {
     ) -> (T, usize)
         requires from { from < length self.old }
         requires parted { IsPartitionedBy (M.before key.now) (remove self.old from) }
-        ensures taken { slice_get self.old from ≡ Some result.0 }
+        ensures removed { slice_get self.old from ≡ Some result.0 }
         ensures within { result.1 ≤ length (remove self.old from) }
         ensures place { IsPartitionPoint (λ x. M.before key.now x ≡ true) (λ x. M.before key.now x ≡ false) (remove self.old from) result.1 }
         ensures rest { self.new ≡ insert (remove self.old from) result.1 item }

@@ -12,7 +12,7 @@ use Rattle.mmtel_message.specs.declared.messages.Start.{Start}
 use Rattle.mmtel_transaction.specs.declared.heads.Head.{Head}
 use Rattle.mmtel_transaction.specs.declared.entries.TransactionTimer.{TransactionTimer}
 use Rattle.mmtel_transaction.specs.declared.entries.Entry.{Entry}
-use Rattle.mmtel_transaction.specs.declared.entries.State.TheVariants as plan
+use Rattle.mmtel_transaction.specs.declared.entries.State.TheVariants as states
 use Rattle.mmtel_transaction.specs.declared.entries.ReliableResponse.{ReliableResponse}
 use Rattle.mmtel_transaction.specs.declared.message_class.MessageClass.{MessageClass}
 use Rattle.mmtel_transaction.specs.declared.message_class.MessageClass.TheVariants as part
@@ -240,7 +240,7 @@ module _ (h : List TransactionOp) (p : Peer) (m : Message Start) (now key : ℕ)
   acked_live : (e : Entry) → is_live e ≡ true → is_live (after_failure_ack (step_of h) now e) ≡ true
   acked_live e l = either e.is_acked
     where
-      either : (b : Bool) → is_live (cond b e (record e { is_acked = true; state = plan.Confirmed; start = now; retransmissions = 0; step = step_of h })) ≡ true
+      either : (b : Bool) → is_live (cond b e (record e { is_acked = true; state = states.Confirmed; start = now; retransmissions = 0; step = step_of h })) ≡ true
       either true = l
       either false = l
 
@@ -258,12 +258,12 @@ module _ (h : List TransactionOp) (p : Peer) (m : Message Start) (now key : ℕ)
   not_again : (e : Entry) → IsSound e → e.is_refused ≡ true → retransmission_at (after_failure_ack (step_of h) now e) ≡ None
   not_again e s f = either e.is_acked refl
     where
-      either : (b : Bool) → e.is_acked ≡ b → retransmission_at (cond b e (record e { is_acked = true; state = plan.Confirmed; start = now; retransmissions = 0; step = step_of h })) ≡ None
+      either : (b : Bool) → e.is_acked ≡ b → retransmission_at (cond b e (record e { is_acked = true; state = states.Confirmed; start = now; retransmissions = 0; step = step_of h })) ≡ None
       either true a = acked_retransmits_none e s a
       either false a = refl
 
   ends_at : (e : Entry) → e.is_acked ≡ false → deadline (after_failure_ack (step_of h) now e) ≡ Some (now + 5000)
-  ends_at e a = ap (λ b. deadline (cond b e (record e { is_acked = true; state = plan.Confirmed; start = now; retransmissions = 0; step = step_of h }))) a
+  ends_at e a = ap (λ b. deadline (cond b e (record e { is_acked = true; state = states.Confirmed; start = now; retransmissions = 0; step = step_of h }))) a
 
   ends_resends : EndsRetransmission key now (live h) (live (call ∷ h))
   ends_resends =

@@ -11,7 +11,7 @@ use Rattle.mmtel_transaction.specs.declared.heads.Head.{Head}
 use Rattle.mmtel_transaction.specs.declared.entries.TransactionTimer.{TransactionTimer}
 use Rattle.mmtel_transaction.specs.declared.entries.Entry.{Entry}
 use Rattle.mmtel_transaction.specs.declared.entries.State.TheVariants.{Proceeding, SlowProceeding, Completed, Absorbing}
-use Rattle.mmtel_transaction.specs.declared.entries.State.TheVariants as plan
+use Rattle.mmtel_transaction.specs.declared.entries.State.TheVariants as states
 use Rattle.mmtel_transaction.specs.declared.entries.ReliableResponse.{ReliableResponse}
 use Rattle.mmtel_transaction.specs.declared.message_class.MessageClass.{MessageClass}
 use Rattle.mmtel_transaction.specs.declared.message_class.MessageClass.TheVariants as part
@@ -165,7 +165,7 @@ module _ (s : ℕ) (e : Entry) where
   armed_answered st now = armed_if (is_provisional st) (after_provisional s now e) (after_final s st now e) (armed_rang now) (armed_finished st now)
 
   armed_acked : (now : ℕ) → Armed s e (after_failure_ack s now e)
-  armed_acked now = armed_if e.is_acked e _ as_before (armed_now (record e { is_acked = true; state = plan.Confirmed; start = now; retransmissions = 0; step = s }) refl refl)
+  armed_acked now = armed_if e.is_acked e _ as_before (armed_now (record e { is_acked = true; state = states.Confirmed; start = now; retransmissions = 0; step = s }) refl refl)
 
   armed_acked_2xx : (m : Head) → Armed s e (after_ack_2xx s m e)
   armed_acked_2xx m = armed_if (is_ack_of m e) _ e (armed_now (record e { is_acked = true; state = Absorbing; step = s }) refl refl) as_before

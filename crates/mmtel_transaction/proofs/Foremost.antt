@@ -11,7 +11,7 @@ use Rattle.mmtel_transaction.specs.declared.entries.TransactionTimer.{Transactio
 use Rattle.mmtel_transaction.specs.declared.entries.Entry.{Entry}
 use Rattle.mmtel_transaction.specs.declared.entries.State.{State}
 use Rattle.mmtel_transaction.specs.declared.entries.State.TheVariants.{Proceeding, Calling, Trying, SlowProceeding, Completed, Absorbing}
-use Rattle.mmtel_transaction.specs.declared.entries.State.TheVariants as plan
+use Rattle.mmtel_transaction.specs.declared.entries.State.TheVariants as states
 use Rattle.mmtel_transaction.specs.declared.entries.ReliableResponse.{ReliableResponse}
 use Rattle.mmtel_transaction.specs.Deadlines.{at_place, deadline, foremost_from, foremost_in, if_before, is_sooner, is_untimed, last_deadline, last_deadline_by, message_due, scheduled_moment, timer_at, timer_of}
 use Rattle.mmtel_transaction.specs.Deadlines.{order_due, retransmission_at, retransmission_by, slow_at, sooner_of, state_retransmission_at, step_due}
@@ -150,7 +150,7 @@ idle_none Trying start opened k q = absurd cc
 idle_none SlowProceeding start opened k q = absurd cc
 idle_none Completed start opened k q = absurd cc
 idle_none Absorbing start opened k q = absurd cc
-idle_none plan.Confirmed start opened k q = absurd cc
+idle_none states.Confirmed start opened k q = absurd cc
 
 -- the slow moments are cut at an end
 pub before_end : (end at a : ℕ) → if_before end at ≡ Some a → (at ≡ a) × (a < end)
@@ -176,7 +176,7 @@ is_later SlowProceeding start opened k a b q r =
     elim (slow_next (opened + 32000) (slow_at start (suc k)) b r) [ inl s ↦ omega (arith, w.0, s) | inr s ↦ omega (arith, w.1, s) ]
 is_later Completed start opened k a b q r = climbs (moments_of schedule.Other) k start a b (omega arith, (omega arith, (omega arith, (omega arith, (omega arith, (omega arith, (omega arith, (omega arith, (omega arith, omega arith))))))))) q r
 is_later Absorbing start opened k a b q r = absurd (none-some a q)
-is_later plan.Confirmed start opened k a b q r = absurd (none-some a q)
+is_later states.Confirmed start opened k a b q r = absurd (none-some a q)
 
 -- ---- a transaction
 

@@ -19,7 +19,6 @@ use Rattle.mmtel_transaction.specs.declared.heads.Head.{Head}
 use Rattle.mmtel_transaction.specs.declared.entries.TransactionTimer.{TransactionTimer}
 use Rattle.mmtel_transaction.specs.declared.entries.Entry.{Entry}
 use Rattle.mmtel_transaction.specs.declared.entries.State.TheVariants.{Proceeding, SlowProceeding, Completed, Absorbing}
-use Rattle.mmtel_transaction.specs.declared.entries.State.TheVariants as plan
 use Rattle.mmtel_transaction.specs.declared.entries.ReliableResponse.{ReliableResponse}
 use Rattle.mmtel_transaction.specs.declared.message_class.MessageClass.{MessageClass}
 use Rattle.mmtel_transaction.specs.declared.message_class.MessageClass.TheVariants as part

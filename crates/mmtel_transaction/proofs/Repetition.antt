@@ -15,7 +15,7 @@ use Rattle.mmtel_transaction.specs.declared.entries.TransactionTimer.{Transactio
 use Rattle.mmtel_transaction.specs.declared.entries.Entry.{Entry}
 use Rattle.mmtel_transaction.specs.declared.entries.State.{State}
 use Rattle.mmtel_transaction.specs.declared.entries.State.TheVariants.{Proceeding, Calling, Trying, SlowProceeding, Completed, Absorbing}
-use Rattle.mmtel_transaction.specs.declared.entries.State.TheVariants as plan
+use Rattle.mmtel_transaction.specs.declared.entries.State.TheVariants as states
 use Rattle.mmtel_transaction.specs.declared.entries.ReliableResponse.{ReliableResponse}
 use Rattle.mmtel_transaction.specs.declared.message_class.MessageClass.{MessageClass}
 use Rattle.mmtel_transaction.specs.declared.message_class.MessageClass.TheVariants as part
@@ -42,27 +42,27 @@ is_servers Trying = false
 is_servers SlowProceeding = false
 is_servers Completed = true
 is_servers Absorbing = true
-is_servers plan.Confirmed = true
+is_servers states.Confirmed = true
 
 -- a live server transaction
 record IsServing (e : Entry) : Type 0 where
   live : is_live e ≡ true
-  plan : is_servers e.state ≡ true
+  state : is_servers e.state ≡ true
 
 serving_if : (b : Bool) (e x : Entry) → IsServing e → IsServing x → IsServing (cond b e x)
 serving_if true e x s t = s
 serving_if false e x s t = t
 
-final_plan : (b : Bool) → is_servers (cond b Completed Absorbing) ≡ true
-final_plan true = refl
-final_plan false = refl
+final_state : (b : Bool) → is_servers (cond b Completed Absorbing) ≡ true
+final_state true = refl
+final_state false = refl
 
 serving_with : (o : Option ReliableResponse) (e : Entry) → IsServing e → IsServing (with_reliable_if o e)
 serving_with None e s = s
-serving_with (Some answer) e s = serving_if (not e.is_server || not (e.final_status == 0)) e _ s (record { live = s.live; plan = s.plan })
+serving_with (Some answer) e s = serving_if (not e.is_server || not (e.final_status == 0)) e _ s (record { live = s.live; state = s.state })
 
 serving_replied : (e : Entry) → IsServing e → (step i st : ℕ) (t g : List ℕ) (now : ℕ) → IsServing (after_reply step i st t g now e)
-serving_replied e s step i st t g now = serving_if (not e.is_server || not (e.final_status == 0)) e _ s (serving_if (is_provisional st) _ _ (record { live = s.live; plan = s.plan }) (record { live = s.live; plan = final_plan (is_invite e.head) }))
+serving_replied e s step i st t g now = serving_if (not e.is_server || not (e.final_status == 0)) e _ s (serving_if (is_provisional st) _ _ (record { live = s.live; state = s.state }) (record { live = s.live; state = final_state (is_invite e.head) }))
 
 serving_offered : (e : Entry) → IsServing e → (step i : ℕ) (m : Message Start) (now : ℕ) → IsServing (after_any_reply step i m now e)
 serving_offered e s step i m now =
@@ -70,13 +70,13 @@ serving_offered e s step i m now =
     serving_replied (with_reliable_if o e) (serving_with o e s) step i (head_of m).status (message_text m) (head_of m).to_tag now
 
 serving_settled : (own : Option ℕ) (e : Entry) → IsServing e → IsServing (after_settling own e)
-serving_settled None e s = record { live = s.live; plan = s.plan }
-serving_settled (Some own) e s = record { live = s.live; plan = s.plan }
+serving_settled None e s = record { live = s.live; state = s.state }
+serving_settled (Some own) e s = record { live = s.live; state = s.state }
 
 -- for as long as a message of it is retransmitted
 serving_fired : (o : Option (ℕ × TransactionTimer)) (step a : ℕ) (e : Entry) → IsServing e → option_or (option_map (λ (f : ℕ × TransactionTimer). f.1.at) o) (state_retransmission_at e) ≡ Some a → IsServing (after_timer_by o step e)
-serving_fired (Some f) step a e s q = record { live = s.live; plan = s.plan }
-serving_fired None step a e s q = subst (λ o. IsServing (cond (is_some o) (record e { retransmissions = e.retransmissions + 1; step = step }) (record e { is_terminated = true }))) (sym q) (record { live = s.live; plan = s.plan })
+serving_fired (Some f) step a e s q = record { live = s.live; state = s.state }
+serving_fired None step a e s q = subst (λ o. IsServing (cond (is_some o) (record e { retransmissions = e.retransmissions + 1; step = step }) (record e { is_terminated = true }))) (sym q) (record { live = s.live; state = s.state })
 
 -- a response is classified as one to a client transaction
 ack_no_answer : (j : ℕ) (o : Option Entry) → part.Answer j ≡ ack_class o → ⊥
@@ -124,7 +124,7 @@ ends_if Trying start at a s q = absurd cc
 ends_if SlowProceeding start at a s q = absurd cc
 ends_if Completed start at a s q = refl
 ends_if Absorbing start at a s q = refl
-ends_if plan.Confirmed start at a s q = refl
+ends_if states.Confirmed start at a s q = refl
 
 says_over : (n : DueEntryView) → retransmission_at n.entry ≡ None → is_ending n.entry.state ≡ true → due_result (Some n) ≡ due.Over (tkey n.entry.key) n.at
 says_over n q e = rw (q, e) refl
@@ -136,7 +136,7 @@ gives_end h j e r g s k f =
     let same : n.entry ≡ e = same_entry h n.entry e w.stands g (r.same ∙ sym k) in
     let none : retransmission_at n.entry ≡ None = ap retransmission_at same ∙ f in
     let last : last_deadline_by n.entry.state n.entry.start n.entry.at ≡ Some n.at = ap (λ o. option_or o (last_deadline_by n.entry.state n.entry.start n.entry.at)) (sym none) ∙ w.moment in
-    let over : is_ending n.entry.state ≡ true = ends_if n.entry.state n.entry.start n.entry.at n.at (ap (λ (x : Entry). is_servers x.state) same ∙ s.plan) last in
+    let over : is_ending n.entry.state ≡ true = ends_if n.entry.state n.entry.start n.entry.at n.at (ap (λ (x : Entry). is_servers x.state) same ∙ s.state) last in
     record {
       now = r.now;
       at = n.at;
@@ -164,8 +164,8 @@ module _ (h : List TransactionOp) (e : Entry) (g : Has e (live h)) (server : e.i
   heard_more p m now (part.Repeat j) q = s
   heard_more p m now (part.RepeatedFinal j) q = s
   heard_more p m now (part.Answer j) q = answer_hit (e.key == j) j (after_response (step_of h) (head_of m).status now e) refl (no_response h (head_of m) j e q g server)
-  heard_more p m now (part.Acked j) q = serving_if (e.key == j) (after_failure_ack (step_of h) now e) e (serving_if e.is_acked e _ s (record { live = s.live; plan = refl })) s
-  heard_more p m now part.AckOf2xx q = serving_if (is_ack_of (head_of m) e) _ e (record { live = s.live; plan = refl }) s
+  heard_more p m now (part.Acked j) q = serving_if (e.key == j) (after_failure_ack (step_of h) now e) e (serving_if e.is_acked e _ s (record { live = s.live; state = refl })) s
+  heard_more p m now part.AckOf2xx q = serving_if (is_ack_of (head_of m) e) _ e (record { live = s.live; state = refl }) s
   heard_more p m now part.Stray q = s
 
   serving_more : (c : TransactionOp) → IsRun (c ∷ h) → IsServing (change (step_of h) (send_count h) c e) ⊎ ReportsEnd e.key c h
@@ -173,7 +173,7 @@ module _ (h : List TransactionOp) (e : Entry) (g : Has e (live h)) (server : e.i
   serving_more (DidHear p m now t) r = inl (heard_more p m now t r.0)
   serving_more (DidAsk p m now) r = inl s
   serving_more (DidReply j m now) r = inl (serving_if (e.key == j) (after_any_reply (step_of h) (send_count h) m now e) e (serving_offered e s (step_of h) (send_count h) m now) s)
-  serving_more (DidAck j m) r = inl (serving_if (e.key == j) (with_kept_ack (message_text m) e) e (serving_if (not e.is_server && e.is_refused) _ e (record { live = s.live; plan = s.plan }) s) s)
+  serving_more (DidAck j m) r = inl (serving_if (e.key == j) (with_kept_ack (message_text m) e) e (serving_if (not e.is_server && e.is_refused) _ e (record { live = s.live; state = s.state }) s) s)
   serving_more (DidFire j) r = fire_if (e.key == j) j r.0 refl
   serving_more (DidSettle j own) r = inl (serving_if (e.key == j) (after_settling own e) e (serving_settled own e s) s)
 
@@ -203,7 +203,7 @@ tracked_since h g p m t r =
     let e : Entry = new_server_entry (step_of h) (length (openings h)) p (head_of m) t in
     tracked (length (openings h)) p (head_of m) g (DidHear p m t part.Fresh ∷ h) e r
     (has_new (DidHear p m t part.Fresh) h e (inl refl))
-    (record { key = refl; server = refl; peer = refl; asked = refl; serving = record { live = refl; plan = refl } })
+    (record { key = refl; server = refl; peer = refl; asked = refl; serving = record { live = refl; state = refl } })
 
 repeat_if : (r a full : Bool) (o : Option Entry) (x : MessageClass) (e : Entry) → r ≡ true → a ≡ false → o ≡ Some e → cond r (cond a (ack_class o) (request_class full o)) x ≡ part.Repeat e.key
 repeat_if r a full o x e p q f = rw (p, q, f) refl

@@ -12,7 +12,7 @@ use Rattle.mmtel_transaction.specs.declared.entries.TransactionTimer.{Transactio
 use Rattle.mmtel_transaction.specs.declared.entries.Entry.{Entry}
 use Rattle.mmtel_transaction.specs.declared.entries.State.{State}
 use Rattle.mmtel_transaction.specs.declared.entries.State.TheVariants.{Proceeding, Calling, Trying, SlowProceeding, Completed, Absorbing}
-use Rattle.mmtel_transaction.specs.declared.entries.State.TheVariants as plan
+use Rattle.mmtel_transaction.specs.declared.entries.State.TheVariants as states
 use Rattle.mmtel_transaction.specs.declared.entries.ReliableResponse.{ReliableResponse}
 use Rattle.mmtel_transaction.specs.Changes.{after_state_timer, after_timer}
 use Rattle.mmtel_transaction.specs.Operations.{TransactionOp, DidFire, is_live, live, step_of}
@@ -93,7 +93,7 @@ has_last Trying start opened k a q = (start + 32000, refl, within start a (momen
 has_last SlowProceeding start opened k a q = (opened + 32000, refl, (before_end (opened + 32000) (slow_at start k) a q).1)
 has_last Completed start opened k a q = (start + 32000, refl, within start a (moments_of schedule.Other) k (below_at 32000 (moments_of schedule.Other) others_below) q)
 has_last Absorbing start opened k a q = absurd (none-some a q)
-has_last plan.Confirmed start opened k a q = absurd (none-some a q)
+has_last states.Confirmed start opened k a q = absurd (none-some a q)
 
 some_left : (a : ℕ) (last : Option ℕ) → 1 ≤ remaining_by (Some a) last
 some_left a None = omega arith

@@ -33,7 +33,7 @@ pub fn remove_deadline<L: Ledger>(
 )
     requires ascends { Ascends deadline_cmp due.old }
     requires there { Has old.now due.old }
-    ensures taken { Removes old.now due.old due.new }
+    ensures removed { Removes old.now due.old due.new }
 {
     let from = due.seek(old, steps).position;
     let _ = due.remove(from);
@@ -47,7 +47,7 @@ pub fn remove_match<L: Ledger>(
 )
     requires ascends { Ascends match_cmp names.old }
     requires there { Has (searched_key old.now) names.old }
-    ensures taken { Removes (searched_key old.now) names.old names.new }
+    ensures removed { Removes (searched_key old.now) names.old names.new }
 {
     let from = names.seek(old, steps).position;
     let _ = names.remove(from);

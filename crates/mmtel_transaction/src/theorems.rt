@@ -24,7 +24,7 @@ pub fn others_time_out()
 /// how many were opened before it.
 pub fn numbers_are_distinct()
     ensures few { FewAreOpened }
-    ensures room { CapacityRemains }
+    ensures capacity { CapacityRemains }
     ensures count { NumbersCount }
     ensures differ { NumbersDiffer }
 {}
@@ -67,13 +67,13 @@ pub fn tokens_differ()
 /// The texts that are due to trusted peers decide nothing: lists of operations that leave the same transactions except for those texts have equivalent results, and remain
 /// equivalent after further operations.
 pub fn texts_decide_nothing()
-    ensures alike { TextsDecideNothing }
+    ensures equivalent { TextsDecideNothing }
 {}
 
 /// The peer of a transaction is the one that sent its request, or the one to which its request was sent, and never another.
 pub fn transactions_are_of_one_peer()
     ensures received { NewPeers }
-    ensures asked { RequestPeers }
+    ensures peers { RequestPeers }
     ensures kept { KeepsPeers }
 {}
 
@@ -97,7 +97,7 @@ pub fn requests_wait_for_responses()
 pub fn finals_wait_for_their_ack()
     ensures unacknowledged { FinalsAwaitTheirAck }
     ensures success { AcksOf2xxEndRetransmission }
-    ensures silent { AckedRetransmitsNothing }
+    ensures no_retransmission { AckedRetransmitsNothing }
     ensures kept { KeptAcksAreRetransmitted }
 {}
 

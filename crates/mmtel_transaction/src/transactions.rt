@@ -45,7 +45,7 @@ pub struct Transactions {
 impl Transactions {
     /// No transactions. It allocates nothing.
     pub fn new() -> Transactions
-        ensures stands { Represents result [] }
+        ensures represents { Represents result [] }
     {
         Transactions {
             step: 0,
@@ -68,7 +68,7 @@ impl Transactions {
     /// A message is printed once: the transaction keeps a copy of this text.
     pub fn take_outgoing(&mut self) -> Text
         ensures text { result ≡ self.old.outgoing }
-        ensures stands { (h : List TransactionOp) → Represents self.old h → Represents self.new h }
+        ensures represents { (h : List TransactionOp) → Represents self.old h → Represents self.new h }
     {
         mem::replace(&mut self.outgoing, Text::new())
     }

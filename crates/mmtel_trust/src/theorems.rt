@@ -102,12 +102,12 @@ pub fn masks_leave_the_route()
 pub fn masks_leave_the_rest()
     ensures received { (p : PrivateFields) (trusted : Bool) (m : Message Start) → parsed_message trusted (masked_message p m) ≡ hide p (parsed_message trusted m) }
     ensures public { (p : PrivateFields) (trusted : Bool) (m : Message Start) → public_part (parsed_message trusted (masked_message p m)) ≡ public_part (parsed_message trusted m) }
-    ensures alike { (p q : PrivateFields) (trusted : Bool) (m n : Message Start) → masked_message p m ≡ masked_message q n → public_part (parsed_message trusted m) ≡ public_part (parsed_message trusted n) }
+    ensures equivalent { (p q : PrivateFields) (trusted : Bool) (m n : Message Start) → masked_message p m ≡ masked_message q n → public_part (parsed_message trusted m) ≡ public_part (parsed_message trusted n) }
 {}
 
 /// For two messages with equal masks the decisions are the same, and they show the same: to an untrusted peer where the caller is restricted, and to any peer where it is not.
 /// The accounts may be different ones.
 pub fn equal_masks_decide_the_same()
-    ensures alike { (restricts : Restriction) (accounts others : List AccountIdentity) (m n : ParsedMessage) → mask restricts accounts m ≡ mask restricts others n →
+    ensures equivalent { (restricts : Restriction) (accounts others : List AccountIdentity) (m n : ParsedMessage) → mask restricts accounts m ≡ mask restricts others n →
         DecideTheSame restricts accounts others m n }
 {}

@@ -113,5 +113,5 @@ impl Cause {
 
 /// A theorem, without code: no two causes have both the same word and the same status, so a CDR that has both determines the cause.
 pub fn causes_are_distinguished()
-    ensures told_apart { AreDistinguished }
+    ensures distinguished { AreDistinguished }
 {}

@@ -321,7 +321,7 @@ pub fn answer(
         ParsedRequest::Unfinished => empty_reply(alloc, 400),
         ParsedRequest::Bad => empty_reply(alloc, 400),
         ParsedRequest::Large => empty_reply(alloc, 413),
-        ParsedRequest::Parsed(asked) => resource_action(alloc, directory, texts, asked),
+        ParsedRequest::Parsed(request) => resource_action(alloc, directory, texts, request),
     }
 }
 

@@ -37,5 +37,5 @@ pub fn uploads_are_what_they_say()
     ensures replies { OnlyRepliesSeeTexts }
     ensures any { UploadsSeeNoText }
     ensures put { MailboxesSeeNoText }
-    ensures said { UploadsSayTheirText }
+    ensures text { UploadsSayTheirText }
 {}

@@ -108,7 +108,7 @@ fn serve_upload<K: Keeper>(
     no_memory_reply: Text,
 ) -> ServedRequest
     requires its { upload.sheet ≡ stored_sheet upload.text }
-    requires sorry { no_memory_reply ≡ reply_of 507 [] }
+    requires no_memory { no_memory_reply ≡ reply_of 507 [] }
     ensures reply { result.reply ≡ answers.after_call (keeper_outcome_view result.outcome) ok_reply }
     ensures put { result.mailbox_counts ≡ None }
     ensures texts { records.new.texts.texts
@@ -193,7 +193,7 @@ fn serve_charges<K: Keeper>(alloc: Global, keeper: &mut K, no_memory_reply: Text
 
 /// The reply to a document with the counts of a mailbox, where this was read of it.
 fn counts_reply(alloc: Global, read: &Result<Counts, SheetFault>) -> Result<Text, NoMemory>
-    ensures said { (wanted : Read Counts) → ReportsCounts wanted read.now → IfOk result (λ said. said ≡ counts_reply wanted) }
+    ensures reply { (wanted : Read Counts) → ReportsCounts wanted read.now → IfOk result (λ said. said ≡ counts_reply wanted) }
     ensures read { IfOk result (λ _. read.now ≢ Err fault.NoMemory) }
 {
     match read {
@@ -246,7 +246,7 @@ fn serve_web<K: Keeper>(
     no_memory_reply: Text,
 ) -> ServedRequest
     requires its { SheetMatchesText web }
-    requires sorry { no_memory_reply ≡ reply_of 507 [] }
+    requires no_memory { no_memory_reply ≡ reply_of 507 [] }
     ensures reply { result.reply ≡ reply_to (keeper_outcome_view result.outcome) result.rows web }
     ensures texts { records.new.texts.texts ≡ put_stored (stored_upload (keeper_outcome_view result.outcome) (upload_by web)) records.old.texts.texts }
     ensures registered { (registrations : Registrations) → IsRegisteredBy records.old registrations → IsRegisteredBy records.new registrations }
@@ -342,7 +342,7 @@ pub fn serve<K: Keeper>(
     ensures unchanged { OnErr result (records.new ≡ records.old) }
     ensures uncalled { OnErr result (keeper.new ≡ keeper.old) }
     // So it satisfies the condition on a keeper's call during a request, in the form that the callers use.
-    ensures met { OnErr result (HasKeeperResult (keeper_call_in directory.now (request_of bytes.now)) (K.contents keeper.old) (K.contents keeper.new) (K.calls keeper.old) (K.calls keeper.new)
+    ensures aborted { OnErr result (HasKeeperResult (keeper_call_in directory.now (request_of bytes.now)) (K.contents keeper.old) (K.contents keeper.new) (K.calls keeper.old) (K.calls keeper.new)
         (K.faults keeper.old) (K.faults keeper.new)) }
 {
     let sorry = reply(alloc, 507, &[])?;

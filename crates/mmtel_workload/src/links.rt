@@ -131,7 +131,7 @@ impl WorkLink {
     ///
     /// Out of memory only.
     pub fn new(alloc: Global, calls: u32, salt: u32) -> Result<WorkLink, NoMemory>
-        ensures unheard { IfOk result (λ work. work ≡ initial_input (work_events calls salt)) }
+        ensures no_arrivals { IfOk result (λ work. work ≡ initial_input (work_events calls salt)) }
     {
         let events = events_by(alloc, calls, salt)?;
         Ok(WorkLink {

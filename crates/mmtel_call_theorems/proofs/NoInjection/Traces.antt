@@ -53,7 +53,7 @@ use Rattle.mmtel_call_theorems.specs.NoInjection.Messages.{HasNoInjection, HasOw
 use Rattle.mmtel_call_theorems.specs.NoInjection.Emits.{Each, EmitHasNoInjection, OutputHasNoInjection}
 use Rattle.mmtel_call_theorems.specs.NoInjection.Inputs.{ParsedHasNoInjection}
 use Rattle.mmtel_call_theorems.specs.NoInjection.CallState.{EntriesHaveNoInjection, LegHasNoInjection}
-use Rattle.mmtel_call_theorems.specs.NoInjection.Traces as stories
+use Rattle.mmtel_call_theorems.specs.NoInjection.Traces as traces
 use Rattle.mmtel_call_theorems.specs.NoInjection.Traces.{AreAmong, EmitsHaveNoInjection, EmitsHaveOwnFields, FinishEmitsHaveNoInjection, SendsOwnFields, SignalHasNoInjection, TraceStartHasNoInjection, output_after}
 use Rattle.mmtel_call_theorems.proofs.NoInjection.Bytes.{all_drop}
 use Rattle.mmtel_call_theorems.proofs.NoInjection.Deciding.{first_target_no_injection}
@@ -282,12 +282,12 @@ finished_no_injection acks config at c output is had = finished_in_no_injection 
 pub first_no_injection : (acks : List ReceivedAck) (s : TraceStart) → TraceStartHasNoInjection acks s → StepHasNoInjection acks (first_step s)
 first_no_injection acks s is = opened_step_no_injection acks s.config s.now s.arrival s.output (record { home_in = is.home; sheets_in = is.sheets }) is.invite is.uri is.output
 
-next_no_injection : (acks : List ReceivedAck) (s : TraceStart) (x : TraceStep) (c : Call) → TraceStartHasNoInjection acks s → stories.TraceStepHasNoInjection acks x → AreAmong (received_acks_by s.config x.signal c) acks → SoFarHasNoInjection acks c →
+next_no_injection : (acks : List ReceivedAck) (s : TraceStart) (x : TraceStep) (c : Call) → TraceStartHasNoInjection acks s → traces.TraceStepHasNoInjection acks x → AreAmong (received_acks_by s.config x.signal c) acks → SoFarHasNoInjection acks c →
     StepHasNoInjection acks (next_step s x c)
 next_no_injection acks s x c is had among so_far =
     step_no_injection acks s.config x.now x.signal c x.output (record { home_in = is.home; sheets_in = had.sheets }) had.signal among so_far.phase so_far.kept had.output
 
-call_no_injection : (acks : List ReceivedAck) (s : TraceStart) (received : List TraceStep) → TraceStartHasNoInjection acks s → Each (stories.TraceStepHasNoInjection acks) received → AreAmong (received_acks_after s received) acks →
+call_no_injection : (acks : List ReceivedAck) (s : TraceStart) (received : List TraceStep) → TraceStartHasNoInjection acks s → Each (traces.TraceStepHasNoInjection acks) received → AreAmong (received_acks_after s received) acks →
     SoFarHasNoInjection acks (call_after s received)
 unfolding call_after
 call_no_injection acks s [] is each among = let one = first_no_injection acks s is in record { kept = one.kept; phase = one.phase }

@@ -271,7 +271,7 @@ impl Server {
     {
         numbers_never_fall();
         match self.owner_of_message(context.alloc, &ack) {
-            Ok(Some(holder)) => self.receive_ack_in(context, holder, ack, out, steps),
+            Ok(Some(owner)) => self.receive_ack_in(context, owner, ack, out, steps),
             Ok(None) => {
                 drop(ack);
                 Ok(())

@@ -302,21 +302,21 @@ impl Server {
         &mut self,
         context: &Context,
         message_source: MessageSource,
-        heard: Heard,
+        received: Heard,
         out: &mut List<Offer>,
         steps: &mut Steps<L>,
     ) -> Result<(), NoMemory>
-        ensures done { OnOk result ((message : Message Start) → IsMessageOf message heard →
+        ensures done { OnOk result ((message : Message Start) → IsMessageOf message received →
             Follows self.old out.old self.new out.new
             (λ d token. after_classified_message d token context.now.at (message_view message_source.peer message_source.source message_source.trusted message)
-            (Some heard))) }
-        ensures err { OnErr result ((message : Message Start) → IsMessageOf message heard →
+            (Some received))) }
+        ensures err { OnErr result ((message : Message Start) → IsMessageOf message received →
             AddsOfferPrefix self.old out.old out.new
             (λ d token. after_classified_message d token context.now.at (message_view message_source.peer message_source.source message_source.trusted message)
-            (Some heard))) }
+            (Some received))) }
     {
         numbers_never_fall();
-        match heard {
+        match received {
             Heard::Fresh(key, message) => self.receive_new_request(
                 context,
                 key,

@@ -65,8 +65,8 @@ fn requested_replaces(
     match referral_of(alloc, request)? {
         Referral::Missing => Ok(None),
         Referral::OtherMethod => Ok(None),
-        Referral::Invite(asked) => {
-            drop(asked);
+        Referral::Invite(other) => {
+            drop(other);
             Ok(None)
         }
         Referral::Replace(replaces) => Ok(Some(replaces)),

@@ -87,7 +87,7 @@ fn empty_tables(alloc: Global, directory: &Directory) -> Result<(Calls, Rooms), 
           table = no_calls;
           has_failed = false;
         }) }
-    ensures rooms { IfOk result (λ made. made.1
+    ensures conferences { IfOk result (λ made. made.1
         ≡ record {
           sip = directory.now.sip;
           mixer = directory.now.mixer;
@@ -186,7 +186,7 @@ impl Server {
     ) -> Result<(), NoMemory>
         ensures done { OnOk result (StepEffect event.now (step_state self.old out.old K.Keeper keeper.old)
             (step_state self.new out.new K.Keeper keeper.new)) }
-        ensures met { OnErr result (StepAborted event.now (step_state self.old out.old K.Keeper keeper.old)
+        ensures aborted { OnErr result (StepAborted event.now (step_state self.old out.old K.Keeper keeper.old)
             out.new (keeper_state K.Keeper keeper.new)) }
         ensures fails { OnErr result (self.new.failed ≡ true) }
         ensures keeps { OnOk result (self.new.failed ≡ false) }
@@ -209,17 +209,17 @@ impl Server {
 
     /// The peers of its configuration, and the routes to them.
     pub fn peers(&self) -> &PeerTable
-        ensures peers { (directory : Directory) (token : List ℕ) (loaded : Texts) (happened : List EventRecord) →
-            RepresentsRun directory token loaded happened self.now → result.now ≡ directory.peers }
+        ensures peers { (directory : Directory) (token : List ℕ) (loaded : Texts) (recorded : List EventRecord) →
+            RepresentsRun directory token loaded recorded self.now → result.now ≡ directory.peers }
     {
         &self.directory.peers
     }
 
     /// The CDRs of calls that ended and of participants that left which the keeper has not accepted, in the order in which they were closed.
     pub fn rows_waiting(&self) -> &[Row]
-        ensures waiting { (directory : Directory) (token : List ℕ) (loaded : Texts) (happened : List EventRecord)
-            (serves : RepresentsRun directory token loaded happened self.now) →
-            result.now ≡ (state_after directory token loaded serves.fuel happened).waiting }
+        ensures waiting { (directory : Directory) (token : List ℕ) (loaded : Texts) (recorded : List EventRecord)
+            (serves : RepresentsRun directory token loaded recorded self.now) →
+            result.now ≡ (state_after directory token loaded serves.fuel recorded).waiting }
     {
         self.waiting.items()
     }
@@ -283,10 +283,10 @@ impl Server {
     ) -> Result<KeeperResult, NoMemory>
         ensures done { IfOk result (λ a. Follows self.old out.old self.new out.new
             (λ d token. after_parsed_event d token at (parsed_event d event.now (keeper_outcome_view a.outcome) a.rows))) }
-        ensures asked { IfOk result (λ a. IsKeeperResult (call_of self.old.directory.names event.now) (keeper_outcome_view a.outcome) a.rows
+        ensures keeper_result { IfOk result (λ a. IsKeeperResult (call_of self.old.directory.names event.now) (keeper_outcome_view a.outcome) a.rows
             (K.contents keeper.old) (K.contents keeper.new) (K.calls keeper.old) (K.calls keeper.new)) }
         ensures counted { IfOk result (λ a. CountsFaults (keeper_outcome_view a.outcome) (K.faults keeper.old) (K.faults keeper.new)) }
-        ensures met { OnErr result (AbortedKeeperCalls
+        ensures aborted { OnErr result (AbortedKeeperCalls
             (λ kept rows. AddsOfferPrefix self.old out.old out.new (λ d token. after_parsed_event d token at (parsed_event d event.now kept rows)))
             (λ kept rows between. IsKeeperResult (call_of self.old.directory.names event.now) kept rows
             (K.contents keeper.old) between.contents (K.calls keeper.old) between.calls)
@@ -320,7 +320,7 @@ impl Server {
         ensures handed { IfOk result (λ took. HandsOver took self.old.waiting (K.contents keeper.old) (K.contents keeper.new)
             (K.calls keeper.old) (K.calls keeper.new)) }
         ensures counted { IfOk result (λ took. HandoverFaults took (K.faults keeper.old) (K.faults keeper.new)) }
-        ensures met { OnErr result (HandoverAborted (K.contents keeper.old) (K.contents keeper.new)
+        ensures aborted { OnErr result (HandoverAborted (K.contents keeper.old) (K.contents keeper.new)
             (K.calls keeper.old) (K.calls keeper.new) (K.faults keeper.old) (K.faults keeper.new)) }
     {
         hand_rows(alloc, &mut self.waiting, keeper)
@@ -338,7 +338,7 @@ impl Server {
     ) -> Result<(KeeperResult, bool), NoMemory>
         ensures done { IfOk result (λ a. ArrivalEffect at (event_record event.now (keeper_outcome_view a.0.outcome) a.0.rows a.1)
             (step_state self.old out.old K.Keeper keeper.old) (step_state self.new out.new K.Keeper keeper.new)) }
-        ensures met { OnErr result (AbortedKeeperCalls
+        ensures aborted { OnErr result (AbortedKeeperCalls
             (λ kept rows. (took : Bool) → AddsOfferPrefix self.old out.old out.new (λ d token. after_event d token at (parsed_event d event.now kept rows) took))
             (λ kept rows between. IsKeeperResult (call_of self.old.directory.names event.now) kept rows
             (K.contents keeper.old) between.contents (K.calls keeper.old) between.calls)
@@ -366,7 +366,7 @@ impl Server {
             (state_after_event fuel (event_record event.now (keeper_outcome_view a.0.outcome) a.0.rows a.1))) }
         ensures keeper { IfOk result (λ a. KeeperEffect (event_record event.now (keeper_outcome_view a.0.outcome) a.0.rows a.1)
             (step_state self.old out.old K.Keeper keeper.old) (keeper_state K.Keeper keeper.new)) }
-        ensures met { OnErr result (AbortedKeeperCalls
+        ensures aborted { OnErr result (AbortedKeeperCalls
             (λ kept rows. (took : Bool) (fuel : ℕ) → AddsOfferPrefixWhere self.old out.old out.new
             (IsSettledBefore fuel (event_record event.now kept rows took)) (state_after_event fuel (event_record event.now kept rows took)))
             (λ kept rows between. (took : Bool) →

@@ -388,7 +388,7 @@ impl Server {
         sub: SubNo,
         request: &ReceivedMessage,
     ) -> Result<(), DialogueFault>
-        ensures answer { (directory : Directory) (token : List ℕ) (world : RunState) → Represents directory token self.old world →
+        ensures check { (directory : Directory) (token : List ℕ) (world : RunState) → Represents directory token self.old world →
             result ≡ request_check sub (message_in request.now.parsed) (subscriptions_in world) }
         ensures done { OnOk result ((out : List Offer) → Follows self.old out self.new out
             (λ d token. with_mailbox_op (Receives sub (message_in request.now.parsed)))) }

@@ -77,14 +77,14 @@ impl Server {
     ) -> Result<(KeeperResult, Option<(Account, Counts)>), NoMemory>
         ensures done { IfOk result (λ a. Follows self.old out.old self.new out.new (λ d token. after_web_reply d at (request_of bytes.now) (keeper_outcome_view a.0.outcome) a.0.rows)) }
         ensures put { IfOk result (λ a. a.1 ≡ counts_put_in self.old.directory.names (request_of bytes.now) (keeper_outcome_view a.0.outcome)) }
-        ensures asked { IfOk result (λ a.
+        ensures keeper_result { IfOk result (λ a.
             IsKeeperResult (keeper_call_in self.old.directory.names (request_of bytes.now)) (keeper_outcome_view a.0.outcome) a.0.rows (K.contents keeper.old) (K.contents keeper.new) (K.calls keeper.old)
             (K.calls keeper.new)) }
         ensures counted { IfOk result (λ a. CountsFaults (keeper_outcome_view a.0.outcome) (K.faults keeper.old) (K.faults keeper.new)) }
         ensures directory { self.new.directory ≡ self.old.directory }
         ensures err { OnErr result (out.new ≡ out.old) }
         ensures uncalled { OnErr result (keeper.new ≡ keeper.old) }
-        ensures met { OnErr result (HasKeeperResult (keeper_call_in self.old.directory.names (request_of bytes.now)) (K.contents keeper.old) (K.contents keeper.new) (K.calls keeper.old)
+        ensures aborted { OnErr result (HasKeeperResult (keeper_call_in self.old.directory.names (request_of bytes.now)) (K.contents keeper.old) (K.contents keeper.new) (K.calls keeper.old)
             (K.calls keeper.new) (K.faults keeper.old) (K.faults keeper.new)) }
     {
         let position = out.items().len();
@@ -136,11 +136,11 @@ impl Server {
         steps: &mut Steps<L>,
     ) -> Result<KeeperResult, NoMemory>
         ensures done { IfOk result (λ a. Follows self.old out.old self.new out.new (λ d token. after_web_request d token at (request_of bytes.now) (keeper_outcome_view a.outcome) a.rows)) }
-        ensures asked { IfOk result (λ a.
+        ensures keeper_result { IfOk result (λ a.
             IsKeeperResult (keeper_call_in self.old.directory.names (request_of bytes.now)) (keeper_outcome_view a.outcome) a.rows (K.contents keeper.old) (K.contents keeper.new) (K.calls keeper.old)
             (K.calls keeper.new)) }
         ensures counted { IfOk result (λ a. CountsFaults (keeper_outcome_view a.outcome) (K.faults keeper.old) (K.faults keeper.new)) }
-        ensures met { OnErr result (AbortedKeeperCalls (λ kept rows. AddsOfferPrefix self.old out.old out.new (λ d token. after_web_request d token at (request_of bytes.now) kept rows))
+        ensures aborted { OnErr result (AbortedKeeperCalls (λ kept rows. AddsOfferPrefix self.old out.old out.new (λ d token. after_web_request d token at (request_of bytes.now) kept rows))
             (λ kept rows between. IsKeeperResult (keeper_call_in self.old.directory.names (request_of bytes.now)) kept rows (K.contents keeper.old) between.contents (K.calls keeper.old) between.calls)
             (keeper_state K.Keeper keeper.old) (keeper_state K.Keeper keeper.new)) }
     {

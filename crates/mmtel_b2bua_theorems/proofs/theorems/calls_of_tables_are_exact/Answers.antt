@@ -6,6 +6,6 @@ returns c =
     record {
       law =
           calls_exact c.calls_continue.ensures.law c.charging_is_exact.ensures.law c.calls_reach_their_outcome.ensures.law c.calls_show_their_outcome.ensures.law
-          c.calls_show_their_outcome.ensures.later c.attempts_are_observed.ensures.attempts c.attempts_are_observed.ensures.endings
+          c.calls_show_their_outcome.ensures.nothing_later c.attempts_are_observed.ensures.attempts c.attempts_are_observed.ensures.endings
           c.diversions_are_counted.ensures.law c.sessions_are_observed.ensures.law c.sessions_expire.ensures.seen;
     }

@@ -5,6 +5,6 @@ pub returns : goal.returns
 returns c =
     let own = c.calls_reply_in_their_own.ensures in
     record {
-      lives = lives_reply own.step own.opening own.end own.lent own.returned;
-      law = calls_reply own.step own.opening own.end own.lent own.returned c.calls_continue.ensures.law c.charging_is_exact.ensures.law;
+      traces = lives_reply own.step own.opening own.end own.detached own.restored;
+      law = calls_reply own.step own.opening own.end own.detached own.restored c.calls_continue.ensures.law c.charging_is_exact.ensures.law;
     }

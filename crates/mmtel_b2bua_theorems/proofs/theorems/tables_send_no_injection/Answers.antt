@@ -6,7 +6,7 @@ pub returns : goal.returns
 returns c =
     let heads = c.calls_send_no_injection.ensures in
     record {
-      law = send_no_injection heads.clean heads.lines heads.finished c.calls_continue.ensures.law c.charging_is_exact.ensures.law;
-      deeds = ops_have_no_injection;
+      law = send_no_injection heads.no_injection heads.lines heads.finished c.calls_continue.ensures.law c.charging_is_exact.ensures.law;
+      operations = ops_have_no_injection;
       legs = legs_have_no_injection;
     }

@@ -10,7 +10,7 @@ returns c =
     record {
       result = traces_reach law charged c.calls_reach_their_outcome.ensures.law;
       shown = traces_show law charged c.calls_show_their_outcome.ensures.law;
-      throughout = traces_show_throughout law charged c.calls_show_their_outcome.ensures.law c.calls_show_their_outcome.ensures.later;
+      throughout = traces_show_throughout law charged c.calls_show_their_outcome.ensures.law c.calls_show_their_outcome.ensures.nothing_later;
       seen = endings_observed_so law charged c.attempts_are_observed.ensures.attempts c.attempts_are_observed.ensures.endings;
       watched = attempts_observed law charged c.attempts_are_observed.ensures.attempts;
       session = traces_keep law charged c.sessions_are_observed.ensures.law;

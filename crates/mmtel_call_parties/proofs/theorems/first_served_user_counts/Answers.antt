@@ -2,4 +2,4 @@ use Rattle.mmtel_call_parties.proofs.UntrustedSenders.{origin-first, said-first}
 use Rattle.mmtel_call_parties.proofs.theorems.first_served_user_counts.Goals as goal
 
 pub returns : goal.returns
-returns c = record { said = said-first; origin = origin-first }
+returns c = record { unchanged = said-first; origin = origin-first }

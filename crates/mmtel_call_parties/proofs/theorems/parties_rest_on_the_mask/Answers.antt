@@ -4,5 +4,5 @@ use Rattle.mmtel_call_parties.proofs.theorems.parties_rest_on_the_mask.Goals as 
 pub returns : goal.returns
 returns c = record {
   public = parties-public;
-  masked = λ restricts accounts m n e. parties-masked restricts accounts m n (c.equal_masks_decide_the_same.ensures.alike restricts accounts accounts m n e);
+  masked = λ restricts accounts m n e. parties-masked restricts accounts m n (c.equal_masks_decide_the_same.ensures.equivalent restricts accounts accounts m n e);
 }

@@ -2,4 +2,4 @@ use Rattle.mmtel_call_theorems.proofs.Branches.Sending.{detached_were_sent, ends
 use Rattle.mmtel_call_theorems.proofs.branch_theorems.calls_send_once.Goals as goal
 
 pub returns : goal.returns
-returns c = record { step = steps_send_once; opening = openings_send_once; end = ends_send_once; lent = detached_were_sent; returned = restored_were_sent }
+returns c = record { step = steps_send_once; opening = openings_send_once; end = ends_send_once; detached = detached_were_sent; restored = restored_were_sent }

@@ -2,4 +2,4 @@ use Rattle.mmtel_call_theorems.proofs.Dismissal.{ends_dismiss, nothing_in_flight
 use Rattle.mmtel_call_theorems.proofs.dismissal_theorems.in_flight_requests_get_finals.Goals as goal
 
 pub returns : goal.returns
-returns c = record { left = steps_dismiss; step = steps_go_on; end = ends_dismiss; nothing = nothing_in_flight }
+returns c = record { dismissed = steps_dismiss; step = steps_go_on; end = ends_dismiss; nothing = nothing_in_flight }

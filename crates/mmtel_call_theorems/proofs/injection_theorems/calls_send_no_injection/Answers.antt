@@ -2,4 +2,4 @@ use Rattle.mmtel_call_theorems.proofs.NoInjection.Traces.{emits_have_no_injectio
 use Rattle.mmtel_call_theorems.proofs.injection_theorems.calls_send_no_injection.Goals as goal
 
 pub returns : goal.returns
-returns c = record { clean = emits_have_no_injection; lines = emits_have_own_fields; finished = finish_emits_have_no_injection }
+returns c = record { no_injection = emits_have_no_injection; lines = emits_have_own_fields; finished = finish_emits_have_no_injection }

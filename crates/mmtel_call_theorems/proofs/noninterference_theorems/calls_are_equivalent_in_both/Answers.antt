@@ -6,4 +6,4 @@ pub returns : goal.returns
 returns c =
     let heads : Heads = record { fields = c.heads_rest_on_five_names.ensures.fields; five = c.heads_rest_on_five_names.ensures.lines } in
     let law = c.verdicts_depend_on_matches.ensures.law in
-    record { steps = steps_in_both heads law; calls = calls_in_both heads law; openings = openings_in_both heads law; stories = traces_in_both heads law; one = one_is_equivalent }
+    record { steps = steps_in_both heads law; calls = calls_in_both heads law; openings = openings_in_both heads law; traces = traces_in_both heads law; one = one_is_equivalent }

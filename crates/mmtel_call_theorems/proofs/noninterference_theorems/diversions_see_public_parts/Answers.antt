@@ -7,4 +7,4 @@ pub returns : goal.returns
 returns c =
     let heads : Heads = record { fields = c.heads_rest_on_five_names.ensures.fields; five = c.heads_rest_on_five_names.ensures.lines } in
     let law = c.verdicts_depend_on_matches.ensures.law in
-    record { ends = ends_of_attempts heads law; answers = responses_while_offered heads law; silence = timeouts_while_offered heads law; deadlines = deadlines_while_offered heads law }
+    record { ends = ends_of_attempts heads law; answers = responses_while_offered heads law; timeouts = timeouts_while_offered heads law; deadlines = deadlines_while_offered heads law }

@@ -6,4 +6,4 @@ pub returns : goal.returns
 returns c =
     let heads : Heads = record { fields = c.heads_rest_on_five_names.ensures.fields; five = c.heads_rest_on_five_names.ensures.lines } in
     let law = c.verdicts_depend_on_matches.ensures.law in
-    record { alone = openings_see_public_parts heads law; alike = openings_are_equivalent heads law; calls = openings_give_equivalent_calls heads law }
+    record { alone = openings_see_public_parts heads law; equivalent = openings_are_equivalent heads law; calls = openings_give_equivalent_calls heads law }

@@ -6,4 +6,4 @@ use Rattle.mmtel_call_theorems.proofs.noninterference_theorems.other_requests_se
 pub returns : goal.returns
 returns c =
     let heads : Heads = record { fields = c.heads_rest_on_five_names.ensures.fields; five = c.heads_rest_on_five_names.ensures.lines } in
-    record { answers = responses_to_others heads; silence = timeouts_of_others heads; dismissals = dismissals heads }
+    record { answers = responses_to_others heads; timeouts = timeouts_of_others heads; dismissals = dismissals heads }

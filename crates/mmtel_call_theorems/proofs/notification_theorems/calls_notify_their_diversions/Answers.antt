@@ -6,6 +6,6 @@ pub returns : goal.returns
 returns c = record {
   reported = notifies_its_diversions c.next_steps_are_moves.ensures.law c.endings_are_moves.ensures.law c.later_endings_extend.ensures.law c.moves_give_the_outcome.ensures.law;
   history = keeps_its_history c.next_steps_are_moves.ensures.law c.endings_are_moves.ensures.law c.later_endings_extend.ensures.law c.moves_give_the_outcome.ensures.law;
-  silent = notifies_nothing_later;
+  nothing_later = notifies_nothing_later;
   ends = ends_without_notification;
 }

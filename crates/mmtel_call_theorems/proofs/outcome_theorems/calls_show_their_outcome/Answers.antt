@@ -6,5 +6,5 @@ pub returns : goal.returns
 returns c =
     record {
       law = shows_its_outcome c.next_steps_are_moves.ensures.law c.endings_are_moves.ensures.law c.later_endings_extend.ensures.law c.moves_give_the_outcome.ensures.law;
-      later = shows_nothing_later;
+      nothing_later = shows_nothing_later;
     }

@@ -2,4 +2,4 @@ use Rattle.mmtel_call_theorems.proofs.Replies.{detached_keep_their_own, ends_rep
 use Rattle.mmtel_call_theorems.proofs.reply_theorems.calls_reply_in_their_own.Goals as goal
 
 pub returns : goal.returns
-returns c = record { step = steps_reply_in_their_own; opening = openings_reply_in_their_own; end = ends_reply_in_their_own; lent = detached_keep_their_own; returned = restored_keep_their_own }
+returns c = record { step = steps_reply_in_their_own; opening = openings_reply_in_their_own; end = ends_reply_in_their_own; detached = detached_keep_their_own; restored = restored_keep_their_own }

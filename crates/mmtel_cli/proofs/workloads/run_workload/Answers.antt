@@ -5,6 +5,6 @@ use Rattle.mmtel_cli.proofs.workloads.run_workload.Goals as goal
 
 pub returns : goal.returns
 returns g c = record {
-  counts = counts_written _ _ _ _ _ _ _ _ _ (ap (λ (input : LinkInput). input.events) c.in-Ok.ensures.unheard) c.new-keeper.ensures.fresh c.in_ok-rows.ensures.rows c.in_ok-offers.ensures.run
+  counts = counts_written _ _ _ _ _ _ _ _ _ (ap (λ (input : LinkInput). input.events) c.in-Ok.ensures.no_arrivals) c.new-keeper.ensures.fresh c.in_ok-rows.ensures.rows c.in_ok-offers.ensures.run
       (rw (c.from.ensures, c.items.ensures, c.items-2.ensures) at c.write_counts.ensures.text);
 }

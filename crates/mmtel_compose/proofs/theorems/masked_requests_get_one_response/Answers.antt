@@ -21,7 +21,7 @@ returns c =
     record {
       kept = kept;
       strangers = λ restricts accounts others m n r e strange.
-          let public = (c.equal_masks_decide_the_same.ensures.alike restricts accounts others m n e).public in
+          let public = (c.equal_masks_decide_the_same.ensures.equivalent restricts accounts others m n e).public in
           let start : m.start ≡ n.start = ap (λ (x : ParsedMessage). x.start) public in
           let also : n.trusted ≡ false = sym (ap (λ (x : ParsedMessage). x.trusted) public) ∙ strange in
           let lines : masked_lines (nowhere m.start) m.lines ≡ masked_lines (nowhere n.start) n.lines = sym (untouched restricts accounts m strange) ∙ (ap (λ (x : MaskedMessage). x.message.lines) e ∙ untouched restricts others n also) in

@@ -7,7 +7,7 @@ use Rattle.mmtel_delivery.specs.Delivery.{Delivered}
 
 pub loop-offer-init : goal.loop-offer-init
 loop-offer-init g c = record {
-  gave = delivered_none c.args.peers.now.known (g.L.Link.given c.args.link.now);
+  delivered = delivered_none c.args.peers.now.known (g.L.Link.given c.args.link.now);
   lost = lost_none (g.L.Link.given c.args.link.now) (g.L.Link.delivery_faults c.args.link.now);
   counted = counted_none (g.L.Link.given c.args.link.now) (g.L.Link.delivery_faults c.args.link.now);
   received = refl;
@@ -21,9 +21,9 @@ loop-offer-preserved g c =
     let i = c.loop-offer.offer-index in
     let es = c.args.offers.now in
     record {
-      gave = subst (λ (l : List Offer). Delivered known l (g.L.Link.given c.args.link.now) (g.L.Link.given c.deliver.new.link))
+      delivered = subst (λ (l : List Offer). Delivered known l (g.L.Link.given c.args.link.now) (g.L.Link.given c.deliver.new.link))
           (sym (take_next i es c.offer-item.result c.loop-offer-test.true c.offer-item.is))
-          (delivered_more known (take i es) (c.offer-item.result ∷ []) _ _ _ c.loop-offer.invariant.gave c.in_ok-deliver.ensures.gave);
+          (delivered_more known (take i es) (c.offer-item.result ∷ []) _ _ _ c.loop-offer.invariant.delivered c.in_ok-deliver.ensures.delivered);
       lost = lost_then _ _ _ _ _ _ c.loop-offer.invariant.lost c.deliver.ensures.lost;
       counted = counted_then _ _ _ _ _ _ c.loop-offer.invariant.counted c.deliver.ensures.counted;
       received = c.deliver.ensures.received ∙ c.loop-offer.invariant.received;
@@ -31,7 +31,7 @@ loop-offer-preserved g c =
       arrival_faults = c.deliver.ensures.arrival_faults ∙ c.loop-offer.invariant.arrival_faults;
     }
 
-pub returns-in_err-deliver-clause-gave : goal.returns-in_err-deliver-clause-gave
-returns-in_err-deliver-clause-gave g c =
+pub returns-in_err-deliver-clause-delivered : goal.returns-in_err-deliver-clause-delivered
+returns-in_err-deliver-clause-delivered g c =
     delivered_prefix c.args.peers.now.known c.loop-offer.offer-index c.args.offers.now _ _ c.from_residual.result c.from_residual.ensures.0
-    (subst (λ (o : Option LinkOutput). Delivered c.args.peers.now.known (take c.loop-offer.offer-index c.args.offers.now) (g.L.Link.given c.args.link.now) o) (sym c.in_err-deliver.ensures.none) c.loop-offer.invariant.gave)
+    (subst (λ (o : Option LinkOutput). Delivered c.args.peers.now.known (take c.loop-offer.offer-index c.args.offers.now) (g.L.Link.given c.args.link.now) o) (sym c.in_err-deliver.ensures.none) c.loop-offer.invariant.delivered)

@@ -2,4 +2,4 @@ use Rattle.mmtel_focus_theorems.proofs.ParticipantTables.{rows_due, seats_due, s
 use Rattle.mmtel_focus_theorems.proofs.charging_theorems.participants_have_their_meters.Goals as goal
 
 pub returns : goal.returns
-returns c = record { seats = seats_due; metered = seats_metered; rows = rows_due }
+returns c = record { participants = seats_due; metered = seats_metered; rows = rows_due }

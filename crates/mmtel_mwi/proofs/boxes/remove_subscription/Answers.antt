@@ -10,7 +10,7 @@ returns-in-None c =
     let gone = rw c.as_slice.ensures.value at (sym c.place_of.ensures.place ∙ c.in-None.is) in
     record {
       rest = without_nowhere (is_numbered c.args.sub) live gone;
-      left = sym (ap (option_map ended_leg) (found_nowhere (is_numbered c.args.sub) live gone));
+      leg = sym (ap (option_map ended_leg) (found_nowhere (is_numbered c.args.sub) live gone));
     }
 
 pub returns-in-Some : goal.returns-in-Some
@@ -19,5 +19,5 @@ returns-in-Some c =
     let stands = rw c.as_slice.ensures.value at (sym c.place_of.ensures.place ∙ c.in-Some.is) in
     record {
       rest = c.remove.ensures.items ∙ without_there (is_numbered c.args.sub) live c.in-Some.place stands;
-      left = ap (λ e. Some e) c.leave.ensures ∙ sym (ap (option_map ended_leg) (found_there (is_numbered c.args.sub) live c.in-Some.place c.remove.result stands c.remove.ensures.value));
+      leg = ap (λ e. Some e) c.leave.ensures ∙ sym (ap (option_map ended_leg) (found_there (is_numbered c.args.sub) live c.in-Some.place c.remove.result stands c.remove.ensures.value));
     }

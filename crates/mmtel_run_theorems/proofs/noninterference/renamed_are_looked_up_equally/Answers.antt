@@ -4,4 +4,4 @@ use Rattle.mmtel_run_theorems.proofs.noninterference.renamed_are_looked_up_equal
 pub returns : goal.returns
 returns c =
     let passed = c.lookups_skip_other_accounts.ensures in
-    record { looks = renamed_are_looked_up_equally passed.agree; nobody = nobody_is_renamed passed.none }
+    record { lookups = renamed_are_looked_up_equally passed.agree; nobody = nobody_is_renamed passed.none }

@@ -8,11 +8,11 @@ use Rattle.mmtel_run_theorems.proofs.noninterference.runs_keep_noninterference.G
 pub returns : goal.returns
 returns c =
     let below : Below = record {
-      texts = c.texts_decide_nothing.ensures.alike;
+      texts = c.texts_decide_nothing.ensures.equivalent;
       new = c.transactions_are_of_one_peer.ensures.received;
       heads = c.heads_see_no_private_field.ensures.received;
       responses = c.responses_are_masked.ensures.one_head;
-      kin = c.equal_masks_are_equivalent.ensures.kin;
+      kin = c.equal_masks_are_equivalent.ensures.equivalent;
       wholes = c.messages_have_nothing_private.ensures.law;
       tables = c.tables_stay_equivalent.ensures.law;
       laws = record {
@@ -31,7 +31,7 @@ returns c =
     let looks = renamed_are_looked_up_equally c.lookups_skip_other_accounts.ensures.agree in
     let nobody = nobody_is_renamed c.lookups_skip_other_accounts.ensures.none in
     let calls = c.calls_send_once.ensures in
-    let once : Once = record { steps = calls.step; openings = calls.opening; ends = calls.end; lent = calls.lent; returned = calls.returned; conferences = c.conferences_send_once.ensures.once } in
+    let once : Once = record { steps = calls.step; openings = calls.opening; ends = calls.end; lent = calls.detached; returned = calls.restored; conferences = c.conferences_send_once.ensures.once } in
     record {
       both = secret;
       one = one below keeps its others tied looks nobody;

@@ -7,6 +7,6 @@ returns c =
     let sends = c.tables_send_no_injection.ensures in
     record {
       law =
-          sends_no_injection sends.deeds sends.legs c.conferences_send_no_injection.ensures.clean c.records_are_those_kept.ensures.reported c.reading_leaves_no_injection.ensures.law
-          (λ m clean. record { parted = lines.split m clean; clean = lines.clean m clean });
+          sends_no_injection sends.operations sends.legs c.conferences_send_no_injection.ensures.no_injection c.records_are_those_kept.ensures.reported c.reading_leaves_no_injection.ensures.law
+          (λ m clean. record { parted = lines.split m clean; clean = lines.no_injection m clean });
     }

@@ -6,15 +6,15 @@ use Rattle.mmtel_serve.proofs.serving.serve_event.Goals as goal
 pub returns-in-Ok-clause-done : goal.returns-in-Ok-clause-done
 returns-in-Ok-clause-done g c = any_ok c.deliver_each.result _
     (served_of _ _ _ c.new-out.result c.step.new.out c.new-out.ensures c.deliver_each.result c.items.result.now c.peers.result.now.known c.items.ensures c.in-Ok.ensures.done
-    (λ directory token loaded happened serves. ap (λ (p : Peers). p.known) (c.peers.ensures.peers directory token loaded happened serves)) c.deliver_each.ensures.gave)
+    (λ directory token loaded recorded serves. ap (λ (p : Peers). p.known) (c.peers.ensures.peers directory token loaded recorded serves)) c.deliver_each.ensures.delivered)
 
 pub returns-in-Ok-clause-stopped : goal.returns-in-Ok-clause-stopped
 returns-in-Ok-clause-stopped g c = any_err c.deliver_each.result _
     (inr (served_of _ _ _ c.new-out.result c.step.new.out c.new-out.ensures c.deliver_each.result c.items.result.now c.peers.result.now.known c.items.ensures c.in-Ok.ensures.done
-    (λ directory token loaded happened serves. ap (λ (p : Peers). p.known) (c.peers.ensures.peers directory token loaded happened serves)) c.deliver_each.ensures.gave))
+    (λ directory token loaded recorded serves. ap (λ (p : Peers). p.known) (c.peers.ensures.peers directory token loaded recorded serves)) c.deliver_each.ensures.delivered))
 
 pub returns-clause-stopped : goal.returns-clause-stopped
-returns-clause-stopped g c = inl (stopped_of _ _ _ c.new-out.result c.step.new.out c.new-out.ensures refl c.in-Err.ensures.met)
+returns-clause-stopped g c = inl (stopped_of _ _ _ c.new-out.result c.step.new.out c.new-out.ensures refl c.in-Err.ensures.aborted)
 
 pub returns-clause-lost : goal.returns-clause-lost
 returns-clause-lost g c = inl (refl, refl)

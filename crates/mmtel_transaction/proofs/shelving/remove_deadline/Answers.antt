@@ -6,7 +6,7 @@ seek-from-requires g c = deadlines_parted c.args.old.now c.args.due.now c.requir
 
 pub returns : goal.returns
 returns g c = record {
-  taken = record {
+  removed = record {
     from = c.seek-from.result.position;
     at = deadlines_found c.seek-from.result.position c.args.old.now c.args.due.now c.requires.ascends c.seek-from.ensures.within c.seek-from.ensures.parted c.requires.there;
     removed = c.remove.ensures.rest;

@@ -3,4 +3,4 @@ use Rattle.mmtel_transaction.proofs.Acknowledged.{acked_retransmits_nothing, kep
 use Rattle.mmtel_transaction.proofs.theorems.finals_wait_for_their_ack.Goals as goal
 
 pub returns : goal.returns
-returns c = record { unacknowledged = unacknowledged; success = success; silent = acked_retransmits_nothing; kept = kept_acks_are_retransmitted }
+returns c = record { unacknowledged = unacknowledged; success = success; no_retransmission = acked_retransmits_nothing; kept = kept_acks_are_retransmitted }

@@ -2,4 +2,4 @@ use Rattle.mmtel_transaction.proofs.Few.{capacity_remains, few_opened, numbers_c
 use Rattle.mmtel_transaction.proofs.theorems.numbers_are_distinct.Goals as goal
 
 pub returns : goal.returns
-returns c = record { few = few_opened; room = capacity_remains; count = numbers_count; differ = numbers_differ }
+returns c = record { few = few_opened; capacity = capacity_remains; count = numbers_count; differ = numbers_differ }

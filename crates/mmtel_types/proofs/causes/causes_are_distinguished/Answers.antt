@@ -2,4 +2,4 @@ use Rattle.mmtel_types.proofs.CauseTheorems.{distinguished}
 use Rattle.mmtel_types.proofs.causes.causes_are_distinguished.Goals as goal
 
 pub returns : goal.returns
-returns c = record { told_apart = distinguished }
+returns c = record { distinguished = distinguished }

@@ -10,5 +10,5 @@ returns-clause-any c = uploads_see_no_text
 pub returns-clause-put : goal.returns-clause-put
 returns-clause-put c = mailboxes_see_no_text
 
-pub returns-clause-said : goal.returns-clause-said
-returns-clause-said c = uploads_say_their_text
+pub returns-clause-text : goal.returns-clause-text
+returns-clause-text c = uploads_say_their_text

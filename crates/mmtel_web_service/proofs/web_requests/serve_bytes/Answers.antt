@@ -12,7 +12,7 @@ pub serve_web-requires-clause-its : goal.serve_web-requires-clause-its
 serve_web-requires-clause-its g c =
     let names = c.args.directory.now in
     let request = request_of c.args.bytes.now in
-    sheet_matches_text names c.args.records.now.texts.texts request c.in-Ok.web c.uploads_are_what_they_say.ensures.said
+    sheet_matches_text names c.args.records.now.texts.texts request c.in-Ok.web c.uploads_are_what_they_say.ensures.text
     (c.in-Ok.ensures.exact ∙ ap (λ (t : SheetTextsView). web_of names t.texts request) c.texts.ensures.all)
 
 pub returns-in-Ok-clause-keeper : goal.returns-in-Ok-clause-keeper

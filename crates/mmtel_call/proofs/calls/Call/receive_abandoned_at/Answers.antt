@@ -33,7 +33,7 @@ pub returns-in-Some-clause-call : goal.returns-in-Some-clause-call
 returns-in-Some-clause-call c =
     let left : Some c.in-Some.left ≡ (on_response c.args.step.now.config.now.sip c.args.key c.args.message.now.parsed c.remove-loose.result c.args.output.now).remaining =
     sym c.in-Some.is
-    ∙ (c.in_ok-receive_abandoned.ensures.left
+    ∙ (c.in_ok-receive_abandoned.ensures.remaining
     ∙ ap (λ (a : Addr). (on_response a c.args.key c.args.message.now.parsed c.remove-loose.result c.args.output.now).remaining) c.sip.ensures) in
     mapped c.push_item.result
     (λ filed. ap (λ (ls : List AbandonedInvite). record c.args.self.now { abandoned = ls })

@@ -32,7 +32,7 @@ returns-in-Some-clause-call c = λ t is.
     let one : c.remove-invitation.result ≡ t = same (slice_get c.args.self.now.answered_invites c.args.at) c.remove-invitation.result t c.remove-invitation.ensures.handed_out is in
     let left : Some c.in-Some.left ≡ (on_response c.args.step.now.config.now.sip c.args.key c.args.message.now.parsed (as_abandoned t) c.args.output.now).remaining =
     sym c.in-Some.is
-    ∙ (c.in_ok-receive_abandoned.ensures.left
+    ∙ (c.in_ok-receive_abandoned.ensures.remaining
     ∙ (ap (λ (a : Addr). (on_response a c.args.key c.args.message.now.parsed (as_abandoned c.remove-invitation.result) c.args.output.now).remaining) c.sip.ensures
     ∙ ap (λ (u : AnsweredInvite). (on_response c.args.step.now.config.now.sip c.args.key c.args.message.now.parsed (as_abandoned u) c.args.output.now).remaining) one)) in
     mapped c.push_item.result

@@ -16,4 +16,4 @@ invariant_of-self c =
     let within : k < length l = subst (λ (t : LiveConferencesView). k < length t.items) (sym c.self.view_is) c.requires in
     let is : slice_get l k ≡ Some x = stands_at l k x within c.index_mut-room.ensures.value in
     left_kept l c.self.inside.opened c.self.inside.index k x c.self.invariant is c.put_conference.new.index c.put_conference-2.new.index y
-    (ap (λ (r : Conference). r.number) c.leave-row.ensures.room ∙ after_leave_keeps c.args.seat x) c.put_conference.ensures c.put_conference-2.ensures
+    (ap (λ (r : Conference). r.number) c.leave-row.ensures.conference ∙ after_leave_keeps c.args.seat x) c.put_conference.ensures c.put_conference-2.ensures

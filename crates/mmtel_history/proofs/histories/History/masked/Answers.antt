@@ -10,8 +10,8 @@ use Rattle.mmtel_history.proofs.histories.History.masked.Goals.{In_ok-entries}
 are : (c : In_ok-entries) → c.in_ok-entries.entries.items ≡ masked_list c.args.all c.args.self.now
 are c = c.in_ok-entries.ensures ∙ ap (λ (h : List Entry). masked_list c.args.all h) (c.as_slice.ensures.value ∙ c.self.view_is)
 
-pub returns-clause-alike : goal.returns-clause-alike
-returns-clause-alike c = λ other same. are c ∙ masked_equal c.args.all c.args.self.now other same
+pub returns-clause-equivalent : goal.returns-clause-equivalent
+returns-clause-equivalent c = λ other same. are c ∙ masked_equal c.args.all c.args.self.now other same
 
 pub returns-clause-causes : goal.returns-clause-causes
 returns-clause-causes c = ap (λ (h : List Entry). map (λ e. e.cause) h) (are c) ∙ masked_keeps (λ e. e.cause) (λ e uri. refl) c.args.all c.args.self.now

@@ -22,7 +22,7 @@ returns c =
     let m = c.args.request.now in
     let there : StandsAt c.args.sub t.live at x = (rw c.deref.ensures.value at (sym c.place_of.ensures.place ∙ c.in-Some.is), c.index_mut.ensures.value) in
     record {
-      answer = c.receive.ensures.answer ∙ request_check_there c.args.sub m t at x there ∙ ap (λ (b : BoxesView). request_check c.args.sub m b.table) c.self.view_is;
+      check = c.receive.ensures.check ∙ request_check_there c.args.sub m t at x there ∙ ap (λ (b : BoxesView). request_check c.args.sub m b.table) c.self.view_is;
       received = on_ok_weaker c.receive.result (λ is.
           ap (λ (l : List Subscription). record { sip = i.sip; table = record t { live = l } }) (changed_to c.args.sub (subscription_after_request m) t.live at x c.receive.new.self there is)
           ∙ ap (λ (b : BoxesView). with_table b (table_after_request c.args.sub m b.table)) c.self.view_is) c.receive.ensures.received;

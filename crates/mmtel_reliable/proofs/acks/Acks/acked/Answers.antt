@@ -7,6 +7,6 @@ use Rattle.mmtel_reliable.proofs.acks.Acks.acked.Goals as goal
 pub returns-in-Some-clause-after : goal.returns-in-Some-clause-after
 returns-in-Some-clause-after c = search rules
 
-pub returns-in-Some-clause-stands : goal.returns-in-Some-clause-stands
-returns-in-Some-clause-stands c ops stands =
+pub returns-in-Some-clause-represents : goal.returns-in-Some-clause-represents
+returns-in-Some-clause-represents c ops stands =
     subst (λ (acks : AcksView). Represents acks (Acknowledges c.args.rack.now ∷ ops)) (sym (returns-in-Some-clause-after c)) (stands_acknowledged c.args.self.now ops stands c.args.rack.now)

@@ -18,7 +18,7 @@ returns-in-None-clause-done g c = on_ok_weaker c.respond-done.result (λ follows
     follows_so c.asked_by.result (λ d w. call_of_invite c.args.invite (calls_in d w).entries) (λ o d token. after_cancel_of d token c.args.context.now.at c.args.key c.args.cancel c.args.invite o) s out
     (of_calls s c.asked_by.result (first_side (side_by_invite_key c.args.invite)) c.asked_by.ensures) c.respond-done.new.self c.respond-done.new.out
     (subst (λ (o : Option (CallNo × Side)). Follows s out c.respond-done.new.self c.respond-done.new.out (λ d token. after_cancel_of d token c.args.context.now.at c.args.key c.args.cancel c.args.invite o)) (sym c.in-None.is)
-    (subst (λ (x : StatusResponse). Follows s out c.respond-done.new.self c.respond-done.new.out (λ d token. with_response d token c.args.context.now.at c.args.key c.args.cancel x)) c.plain_response.ensures.answer follows)))
+    (subst (λ (x : StatusResponse). Follows s out c.respond-done.new.self c.respond-done.new.out (λ d token. with_response d token c.args.context.now.at c.args.key c.args.cancel x)) c.plain_response.ensures.response follows)))
     c.respond-done.ensures.done
 
 pub returns-in-None-clause-err : goal.returns-in-None-clause-err

@@ -15,7 +15,7 @@ pub returns-in-None-clause-done : goal.returns-in-None-clause-done
 returns-in-None-clause-done g c = on_ok_weaker c.respond.result (λ follows.
     let s = c.args.self.now in
     subst (λ (o : Option Account). Follows s c.args.out.now c.respond.new.self c.respond.new.out (λ d token. after_subscription_for d token c.args.context.now.at c.args.key c.args.request.now o)) (sym c.in-None.is)
-    (subst (λ (x : StatusResponse). Follows s c.args.out.now c.respond.new.self c.respond.new.out (λ d token. with_response d token c.args.context.now.at c.args.key c.args.request.now x)) c.plain_response.ensures.answer follows))
+    (subst (λ (x : StatusResponse). Follows s c.args.out.now c.respond.new.self c.respond.new.out (λ d token. with_response d token c.args.context.now.at c.args.key c.args.request.now x)) c.plain_response.ensures.response follows))
     c.respond.ensures.done
 
 pub returns-in-None-clause-err : goal.returns-in-None-clause-err
@@ -31,7 +31,7 @@ returns-then-is_full-clause-done g c = on_ok_weaker c.respond-then-is_full.resul
     (made_for_so s (Follows s c.args.out.now c.respond-then-is_full.new.self c.respond-then-is_full.new.out) (follows_reads s c.args.out.now c.respond-then-is_full.new.self c.respond-then-is_full.new.out)
     c.args.context.now.at c.args.key c.args.request.now c.in-Some.account true (sym c.is_full.ensures.full ∙ c.if-is_full.true)
     (subst (λ (x : StatusResponse). Follows s c.args.out.now c.respond-then-is_full.new.self c.respond-then-is_full.new.out (λ d token. with_response d token c.args.context.now.at c.args.key
-    c.args.request.now x)) c.plain_response-then-is_full.ensures.answer follows)))
+    c.args.request.now x)) c.plain_response-then-is_full.ensures.response follows)))
     c.respond-then-is_full.ensures.done
 
 pub returns-then-is_full-clause-err : goal.returns-then-is_full-clause-err

@@ -29,8 +29,8 @@ returns-in-Web-clause-done g c =
     (subst (λ (bytes : List ℕ). IfOk c.serve_web.result (λ a. Follows c.args.self.now c.args.out.now c.serve_web.new.self c.serve_web.new.out
     (λ d token. after_parsed_event d token c.args.at (WebRequested (request_of bytes) (keeper_outcome_view a.outcome) a.rows)))) c.bytes-in-Web.ensures c.serve_web.ensures.done)
 
-pub returns-in-Web-clause-met : goal.returns-in-Web-clause-met
-returns-in-Web-clause-met g c = on_err_weaker c.serve_web.result (λ m. record {
+pub returns-in-Web-clause-aborted : goal.returns-in-Web-clause-aborted
+returns-in-Web-clause-aborted g c = on_err_weaker c.serve_web.result (λ m. record {
   outcome = m.outcome;
   rows = m.rows;
   broke = subst (λ (e : Event). AddsOfferPrefix c.args.self.now c.args.out.now c.serve_web.new.out (λ d token. after_parsed_event d token c.args.at (parsed_event d e m.outcome m.rows))) (sym c.in-Web.is)
@@ -43,10 +43,10 @@ returns-in-Web-clause-met g c = on_err_weaker c.serve_web.result (λ m. record {
   counts = m.counts;
   handover_aborted = m.handover_aborted;
 })
-    c.serve_web.ensures.met
+    c.serve_web.ensures.aborted
 
-pub returns-in_err-receive_datagram-in-Datagram-clause-met : goal.returns-in_err-receive_datagram-in-Datagram-clause-met
-returns-in_err-receive_datagram-in-Datagram-clause-met g c = on_err c.from_residual.result _ (record {
+pub returns-in_err-receive_datagram-in-Datagram-clause-aborted : goal.returns-in_err-receive_datagram-in-Datagram-clause-aborted
+returns-in_err-receive_datagram-in-Datagram-clause-aborted g c = on_err c.from_residual.result _ (record {
   outcome = no_memory;
   rows = [];
   broke = subst (λ (e : Event). AddsOfferPrefix c.args.self.now c.args.out.now c.receive_datagram.new.out (λ d token. after_parsed_event d token c.args.at (parsed_event d e no_memory []))) (sym c.in-Datagram.is)

@@ -71,5 +71,5 @@ returns-in-Repeat-clause-done g c = on_ok_weaker c.retransmit.result (λ follows
 
 pub returns-in-Repeat-clause-err : goal.returns-in-Repeat-clause-err
 returns-in-Repeat-clause-err g c = on_err_weaker c.retransmit.result
-    (λ e message so. stops (λ d token. after_classified_message d token c.args.context.now.at (message_view c.args.message_source.peer c.args.message_source.source c.args.message_source.trusted message) (Some c.args.heard)) c.args.self.now c.args.out.now c.retransmit.new.out
-    (λ d token w. answers c.numbers_never_fall.ensures d token c.args.context.now.at (message_view c.args.message_source.peer c.args.message_source.source c.args.message_source.trusted message) (Some c.args.heard) w) e) c.retransmit.ensures.err
+    (λ e message so. stops (λ d token. after_classified_message d token c.args.context.now.at (message_view c.args.message_source.peer c.args.message_source.source c.args.message_source.trusted message) (Some c.args.received)) c.args.self.now c.args.out.now c.retransmit.new.out
+    (λ d token w. answers c.numbers_never_fall.ensures d token c.args.context.now.at (message_view c.args.message_source.peer c.args.message_source.source c.args.message_source.trusted message) (Some c.args.received) w) e) c.retransmit.ensures.err

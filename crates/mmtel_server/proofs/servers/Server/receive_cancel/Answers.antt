@@ -11,7 +11,7 @@ pub returns-in-None-clause-done : goal.returns-in-None-clause-done
 returns-in-None-clause-done g c =
     subst (λ (o : Option TKey). OnOk c.respond-done.result (Follows c.args.self.now c.args.out.now c.respond-done.new.self c.respond-done.new.out (λ d token. after_cancel d token c.args.context.now.at c.args.key c.args.cancel o))) (sym c.in-None.is)
     (subst (λ (x : StatusResponse). OnOk c.respond-done.result (Follows c.args.self.now c.args.out.now c.respond-done.new.self c.respond-done.new.out (λ d token. with_response d token c.args.context.now.at c.args.key c.args.cancel x)))
-    c.plain_response.ensures.answer c.respond-done.ensures.done)
+    c.plain_response.ensures.response c.respond-done.ensures.done)
 
 pub returns-in-None-clause-err : goal.returns-in-None-clause-err
 returns-in-None-clause-err g c = stops_on c.respond-done.result (λ d token. after_cancel d token c.args.context.now.at c.args.key c.args.cancel c.args.invite) c.args.self.now c.args.out.now c.respond-done.new.out

@@ -10,8 +10,8 @@ use Rattle.mmtel_server.proofs.Subscriptions.{hears_none, is_live_so, says_none,
 use Rattle.mmtel_server.proofs.Operations.{notes_action}
 use Rattle.mmtel_server.proofs.servers.Server.receive_in_subscription.Goals as goal
 
-pub returns-in-None-clause-answer : goal.returns-in-None-clause-answer
-returns-in-None-clause-answer c = says_none c.args.sub (message_in c.args.request.now.parsed) c.args.self.now (sym c.in-None.ensures.peer)
+pub returns-in-None-clause-check : goal.returns-in-None-clause-check
+returns-in-None-clause-check c = says_none c.args.sub (message_in c.args.request.now.parsed) c.args.self.now (sym c.in-None.ensures.peer)
 
 pub returns-in-None-clause-done : goal.returns-in-None-clause-done
 returns-in-None-clause-done c = hears_none c.args.sub (message_in c.args.request.now.parsed) c.args.self.now (sym c.in-None.ensures.peer)
@@ -19,10 +19,10 @@ returns-in-None-clause-done c = hears_none c.args.sub (message_in c.args.request
 pub heard-requires : goal.heard-requires
 heard-requires c = is_live_so c.args.sub c.request.inside.message c.args.self.now c.in-Some.field-0 (sym c.in-Some.ensures.peer)
 
-pub returns-in-Some-clause-answer : goal.returns-in-Some-clause-answer
-returns-in-Some-clause-answer c d token w have =
+pub returns-in-Some-clause-check : goal.returns-in-Some-clause-check
+returns-in-Some-clause-check c d token w have =
     let m = message_in c.args.request.now.parsed in
-    c.heard.ensures.answer
+    c.heard.ensures.check
     ∙ (ap (λ (x : Message Start). request_check c.args.sub x c.args.self.now.boxes.table) (ap (λ (x : MessageView). message_in x.parsed) c.request.view_is) ∙ says_there c.args.sub m c.args.self.now d token w have)
 
 pub returns-in-Some-clause-done : goal.returns-in-Some-clause-done

@@ -16,7 +16,7 @@ returns-clause-done g c = on_ok_weaker c.send_response-done.result (λ follows.
     follows_so c.in_ok-response.response (λ d w. response_to d.sip c.args.newcomer.now.tag.now said (plain_response c.args.code)) (λ (m : Message Start) d token. with_emit c.args.context.now.at (emit.Reply c.args.newcomer.now.key m)) s c.args.out.now
     (λ d token w have.
     c.in_ok-response.ensures.message
-    ∙ (ap (λ (a : StatusResponse). response_to s.directory.sip c.bytes.result.now said a) c.plain_response.ensures.answer
+    ∙ (ap (λ (a : StatusResponse). response_to s.directory.sip c.bytes.result.now said a) c.plain_response.ensures.response
     ∙ (ap (λ (t : List ℕ). response_to s.directory.sip t said (plain_response c.args.code)) c.bytes.ensures
     ∙ ap (λ (x : Directory). response_to x.sip c.args.newcomer.now.tag.now said (plain_response c.args.code)) have.same_directory)))
     c.send_response-done.new.self c.send_response-done.new.out follows)

@@ -6,8 +6,8 @@ use Rattle.mmtel_server.proofs.Keeping.{same_if_not_called}
 use Rattle.mmtel_server.proofs.Replaced.{put_behind}
 use Rattle.mmtel_server.proofs.servers.Server.respond_to_web.Goals as goal
 
-pub returns-in_err-reserve_reply-clause-met : goal.returns-in_err-reserve_reply-clause-met
-returns-in_err-reserve_reply-clause-met g c =
+pub returns-in_err-reserve_reply-clause-aborted : goal.returns-in_err-reserve_reply-clause-aborted
+returns-in_err-reserve_reply-clause-aborted g c =
     same_if_not_called c.from_residual.result (keeper_call_in c.args.self.now.directory.names (request_of c.args.bytes.now)) (g.K.Keeper.contents c.args.keeper.now) (g.K.Keeper.calls c.args.keeper.now) (g.K.Keeper.faults c.args.keeper.now)
 
 pub returns-in-Ok-clause-done : goal.returns-in-Ok-clause-done

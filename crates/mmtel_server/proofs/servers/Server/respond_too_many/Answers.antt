@@ -8,4 +8,4 @@ use Rattle.mmtel_server.specs.Follows.{Follows}
 pub returns-clause-done : goal.returns-clause-done
 returns-clause-done c = subst (λ (x : StatusResponse). OnOk c.respond_statelessly.result
     (Follows c.args.self.now c.args.out.now c.respond_statelessly.new.self c.respond_statelessly.new.out
-    (λ d token. with_stateless_response d token c.args.context.now.at c.args.request.now x))) c.plain_response.ensures.answer c.respond_statelessly.ensures.done
+    (λ d token. with_stateless_response d token c.args.context.now.at c.args.request.now x))) c.plain_response.ensures.response c.respond_statelessly.ensures.done

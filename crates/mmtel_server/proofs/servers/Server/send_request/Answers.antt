@@ -10,7 +10,7 @@ pub returns-clause-done : goal.returns-clause-done
 returns-clause-done g c = on_ok_weaker c.offer_to.result (λ offered.
     request_sent c.numbers_are_distinct.ensures.few c.args.self.now c.take_outgoing-text.new.self c.args.out.now c.offer_to.new.out c.args.peer c.args.message.now c.args.context.now.at c.take_outgoing-text.result
     (λ h. c.in_ok-ask.field-0 ≡ tkey (length (openings h)))
-    (λ h st room. let d = c.in_ok-ask.ensures.done h st room in (c.take_outgoing-text.ensures.stands (DidAsk c.args.peer c.args.message.now c.args.context.now.at ∷ h) d.0, d.1))
+    (λ h st room. let d = c.in_ok-ask.ensures.done h st room in (c.take_outgoing-text.ensures.represents (DidAsk c.args.peer c.args.message.now c.args.context.now.at ∷ h) d.0, d.1))
     (c.take_outgoing-text.ensures.text ∙ c.in_ok-ask.ensures.offered)
     (offered ∙ ap (λ (at : ℕ). c.args.out.now ++ offer.To c.args.peer at c.take_outgoing-text.result ∷ []) c.ms.ensures.number))
     c.offer_to.ensures.done

@@ -7,9 +7,9 @@ use Rattle.mmtel_server.proofs.Grows.{on_err, serves_whole, stops}
 use Rattle.mmtel_server.proofs.servers.Server.serve_web.Goals as goal
 use Rattle.mmtel_server.specs.States.{keeper_state}
 
-pub returns-in_err-answered-clause-met : goal.returns-in_err-answered-clause-met
-returns-in_err-answered-clause-met g c =
-    let m = c.in_err-answered.ensures.met in
+pub returns-in_err-answered-clause-aborted : goal.returns-in_err-answered-clause-aborted
+returns-in_err-answered-clause-aborted g c =
+    let m = c.in_err-answered.ensures.aborted in
     on_err c.from_residual.result _ (record {
       outcome = m.outcome;
       rows = m.rows;
@@ -27,8 +27,8 @@ returns-in-Ok-clause-done g c =
     c.in_ok-answered.answered.outcome) c.in_ok-answered.answered.rows c.in_ok-answered.put
     c.in_ok-answered.ensures.done c.in_ok-answered.ensures.put c.put_counts.new.self c.put_counts.new.out c.in-Ok.ensures.done
 
-pub returns-in-Err-clause-met : goal.returns-in-Err-clause-met
-returns-in-Err-clause-met g c =
+pub returns-in-Err-clause-aborted : goal.returns-in-Err-clause-aborted
+returns-in-Err-clause-aborted g c =
     record {
       outcome = keeper_outcome_view c.in_ok-answered.answered.outcome;
       rows = c.in_ok-answered.answered.rows;
@@ -36,7 +36,7 @@ returns-in-Err-clause-met g c =
           c.in_ok-answered.answered.outcome) c.in_ok-answered.answered.rows c.in_ok-answered.put
           c.in_ok-answered.ensures.done c.in_ok-answered.ensures.put c.put_counts.new.out c.in-Err.ensures.err;
       between = keeper_state g.K.Keeper c.respond_to_web.new.keeper;
-      asks = c.in_ok-answered.ensures.asked;
+      asks = c.in_ok-answered.ensures.keeper_result;
       counts = c.in_ok-answered.ensures.counted;
       handover_aborted = (refl, (inl refl, refl));
     }

@@ -12,8 +12,8 @@ use Rattle.mmtel_server.specs.States.{step_state}
 use Rattle.mmtel_server.specs.Representation.{ContinuesRun, ContinuesServing}
 use Rattle.mmtel_server.specs.StepEffects.{call_of, event_record}
 
-pub returns-then-self-clause-met : goal.returns-then-self-clause-met
-returns-then-self-clause-met g c =
+pub returns-then-self-clause-aborted : goal.returns-then-self-clause-aborted
+returns-then-self-clause-aborted g c =
     aborted_if_not_called (step_state c.args.self.now c.args.out.now g.K.Keeper c.args.keeper.now) c.args.event.now c.if-self.true
 
 pub returns-in-Ok-clause-done : goal.returns-in-Ok-clause-done
@@ -43,9 +43,9 @@ returns-in-Ok-clause-done g c =
       charges = charged c.rows_are_filed.ensures.all c.rows_are_filed.ensures.none (one ∷ []) s;
     }
 
-pub returns-clause-met : goal.returns-clause-met
-returns-clause-met g c =
-    let m = IfErr-at_err _ c.in-Err.is c.step_unfailed-done.ensures.met in
+pub returns-clause-aborted : goal.returns-clause-aborted
+returns-clause-aborted g c =
+    let m = IfErr-at_err _ c.in-Err.is c.step_unfailed-done.ensures.aborted in
     record {
       outcome = m.outcome;
       rows = m.rows;

@@ -31,7 +31,7 @@ returns-clause-done g c =
       waiting = c.perform_event.new.self.waiting;
       between = keeper_state g.K.Keeper c.perform_event.new.keeper;
       asks = subst (λ (x : Directory). IsKeeperResult (call_of x.names c.args.event.now) (keeper_outcome_view a.outcome) a.rows (g.K.Keeper.contents c.args.keeper.now) (g.K.Keeper.contents c.perform_event.new.keeper)
-          (g.K.Keeper.calls c.args.keeper.now) (g.K.Keeper.calls c.perform_event.new.keeper)) c.begin_step.ensures.directory c.in_ok-answered.ensures.asked;
+          (g.K.Keeper.calls c.args.keeper.now) (g.K.Keeper.calls c.perform_event.new.keeper)) c.begin_step.ensures.directory c.in_ok-answered.ensures.keeper_result;
       counts = c.in_ok-answered.ensures.counted;
       rows_wait = λ d token before w did short.
           let x = parsed_event d c.args.event.now (keeper_outcome_view a.outcome) a.rows in
@@ -48,9 +48,9 @@ returns-clause-done g c =
       handover_faults = c.in_ok-took.ensures.counted;
     }
 
-pub returns-in_err-answered-clause-met : goal.returns-in_err-answered-clause-met
-returns-in_err-answered-clause-met g c =
-    let m = c.in_err-answered.ensures.met in
+pub returns-in_err-answered-clause-aborted : goal.returns-in_err-answered-clause-aborted
+returns-in_err-answered-clause-aborted g c =
+    let m = c.in_err-answered.ensures.aborted in
     on_err c.from_residual.result _ (record {
       outcome = m.outcome;
       rows = m.rows;
@@ -63,8 +63,8 @@ returns-in_err-answered-clause-met g c =
       handover_aborted = m.handover_aborted;
     })
 
-pub returns-in_err-took-clause-met : goal.returns-in_err-took-clause-met
-returns-in_err-took-clause-met g c =
+pub returns-in_err-took-clause-aborted : goal.returns-in_err-took-clause-aborted
+returns-in_err-took-clause-aborted g c =
     let a = c.in_ok-answered.answered in
     on_err c.from_residual-in_err-took.result _ (record {
       outcome = keeper_outcome_view a.outcome;
@@ -73,7 +73,7 @@ returns-in_err-took-clause-met g c =
           (λ d. parsed_event d c.args.event.now (keeper_outcome_view a.outcome) a.rows) took c.perform_event.new.self c.perform_event.new.out c.in_ok-answered.ensures.done;
       between = keeper_state g.K.Keeper c.perform_event.new.keeper;
       asks = subst (λ (x : Directory). IsKeeperResult (call_of x.names c.args.event.now) (keeper_outcome_view a.outcome) a.rows (g.K.Keeper.contents c.args.keeper.now) (g.K.Keeper.contents c.perform_event.new.keeper)
-          (g.K.Keeper.calls c.args.keeper.now) (g.K.Keeper.calls c.perform_event.new.keeper)) c.begin_step.ensures.directory c.in_ok-answered.ensures.asked;
+          (g.K.Keeper.calls c.args.keeper.now) (g.K.Keeper.calls c.perform_event.new.keeper)) c.begin_step.ensures.directory c.in_ok-answered.ensures.keeper_result;
       counts = c.in_ok-answered.ensures.counted;
-      handover_aborted = c.in_err-took.ensures.met;
+      handover_aborted = c.in_err-took.ensures.aborted;
     })

@@ -38,8 +38,8 @@ returns-clause-keeper g c = IfOk-weaker c.step_at.result _ _ (λ a came.
     })
     c.step_at.ensures.done
 
-pub returns-in_err-fire_all_due-clause-met : goal.returns-in_err-fire_all_due-clause-met
-returns-in_err-fire_all_due-clause-met g c = on_err c.from_residual.result _ (record {
+pub returns-in_err-fire_all_due-clause-aborted : goal.returns-in_err-fire_all_due-clause-aborted
+returns-in_err-fire_all_due-clause-aborted g c = on_err c.from_residual.result _ (record {
   outcome = no_memory;
   rows = [];
   broke = λ took. cut_before c.numbers_never_fall.ensures c.args.self.now c.fire_all_due.new.self c.args.out.now c.fire_all_due.new.out (event_record c.args.event.now no_memory [] took) c.later_moment-clock.result
@@ -51,8 +51,8 @@ returns-in_err-fire_all_due-clause-met g c = on_err c.from_residual.result _ (re
   handover_aborted = (refl, (inl refl, refl));
 })
 
-pub returns-clause-met : goal.returns-clause-met
-returns-clause-met g c = on_err_weaker c.step_at.result (λ m.
+pub returns-clause-aborted : goal.returns-clause-aborted
+returns-clause-aborted g c = on_err_weaker c.step_at.result (λ m.
     record {
       outcome = m.outcome;
       rows = m.rows;
@@ -71,4 +71,4 @@ returns-clause-met g c = on_err_weaker c.step_at.result (λ m.
       counts = m.counts;
       handover_aborted = m.handover_aborted;
     })
-    c.step_at.ensures.met
+    c.step_at.ensures.aborted

@@ -10,8 +10,8 @@ returns-in-Some-clause-its c =
     ∙ in_force c.self.inside.slots.entries c.self.inside.registration_ends.entries c.args.account.0 (Some c.in-Some.place.now) c.in-Some.ensures.value
     ∙ ap (λ v. sheet_in v c.args.account.0) c.self.view_is
 
-pub returns-in-Some-clause-room : goal.returns-in-Some-clause-room
-returns-in-Some-clause-room c =
+pub returns-in-Some-clause-capacity : goal.returns-in-Some-clause-capacity
+returns-in-Some-clause-capacity c =
     IfSome-from c.as_ref.result
     (ap (λ v. has_space v c.args.account.0) (sym c.self.view_is) ∙ has_place c.self.inside.slots.entries c.self.inside.registration_ends.entries c.args.account.0 (sym (ap is_some c.in-Some.ensures.value)))
 

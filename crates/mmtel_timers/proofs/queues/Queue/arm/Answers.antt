@@ -15,7 +15,7 @@ abbrev more : goal.After-self-1 → List Queued
 more c = insert_entry queue_position_cmp c.self.inside.queue.entries (turn c) c.args.key
 
 left : (c : goal.After-self-1) → c.remove_position.new.queue.entries ≡ queue_without c.in_ok-earlier.earlier (more c)
-left c = c.remove_position.ensures.taken ∙ ap (queue_without c.in_ok-earlier.earlier) c.in_ok-earlier.ensures.queue
+left c = c.remove_position.ensures.removed ∙ ap (queue_without c.in_ok-earlier.earlier) c.in_ok-earlier.ensures.queue
 
 sorted : (c : goal.After-self-1) → IsStrictlySortedBy queue_position_cmp (keys_of (more c))
 sorted c = subst (λ (l : List Queued). IsStrictlySortedBy queue_position_cmp (keys_of l)) c.in_ok-earlier.ensures.queue c.in_ok-earlier.ensures.sorted

@@ -20,8 +20,8 @@ invariant_of-self-2 g c =
     let slot : Slot g.row.T.Denot = record { rank = c.rank-rank.result; block = c.replace-taken.new.b } in
     subst (AllByRecursion ranked) (sym c.in-Ok.ensures.items) (all_in ranked c.seek-place.result.position slot c.remove.new.self.items left (c.rank-rank.ensures ∙ ap g.T.Ranked.rank (sym c.replace-taken.ensures.after)))
 
-pub returns-clause-taken : goal.returns-clause-taken
-returns-clause-taken g c =
+pub returns-clause-removed : goal.returns-clause-removed
+returns-clause-removed g c =
     let slots = c.self.inside.items.items in
     let es = c.args.self.now in
     let is = c.replace-taken.ensures.value ∙ ap (λ b. b.value) c.into_block-block.ensures in

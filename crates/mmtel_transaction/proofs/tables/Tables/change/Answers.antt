@@ -69,9 +69,9 @@ invariant_of-self-then-entry g c =
     let f = change_effect c.args.change in
     let es = unboxed_items c.self.inside.entries.items in
     let at : position (is_of k) es ≡ Some c.in-Ok.place = c.in-Ok.ensures.found in
-    let m = subst (λ w. Removes w c.self.inside.due c.remove_deadline.new.due) c.deadline_key_of-before.ensures c.remove_deadline.ensures.taken in
-    let n = subst (λ w. Removes w c.self.inside.servers c.remove_match.new.names) c.server_search_key.ensures c.remove_match.ensures.taken in
-    let o = subst (λ w. Removes w c.self.inside.calls c.remove_match-then-entry.new.names) c.call_search_key.ensures c.remove_match-then-entry.ensures.taken in
+    let m = subst (λ w. Removes w c.self.inside.due c.remove_deadline.new.due) c.deadline_key_of-before.ensures c.remove_deadline.ensures.removed in
+    let n = subst (λ w. Removes w c.self.inside.servers c.remove_match.new.names) c.server_search_key.ensures c.remove_match.ensures.removed in
+    let o = subst (λ w. Removes w c.self.inside.calls c.remove_match-then-entry.new.names) c.call_search_key.ensures c.remove_match-then-entry.ensures.removed in
     let done = changed_server k f (keeps_made c.args.change) es c.self.inside.servers c.self.inside.clients c.self.inside.calls c.self.inside.due c.self.invariant c.in-Ok.place at c.deref_mut-entry.result.now (box_at k c.self.inside.entries.items c.in-Ok.place c.index_mut.result.now c.deref_mut-entry.result.now at c.index_mut.ensures.value c.deref_mut-entry.ensures.value) c.change_entry.new.entry c.remove_deadline.new.due c.remove_match.new.names c.remove_match-then-entry.new.names c.change_entry.ensures c.if-not-entry.false c.if-entry.true m n o in
     subst (λ xs. AreTables xs c.remove_match.new.names c.self.inside.clients c.remove_match-then-entry.new.names c.remove_deadline.new.due) (sym (removed_boxed c.self.inside.entries.items c.remove_entry.new.entries.items c.in-Ok.place (with_value c.index_mut.result.now c.change_entry.new.entry) c.remove_entry.ensures)) done.0
 
@@ -81,9 +81,9 @@ returns-then-entry g c =
     let f = change_effect c.args.change in
     let es = unboxed_items c.self.inside.entries.items in
     let at : position (is_of k) es ≡ Some c.in-Ok.place = c.in-Ok.ensures.found in
-    let m = subst (λ w. Removes w c.self.inside.due c.remove_deadline.new.due) c.deadline_key_of-before.ensures c.remove_deadline.ensures.taken in
-    let n = subst (λ w. Removes w c.self.inside.servers c.remove_match.new.names) c.server_search_key.ensures c.remove_match.ensures.taken in
-    let o = subst (λ w. Removes w c.self.inside.calls c.remove_match-then-entry.new.names) c.call_search_key.ensures c.remove_match-then-entry.ensures.taken in
+    let m = subst (λ w. Removes w c.self.inside.due c.remove_deadline.new.due) c.deadline_key_of-before.ensures c.remove_deadline.ensures.removed in
+    let n = subst (λ w. Removes w c.self.inside.servers c.remove_match.new.names) c.server_search_key.ensures c.remove_match.ensures.removed in
+    let o = subst (λ w. Removes w c.self.inside.calls c.remove_match-then-entry.new.names) c.call_search_key.ensures c.remove_match-then-entry.ensures.removed in
     let done = changed_server k f (keeps_made c.args.change) es c.self.inside.servers c.self.inside.clients c.self.inside.calls c.self.inside.due c.self.invariant c.in-Ok.place at c.deref_mut-entry.result.now (box_at k c.self.inside.entries.items c.in-Ok.place c.index_mut.result.now c.deref_mut-entry.result.now at c.index_mut.ensures.value c.deref_mut-entry.ensures.value) c.change_entry.new.entry c.remove_deadline.new.due c.remove_match.new.names c.remove_match-then-entry.new.names c.change_entry.ensures c.if-not-entry.false c.if-entry.true m n o in
     (removed_boxed c.self.inside.entries.items c.remove_entry.new.entries.items c.in-Ok.place (with_value c.index_mut.result.now c.change_entry.new.entry) c.remove_entry.ensures) ∙ (done.1 ∙ ap (table_after_change k f) c.self.view_is)
 
@@ -109,8 +109,8 @@ invariant_of-self-else-entry g c =
     let f = change_effect c.args.change in
     let es = unboxed_items c.self.inside.entries.items in
     let at : position (is_of k) es ≡ Some c.in-Ok.place = c.in-Ok.ensures.found in
-    let m = subst (λ w. Removes w c.self.inside.due c.remove_deadline-else-entry.new.due) c.deadline_key_of-before.ensures c.remove_deadline-else-entry.ensures.taken in
-    let n = subst (λ w. Removes w c.self.inside.clients c.remove_match-else-entry.new.names) c.client_search_key.ensures c.remove_match-else-entry.ensures.taken in
+    let m = subst (λ w. Removes w c.self.inside.due c.remove_deadline-else-entry.new.due) c.deadline_key_of-before.ensures c.remove_deadline-else-entry.ensures.removed in
+    let n = subst (λ w. Removes w c.self.inside.clients c.remove_match-else-entry.new.names) c.client_search_key.ensures c.remove_match-else-entry.ensures.removed in
     let done = changed_client k f (keeps_made c.args.change) es c.self.inside.servers c.self.inside.clients c.self.inside.calls c.self.inside.due c.self.invariant c.in-Ok.place at c.deref_mut-entry.result.now (box_at k c.self.inside.entries.items c.in-Ok.place c.index_mut.result.now c.deref_mut-entry.result.now at c.index_mut.ensures.value c.deref_mut-entry.ensures.value) c.change_entry.new.entry c.remove_deadline-else-entry.new.due c.remove_match-else-entry.new.names c.change_entry.ensures c.if-not-entry.false c.if-entry.false m n in
     subst (λ xs. AreTables xs c.self.inside.servers c.remove_match-else-entry.new.names c.self.inside.calls c.remove_deadline-else-entry.new.due) (sym (removed_boxed c.self.inside.entries.items c.remove_entry-else-entry.new.entries.items c.in-Ok.place (with_value c.index_mut.result.now c.change_entry.new.entry) c.remove_entry-else-entry.ensures)) done.0
 
@@ -120,8 +120,8 @@ returns-else-entry g c =
     let f = change_effect c.args.change in
     let es = unboxed_items c.self.inside.entries.items in
     let at : position (is_of k) es ≡ Some c.in-Ok.place = c.in-Ok.ensures.found in
-    let m = subst (λ w. Removes w c.self.inside.due c.remove_deadline-else-entry.new.due) c.deadline_key_of-before.ensures c.remove_deadline-else-entry.ensures.taken in
-    let n = subst (λ w. Removes w c.self.inside.clients c.remove_match-else-entry.new.names) c.client_search_key.ensures c.remove_match-else-entry.ensures.taken in
+    let m = subst (λ w. Removes w c.self.inside.due c.remove_deadline-else-entry.new.due) c.deadline_key_of-before.ensures c.remove_deadline-else-entry.ensures.removed in
+    let n = subst (λ w. Removes w c.self.inside.clients c.remove_match-else-entry.new.names) c.client_search_key.ensures c.remove_match-else-entry.ensures.removed in
     let done = changed_client k f (keeps_made c.args.change) es c.self.inside.servers c.self.inside.clients c.self.inside.calls c.self.inside.due c.self.invariant c.in-Ok.place at c.deref_mut-entry.result.now (box_at k c.self.inside.entries.items c.in-Ok.place c.index_mut.result.now c.deref_mut-entry.result.now at c.index_mut.ensures.value c.deref_mut-entry.ensures.value) c.change_entry.new.entry c.remove_deadline-else-entry.new.due c.remove_match-else-entry.new.names c.change_entry.ensures c.if-not-entry.false c.if-entry.false m n in
     (removed_boxed c.self.inside.entries.items c.remove_entry-else-entry.new.entries.items c.in-Ok.place (with_value c.index_mut.result.now c.change_entry.new.entry) c.remove_entry-else-entry.ensures) ∙ (done.1 ∙ ap (table_after_change k f) c.self.view_is)
 

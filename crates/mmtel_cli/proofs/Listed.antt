@@ -2,7 +2,7 @@
 use Rattle.std.proofs.Common.{◌≡◌, ℕ, List, Result, Ok, Err, IfOk}
 use Rattle.mmtel_directory.specs.declared.directories.Directory.{Directory}
 use Rattle.mmtel_records_in_force.specs.Texts.{Texts}
-use Rattle.mmtel_listing.specs.Listing.{listing_of}
+use Rattle.mmtel_script.specs.Listing.{listing_of}
 use Rattle.mmtel_environment.specs.declared.events.Event.{Event}
 use Rattle.mmtel_environment.specs.declared.events.Offer.{Offer}
 use Rattle.mmtel_server.specs.States.{KeeperState}

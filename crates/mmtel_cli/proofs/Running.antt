@@ -13,9 +13,9 @@ use Rattle.mmtel_run_theorems.specs.SentBytes.{PeersAreApart}
 use Rattle.mmtel_run_theorems.specs.Noninterference.{ConfigurationsAreRead}
 use Rattle.mmtel_server.specs.States.{KeeperState}
 use Rattle.mmtel_script.specs.Script.{events_of}
-use Rattle.mmtel_uploads.specs.Uploads.{upload_of}
-use Rattle.mmtel_uploads.specs.declared.uploads.Upload.{Upload}
-use Rattle.mmtel_uploads.specs.declared.uploads.Upload.TheVariants as upload
+use Rattle.mmtel_sheet_reader.specs.Uploads.{upload_of}
+use Rattle.mmtel_sheet_reader.specs.declared.uploads.Upload.{Upload}
+use Rattle.mmtel_sheet_reader.specs.declared.uploads.Upload.TheVariants as upload
 use Rattle.mmtel_cli.proofs.NoInjection.{Suits, directory_suits, token_has_no_injection, well_formed}
 use Rattle.mmtel_words.specs.CommandLine.{ReplayArgs, Command, Serve, Replay, Check, Charges, Workload, IsCommand, is_token}
 use Rattle.mmtel_cli.specs.Commands.{AsksFor, IsOnly, SpellsNone}

@@ -11,12 +11,12 @@ use Rattle.mmtel_link.specs.LinkStates.{LinkCalls, fails_next}
 use Rattle.mmtel_environment.specs.Counts.{Rose}
 use Rattle.mmtel_environment.specs.FileStore.{FileStore, next_read, with_next_call}
 use Rattle.mmtel_environment.specs.declared.events.Event.{Event}
-use Rattle.mmtel_listing.specs.Listing.{listing_of}
+use Rattle.mmtel_script.specs.Listing.{listing_of}
 use Rattle.mmtel_script.specs.Script.{events_of}
 use Rattle.mmtel_base.proofs.ChainTheorems.{some_is}
-use Rattle.mmtel_uploads.specs.Uploads.{upload_of}
-use Rattle.mmtel_uploads.specs.declared.uploads.Upload.{Upload}
-use Rattle.mmtel_uploads.specs.declared.uploads.Upload.TheVariants as upload
+use Rattle.mmtel_sheet_reader.specs.Uploads.{upload_of}
+use Rattle.mmtel_sheet_reader.specs.declared.uploads.Upload.{Upload}
+use Rattle.mmtel_sheet_reader.specs.declared.uploads.Upload.TheVariants as upload
 use Rattle.mmtel_words.specs.CommandLine.{ReplayArgs, Command, Serve, Replay, Check, Charges, Workload, IsCommand}
 use Rattle.mmtel_cli.specs.Commands.{IsServe, IsReplay, IsCheck, IsCharges, IsWorkload, IsOnly, SpellsNone}
 use Rattle.mmtel_reports.specs.WriteEffects.{WroteListing, WroteNothing, WriteEffect}

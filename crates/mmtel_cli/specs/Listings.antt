@@ -16,7 +16,7 @@ use Rattle.mmtel_run_definitions.specs.Run.{IsEnough, state_after}
 use Rattle.mmtel_run_definitions.specs.ShortRuns.{IsShortRun}
 use Rattle.mmtel_run_definitions.specs.Transitions.{RunState}
 use Rattle.mmtel_run_theorems.specs.Noninterference.{IsIndistinguishable}
-use Rattle.mmtel_listing.specs.Listing.{listing_of}
+use Rattle.mmtel_script.specs.Listing.{listing_of}
 use Rattle.mmtel_server.specs.DriveEffects.{CountsEachFault, EachKeeperResult, with_uploads_and_rows}
 use Rattle.mmtel_server.specs.Charged.{ChargesRows}
 use Rattle.mmtel_server.specs.States.{KeeperState}

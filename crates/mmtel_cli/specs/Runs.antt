@@ -16,12 +16,12 @@ use Rattle.mmtel_run_theorems.specs.NoInjection.{SendsNoInjection}
 use Rattle.mmtel_run_theorems.specs.Outcome.{AllCallsReachOutcome}
 use Rattle.mmtel_run_theorems.specs.ChargingRecords.{ParticipantsChargedOnce}
 use Rattle.mmtel_run_theorems.specs.Noninterference.{BranchesAreRead}
-use Rattle.mmtel_listing.specs.Listing.{listing_of}
+use Rattle.mmtel_script.specs.Listing.{listing_of}
 use Rattle.mmtel_script.specs.Script.{events_of}
 use Rattle.mmtel_server.specs.States.{KeeperState}
-use Rattle.mmtel_uploads.specs.Uploads.{upload_of}
-use Rattle.mmtel_uploads.specs.declared.uploads.Upload.{Upload}
-use Rattle.mmtel_uploads.specs.declared.uploads.Upload.TheVariants as upload
+use Rattle.mmtel_sheet_reader.specs.Uploads.{upload_of}
+use Rattle.mmtel_sheet_reader.specs.declared.uploads.Upload.{Upload}
+use Rattle.mmtel_sheet_reader.specs.declared.uploads.Upload.TheVariants as upload
 use Rattle.mmtel_words.specs.CommandLine.{ReplayArgs, Serve, Replay, Check, Charges, Workload}
 use Rattle.mmtel_cli.specs.Commands.{IsServe, IsReplay, IsCheck, IsCharges, IsWorkload, IsOnly, SpellsNone}
 use Rattle.mmtel_cli.specs.Due.{due_of_charges, due_of_config, files_after_config}

@@ -10,9 +10,9 @@ use Rattle.mmtel_environment.specs.Counts.{Rose}
 use Rattle.mmtel_environment.specs.FileStore.{FileStore, next_read, with_next_call}
 use Rattle.mmtel_environment.specs.declared.events.Event.{Event}
 use Rattle.mmtel_script.specs.Script.{events_of}
+use Rattle.mmtel_sheet_reader.specs.Uploads.{upload_of}
+use Rattle.mmtel_sheet_reader.specs.declared.uploads.Upload.TheVariants.{Accepted, Refused}
 use Rattle.mmtel_sheet_values.specs.declared.values.Sheet.{Sheet}
-use Rattle.mmtel_uploads.specs.Uploads.{upload_of}
-use Rattle.mmtel_uploads.specs.declared.uploads.Upload.TheVariants.{Accepted, Refused}
 use Rattle.mmtel_words.specs.CommandLine.{ReplayArgs}
 use Rattle.mmtel_cli.specs.Commands.{IsServe, IsReplay, IsCheck, IsCharges, IsWorkload, SpellsNone}
 use Rattle.mmtel_reports.specs.WriteEffects.{WroteListing, WriteEffect}

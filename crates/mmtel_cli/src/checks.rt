@@ -9,7 +9,7 @@ ghost use Rattle.mmtel_server.specs.States.{KeeperState};
 use mmtel_base::{NoMemory, Text};
 use mmtel_environment::{FileFault, Files};
 use mmtel_reports::Report;
-use mmtel_uploads::{Upload, upload_of};
+use mmtel_sheet_reader::{Upload, upload_of};
 use std::alloc::Global;
 
 /// The report for a text that is checked.

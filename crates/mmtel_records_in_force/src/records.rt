@@ -9,13 +9,13 @@ ghost use Rattle.mmtel_sheet_values.specs.Sheets.{empty_sheet};
 ghost use Rattle.mmtel_sheet_values.specs.View.{is_registered, registration_end_in};
 
 use mmtel_base::{NoMemory, Text};
+use mmtel_sheet_reader::stored_sheet;
+use mmtel_sheet_reader::theorems::the_empty_text_is_the_empty_sheet;
 use mmtel_sheet_texts::SheetTexts;
 use mmtel_sheet_texts::theorems::puts_change_one_account;
 use mmtel_sheet_values::theorems::putting_changes_one_account;
 use mmtel_sheet_values::{SharedSheet, Sheet, SheetView};
 use mmtel_types::{Account, Moment};
-use mmtel_uploads::stored_sheet;
-use mmtel_uploads::theorems::the_empty_text_is_the_empty_sheet;
 use std::alloc::Global;
 use std::marker::Model;
 

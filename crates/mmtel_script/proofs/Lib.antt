@@ -1,3 +1,4 @@
 pub mod HexTheorems
 pub mod ReadBackTheorems
 pub mod EventDraftTheorems
+pub mod Pieces

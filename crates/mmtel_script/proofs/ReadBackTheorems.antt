@@ -12,7 +12,7 @@ use Rattle.mmtel_base.proofs.ChainTheorems.{guard_some}
 use Rattle.mmtel_base.proofs.Runs.{and_true}
 use Rattle.mmtel_trust.specs.declared.known_peers.KnownPeer.{KnownPeer}
 use Rattle.mmtel_directory.specs.Lines.{lines_of}
-use Rattle.mmtel_listing.specs.Listing.{cut, pieces_of, before_crlf, is_plain, hex_digit, hex_pair, hex_line, line_before, piece_line, data_lines}
+use Rattle.mmtel_script.specs.Listing.{cut, pieces_of, before_crlf, is_plain, hex_digit, hex_pair, hex_line, line_before, piece_line, data_lines}
 use Rattle.mmtel_script.specs.Script.{hex_value, hex_bytes, line_of}
 use Rattle.mmtel_script.specs.declared.script_lines.ScriptLine.{ScriptLine}
 use Rattle.mmtel_script.specs.declared.script_lines.ScriptLine.TheVariants.{Data}

@@ -3,7 +3,7 @@ use Rattle.std.specs.Prelude.{ℕ, true, nat_lt, List, map, Some, ◌≡◌}
 use Rattle.std.specs.List.{list_all, flat_map}
 use Rattle.mmtel_trust.specs.declared.known_peers.KnownPeer.{KnownPeer}
 use Rattle.mmtel_directory.specs.Lines.{lines_of}
-use Rattle.mmtel_listing.specs.Listing.{data_lines}
+use Rattle.mmtel_script.specs.Listing.{data_lines}
 use Rattle.mmtel_script.specs.Script.{line_of}
 use Rattle.mmtel_script.specs.declared.script_lines.ScriptLine.TheVariants.{Data}
 

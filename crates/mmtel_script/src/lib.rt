@@ -3,11 +3,12 @@
 
 mod event_drafts;
 mod links;
+mod listings;
 mod script_lines;
 mod scripts;
 mod theorems;
 
 pub use links::ScriptLink;
-pub use mmtel_listing::listing;
+pub use listings::listing;
 pub use scripts::ScriptFault;
 pub use theorems::listed_bytes_read_back;

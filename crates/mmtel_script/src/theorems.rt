@@ -1,6 +1,6 @@
 //! A theorem about the listing of bytes: the contract of a function that does nothing.
 ghost use Rattle.std.specs.Prelude.{◌≡◌, ℕ, List};
-ghost use Rattle.mmtel_listing.specs.Listing.{data_lines};
+ghost use Rattle.mmtel_script.specs.Listing.{data_lines};
 ghost use Rattle.mmtel_script.specs.ReadBack.{AreBytes, ReadsBack};
 ghost use Rattle.mmtel_trust.specs.declared.known_peers.KnownPeer.{KnownPeer};
 

@@ -2,6 +2,7 @@ pub mod ActionTheorems
 pub mod Ascii
 pub mod DayItems
 pub mod Documents
+pub mod EmptyText
 pub mod ReadValues
 pub mod Items
 pub mod KeyNames
@@ -15,5 +16,6 @@ pub mod ReadTables
 pub mod RuleItems
 pub mod Sounds
 pub mod BytesRead
+pub mod UploadTheorems
 pub mod UriTexts
 pub mod Walks

@@ -3,10 +3,10 @@
 use crate::asserting::assert_right;
 use crate::reading::read_tables;
 use mmtel_base::number_up_to;
+use mmtel_sheet_reader::stored_sheet;
 use mmtel_sheet_values::{SharedSheet, Sheet, SheetView};
 use mmtel_test_tables::{RowRunner, Transcript, split_or_all, wrong_line};
 use mmtel_types::{Account, Moment};
-use mmtel_uploads::stored_sheet;
 use std::alloc::Global;
 
 /// A view, and one of its sheets that is kept.

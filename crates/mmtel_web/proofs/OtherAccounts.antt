@@ -9,10 +9,10 @@ use Rattle.mmtel_http.specs.Resources.{method_of}
 use Rattle.mmtel_http.specs.Requests.{HttpRequestView, parsed}
 use Rattle.mmtel_http.specs.declared.resources.Method.{Method}
 use Rattle.mmtel_http.specs.declared.resources.Method.TheVariants as method
+use Rattle.mmtel_sheet_reader.specs.Uploads.{upload_of}
+use Rattle.mmtel_sheet_reader.specs.declared.uploads.Upload.{Upload}
+use Rattle.mmtel_sheet_reader.specs.declared.uploads.Upload.TheVariants.{Accepted, Refused}
 use Rattle.mmtel_sheet_texts.specs.Texts.{text_at}
-use Rattle.mmtel_uploads.specs.Uploads.{upload_of}
-use Rattle.mmtel_uploads.specs.declared.uploads.Upload.{Upload}
-use Rattle.mmtel_uploads.specs.declared.uploads.Upload.TheVariants.{Accepted, Refused}
 use Rattle.mmtel_web.specs.Agreement.{AgreeOnIdentities, IsRequestForRecordOf}
 use Rattle.mmtel_web.specs.Handling.{KeeperOutcomeView, account_record_action, empty_reply, is_toml, record_action, reply_to, sheet_action, upload_action, web_of, web_reply}
 use Rattle.mmtel_web.specs.Parties.{identity_of, is_own, may_access}

@@ -10,11 +10,11 @@ use Rattle.mmtel_http.specs.declared.resources.Resource.{Resource}
 use Rattle.mmtel_http.specs.declared.resources.Resource.TheVariants as place
 use Rattle.mmtel_sheet_grammar.specs.ReadResults.{Read}
 use Rattle.mmtel_sheet_grammar.specs.Texts.{sheet_or_empty, sheet_read, stored_sheet}
+use Rattle.mmtel_sheet_reader.specs.Uploads.{upload_of, upload_of_read}
+use Rattle.mmtel_sheet_reader.specs.declared.uploads.Upload.{Upload}
+use Rattle.mmtel_sheet_reader.specs.declared.uploads.Upload.TheVariants.{Accepted, Refused}
 use Rattle.mmtel_sheet_values.specs.declared.values.Sheet.{Sheet}
 use Rattle.mmtel_types.specs.declared.numbers.Account.{Account}
-use Rattle.mmtel_uploads.specs.Uploads.{upload_of, upload_of_read}
-use Rattle.mmtel_uploads.specs.declared.uploads.Upload.{Upload}
-use Rattle.mmtel_uploads.specs.declared.uploads.Upload.TheVariants.{Accepted, Refused}
 use Rattle.mmtel_web.specs.Handling.{KeeperOutcomeView, account_record_action, charges_action, empty_reply, is_toml, record_action, resource_action, sheet_action, upload_action, web_of}
 use Rattle.mmtel_web.specs.Mailboxes.{account_mailbox_action, counts_put_by, mailbox_put_action}
 use Rattle.mmtel_web.specs.Parties.{identity_of, is_operator, may_access}

@@ -13,9 +13,9 @@ use Rattle.mmtel_http.specs.declared.resources.Resource.{Resource}
 use Rattle.mmtel_http.specs.declared.resources.Resource.TheVariants as place
 use Rattle.mmtel_http.specs.declared.resources.Method.{Method}
 use Rattle.mmtel_http.specs.declared.resources.Method.TheVariants as method
-use Rattle.mmtel_uploads.specs.Uploads.{upload_of}
-use Rattle.mmtel_uploads.specs.declared.uploads.Upload.{Upload}
-use Rattle.mmtel_uploads.specs.declared.uploads.Upload.TheVariants.{Accepted, Refused}
+use Rattle.mmtel_sheet_reader.specs.Uploads.{upload_of}
+use Rattle.mmtel_sheet_reader.specs.declared.uploads.Upload.{Upload}
+use Rattle.mmtel_sheet_reader.specs.declared.uploads.Upload.TheVariants.{Accepted, Refused}
 use Rattle.mmtel_web.specs.Mailboxes.{counts_reply, mailbox_action}
 use Rattle.mmtel_web.specs.Parties.{identity_of, may_access, is_operator}
 pub use Rattle.mmtel_web.specs.Replies.{KeeperOutcomeView, empty_reply, failed, is_toml, made, no_memory, not_allowed, toml_type}

@@ -10,8 +10,8 @@ use Rattle.mmtel_mwi.specs.Counting.{counts_read}
 use Rattle.mmtel_mwi.specs.declared.counts.Counts.{Counts}
 use Rattle.mmtel_sheet_grammar.specs.ReadResults.{Read}
 use Rattle.mmtel_sheet_grammar.specs.declared.faults.SheetFault.{SheetFault}
+use Rattle.mmtel_sheet_reader.specs.Uploads.{fault_text}
 use Rattle.mmtel_types.specs.declared.numbers.Account.{Account}
-use Rattle.mmtel_uploads.specs.Uploads.{fault_text}
 use Rattle.mmtel_web.specs.Parties.{identity_of, is_operator}
 use Rattle.mmtel_web.specs.Replies.{KeeperOutcomeView, empty_reply, failed, is_toml, made, no_memory, not_allowed}
 use Rattle.mmtel_web.specs.declared.handling.Web.{Web}

@@ -6,8 +6,8 @@ ghost use Rattle.mmtel_http.specs.Resources.{resource_of};
 ghost use Rattle.mmtel_http.specs.Replies.{reply_text};
 ghost use Rattle.mmtel_http.specs.Requests.{request_of};
 ghost use Rattle.mmtel_http.specs.Views.{http_request_view};
+ghost use Rattle.mmtel_sheet_reader.specs.Uploads.{upload_of};
 ghost use Rattle.mmtel_sheet_texts.specs.Texts.{text_at};
-ghost use Rattle.mmtel_uploads.specs.Uploads.{upload_of};
 ghost use Rattle.mmtel_web.specs.Handling.{empty_reply, not_allowed, upload_action, is_toml, record_action, account_record_action, sheet_action, charges_action, resource_action, web_of, reply_of};
 ghost use Rattle.mmtel_web.specs.Mailboxes.{account_mailbox_action, fault_reply, mailbox_action, mailbox_document_action, mailbox_put_action, operator_mailbox_action};
 ghost use Rattle.mmtel_sheet_grammar.specs.declared.faults.SheetFault.TheVariants as kinds;
@@ -20,10 +20,10 @@ use mmtel_http::{
     HttpRequest, Method, ParsedRequest, Resource, method_of, parse_request, reply_text, resource_of,
 };
 use mmtel_sheet_grammar::SheetFault;
+use mmtel_sheet_reader::{Upload, fault_text, upload_of};
 use mmtel_sheet_texts::SheetTexts;
 use mmtel_sheet_values::Sheet;
 use mmtel_types::Account;
-use mmtel_uploads::{Upload, fault_text, upload_of};
 use std::alloc::Global;
 
 /// What the server does for a request.

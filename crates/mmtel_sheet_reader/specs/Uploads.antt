@@ -5,8 +5,8 @@ use Rattle.mmtel_sheet_grammar.specs.Texts.{sheet_read}
 use Rattle.mmtel_sheet_grammar.specs.declared.faults.SheetFault.{SheetFault}
 use Rattle.mmtel_sheet_grammar.specs.declared.faults.SheetFault.TheVariants.{NotToml, Unknown, Wrong, Many, NoMemory}
 use Rattle.mmtel_sheet_values.specs.declared.values.Sheet.{Sheet}
-use Rattle.mmtel_uploads.specs.declared.uploads.Upload.{Upload}
-use Rattle.mmtel_uploads.specs.declared.uploads.Upload.TheVariants.{Accepted, Refused}
+use Rattle.mmtel_sheet_reader.specs.declared.uploads.Upload.{Upload}
+use Rattle.mmtel_sheet_reader.specs.declared.uploads.Upload.TheVariants.{Accepted, Refused}
 
 -- the line with the fault
 abbrev pub fault_text : SheetFault → List ℕ

@@ -3,7 +3,7 @@ use Rattle.std.proofs.Common.{◌≡◌, ◌==◌, ◌&&◌, Bool, true, false, 
 use Rattle.std.proofs.lemmas.List.{drop_all}
 use Rattle.std.proofs.lemmas.Bool.{cases_Bool}
 use Rattle.std.specs.List.{onto_first}
-use Rattle.mmtel_listing.specs.Listing.{cut}
+use Rattle.mmtel_script.specs.Listing.{cut}
 
 -- how many bytes the first piece has
 abbrev pub piece_len : Bool → List ℕ → ℕ

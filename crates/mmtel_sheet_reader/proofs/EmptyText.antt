@@ -8,8 +8,8 @@ use Rattle.toml_parser.specs.Lexical.{skip_from}
 use Rattle.mmtel_sheet_grammar.specs.Texts.{sheet_read, document_read}
 use Rattle.mmtel_sheet_grammar.specs.declared.faults.SheetFault.TheVariants.{NotToml}
 use Rattle.mmtel_sheet_values.specs.Sheets.{empty_sheet}
-use Rattle.mmtel_uploads.specs.Uploads.{upload_of, upload_of_read}
-use Rattle.mmtel_uploads.specs.declared.uploads.Upload.TheVariants.{Accepted}
+use Rattle.mmtel_sheet_reader.specs.Uploads.{upload_of, upload_of_read}
+use Rattle.mmtel_sheet_reader.specs.declared.uploads.Upload.TheVariants.{Accepted}
 
 text : is_utf8 [] ≡ true
 unfolding is_utf8 chars

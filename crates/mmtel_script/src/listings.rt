@@ -2,7 +2,7 @@
 ghost use Rattle.std.specs.Prelude.{◌≡◌, ◌≤◌, ◌<◌, ◌++◌, ◌∷◌, length, take, drop, decimal, codes, IfOk, OnOk};
 ghost use Rattle.std.specs.Option.{option_copied};
 ghost use Rattle.std.specs.List.{list_all};
-ghost use Rattle.mmtel_listing.specs.Listing.{before_crlf, is_plain, hex_digit, hex_line, marked_line, piece_line, pieces_of, data_lines, offer_lines, listing_of};
+ghost use Rattle.mmtel_script.specs.Listing.{before_crlf, is_plain, hex_digit, hex_line, marked_line, piece_line, pieces_of, data_lines, offer_lines, listing_of};
 
 use mmtel_base::{List, NoMemory, Text, add_number};
 use mmtel_environment::Offer;

@@ -1,8 +1,8 @@
 use Rattle.std.proofs.Common.{◌≡◌, ◌==◌, ◌&&◌, true, get_or, arith}
 use Rattle.std.proofs.lemmas.Bool.Decides.{nat_tests}
 use Rattle.std.proofs.lemmas.Grind.{common_steps}
-use Rattle.mmtel_listing.proofs.Pieces.{first_of, stops_at, runs_out}
-use Rattle.mmtel_listing.proofs.listings.first_piece_len.Goals as goal
+use Rattle.mmtel_script.proofs.Pieces.{first_of, stops_at, runs_out}
+use Rattle.mmtel_script.proofs.listings.first_piece_len.Goals as goal
 
 pub returns-then-byte-eq10-clause-first : goal.returns-then-byte-eq10-clause-first
 returns-then-byte-eq10-clause-first c =

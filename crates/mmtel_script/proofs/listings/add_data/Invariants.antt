@@ -1,6 +1,6 @@
 use Rattle.std.proofs.Common.{◌≡◌, ◌++◌, length}
-use Rattle.mmtel_listing.specs.Listing.{data_lines}
-use Rattle.mmtel_listing.proofs.listings.add_data.Given as goal
+use Rattle.mmtel_script.specs.Listing.{data_lines}
+use Rattle.mmtel_script.proofs.listings.add_data.Given as goal
 
 abbrev pub invariant-pieces : goal.invariant-pieces
 invariant-pieces l = l.out ++ data_lines l.rest ≡ l.fn.out ++ data_lines l.bytes

@@ -1,14 +1,14 @@
-//! The content of an upload.
+//! The content of a text that is uploaded, checked or stored: a record, or the line with its first fault.
 ghost use Rattle.std.specs.Prelude.{◌≡◌, ◌≢◌, ◌++◌, ◌∷◌, [], IfOk, OnOk, codes, decimal};
-ghost use Rattle.mmtel_uploads.specs.Uploads.{upload_of, fault_text};
+ghost use Rattle.mmtel_sheet_reader.specs.Uploads.{upload_of, fault_text};
 ghost use Rattle.mmtel_sheet_grammar.specs.Texts.{stored_sheet};
 ghost use Rattle.mmtel_sheet_values.specs.Sheets.{empty_sheet};
 ghost use Rattle.mmtel_sheet_grammar.specs.declared.faults.SheetFault.TheVariants as kinds;
 
+use crate::reading::read_sheet;
 use itoa::Buffer;
 use mmtel_base::{NoMemory, Text};
 use mmtel_sheet_grammar::SheetFault;
-use mmtel_sheet_reader::read_sheet;
 use mmtel_sheet_values::Sheet;
 use std::alloc::Global;
 

@@ -1,5 +1,5 @@
-use Rattle.mmtel_uploads.proofs.UploadTheorems.{is_accepted, is_refused}
-use Rattle.mmtel_uploads.proofs.uploads.upload_of.Goals as goal
+use Rattle.mmtel_sheet_reader.proofs.UploadTheorems.{is_accepted, is_refused}
+use Rattle.mmtel_sheet_reader.proofs.uploads.upload_of.Goals as goal
 
 pub returns-in-Ok : goal.returns-in-Ok
 returns-in-Ok c = record { exact = is_accepted c.args.bytes.now c.in-Ok.sheet c.in-Ok.ensures.total }

@@ -95,7 +95,7 @@ impl Entry {
         match &self.call.phase {
             Phase::Offered(x) => account_of(x.attempt.service.as_ref()),
             Phase::Established(x, _) => account_of(x.service.as_ref()),
-            Phase::Detached(loan) => account_of(loan.service.as_ref()),
+            Phase::Detached(detached) => account_of(detached.service.as_ref()),
             Phase::Over(_) => None,
         }
     }

@@ -77,7 +77,7 @@ fn give_up_entry(entry: Entry, at: Moment) {
 /// Spends these calls and their entries.
 fn give_up_all(entries: Vec<Box<Entry>>) {
     let mut entries = entries;
-    'given: while let Some(entry) = entries.pop() {
+    'entries: while let Some(entry) = entries.pop() {
         give_up_entry(Box::into_inner(entry), beginning());
     }
     entries.destroy_empty();

@@ -97,9 +97,9 @@ fn put_waiting(index: &mut Index, phase: &Phase, call: CallNo, stays: bool)
 {
     match waits_on(phase) {
         None => {}
-        Some(invitation) => {
+        Some(sent_invite) => {
             index.put(
-                Mark::Branch(hash_of(invitation.branch.bytes())),
+                Mark::Branch(hash_of(sent_invite.branch.bytes())),
                 call.0,
                 stays,
             )
@@ -149,7 +149,7 @@ fn put_dialogs(index: &mut Index, phase: &Phase, call: CallNo, stays: bool)
         Phase::Established(x, _) => {
             put_both_dialogs(index, x.caller.dialogue(), x.callee.dialogue(), call, stays)
         }
-        Phase::Detached(loan) => put_dialog(index, loan.remaining.dialogue(), call, stays),
+        Phase::Detached(detached) => put_dialog(index, detached.remaining.dialogue(), call, stays),
         Phase::Over(_) => {}
     }
 }

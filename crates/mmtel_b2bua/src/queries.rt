@@ -75,7 +75,7 @@ fn side_by_dialog(name: DialogName<'_>, entry: &Entry) -> Option<Side>
     match &entry.call.phase {
         Phase::Offered(x) => side_in_offered(name, x),
         Phase::Established(x, _) => side_in_established(name, x),
-        Phase::Detached(loan) => side_in_remaining(name, &loan.remaining),
+        Phase::Detached(detached) => side_in_remaining(name, &detached.remaining),
         Phase::Over(_) => None,
     }
 }
@@ -161,12 +161,12 @@ impl Entry {
         match &self.call.phase {
             Phase::Offered(x) => Some(party_in_offered(origin, side, x)),
             Phase::Established(x, _) => Some(party_in_established(origin, side, x)),
-            Phase::Detached(loan) => {
+            Phase::Detached(detached) => {
                 party_in_remaining(
                     origin,
-                    account_of(loan.service.as_ref()),
+                    account_of(detached.service.as_ref()),
                     side,
-                    &loan.remaining,
+                    &detached.remaining,
                 )
             }
             Phase::Over(_) => None,

@@ -135,14 +135,14 @@ there config op earlier m holds call (Opens s o) =
     (record { start = s; events = [] }, subst (λ m. trace_of config m (op ∷ earlier) ≡ Some (record { start = s; events = [] })) same (begins config op earlier s o.opens).trace)
 there config op earlier m holds call (ComesTo p e z event c) =
     let (trace, l) = entry-lives config earlier p e holds c.found in
-    let of_e : call_of config op (table_after config earlier) ≡ Some (number_of e) = λ i. number_by (c.opens i) (c.met i) in
+    let of_e : call_of config op (table_after config earlier) ≡ Some (number_of e) = λ i. number_by (c.opens i) (c.entry i) in
     let both : Some (number_of e) ≡ Some m = sym of_e ∙ call in
     let same : number_of e ≡ m = cc in (
       record trace { events = event ∷ trace.events },
       subst (λ m. trace_of config m (op ∷ earlier) ≡ Some (record trace { events = event ∷ trace.events })) same (goes-so config op earlier
           (number_of e) trace event c.opens c.came of_e l.is).is,
     )
-there config op earlier m holds call (Nobodys o) = absurd (none-some m ((λ i. number_by (sym o.opens i) (sym o.met i)) ∙ call))
+there config op earlier m holds call (Nobodys o) = absurd (none-some m ((λ i. number_by (sym o.opens i) (sym o.entry i)) ∙ call))
 
 op-all : CallsContinue → ChargingIsExact → (config : CallConfigView) (op : TableOp) (earlier : List TableOp) (m : ℕ) → HasNumbers config (op ∷ earlier) → ArePutBack config (op ∷ earlier) →
     call_of config op (table_after config earlier) ≡ Some m →

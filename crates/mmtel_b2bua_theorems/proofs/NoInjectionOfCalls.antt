@@ -187,7 +187,7 @@ ends-no-injection clean_law finished_law goes charged config ops number start re
 
 pub send_no_injection : EmitsHaveNoInjection → EmitsHaveOwnFields → FinishEmitsHaveNoInjection → CallsContinue → ChargingIsExact → CallsSendNoInjection
 send_no_injection clean_law lines_law finished_law goes charged = record {
-  clean = sends EmitHasNoInjection clean_law goes charged;
+  no_injection = sends EmitHasNoInjection clean_law goes charged;
   own_fields = sends SendsOwnFields lines_law goes charged;
   finished = ends-no-injection clean_law finished_law goes charged;
 }

@@ -126,7 +126,7 @@ passed-brings config op earlier n trace holds p is =
 
 nobody-holds : (config : CallConfigView) (op : TableOp) (earlier : List TableOp) → Holds config earlier → IsNobodys config op (table_after config earlier) → Holds config (op ∷ earlier)
 nobody-holds config op earlier holds o =
-    let call : call_of config op (table_after config earlier) ≡ None = λ i. number_by (o.opens i) (o.met i) in
+    let call : call_of config op (table_after config earlier) ≡ None = λ i. number_by (o.opens i) (o.entry i) in
     let pass : (n : ℕ) → Passes config op earlier n = λ n. passes config op earlier n (ap (is_number n) call) in
     record {
       rising = subst (λ es. Rising 0 es (table_after_op config op (table_after config earlier)).opened) (sym o.entries) (subst (Rising 0 (table_after config earlier).entries)
@@ -280,7 +280,7 @@ come-holds stay config op earlier p e z event holds c =
     let n = number_of e in
     let (trace, l) = entry-lives config earlier p e holds c.found in
     let b = holds.brings n trace l.is in
-    let call : call_of config op table ≡ Some n = λ i. number_by (c.opens i) (c.met i) in
+    let call : call_of config op table ≡ Some n = λ i. number_by (c.opens i) (c.entry i) in
     let g = goes-so config op earlier n trace event c.opens c.came call l.is in
     let next = next-entry stay config e z n trace event l.entry b.opening.0 b.opening.1 c.call c.invites in
     let pass : (m : ℕ) → n ≢ m → Passes config op earlier m = λ m other. passes config op earlier m (ap (is_number m) call ∙ number-differs n m other) in

@@ -53,7 +53,7 @@ set-stays es place z h = ap (λ b. if b then remove (slice_set es place z) place
 -- an event of a call that is in the table
 pub record Comes (config : CallConfigView) (op : TableOp) (table : Table) (p : Entry → Bool) (e z : Entry) (event : CallEvent) : Type 0 where
   pub opens : opening_by config op table ≡ None
-  pub met : entry_by op table.entries ≡ Some e
+  pub entry : entry_by op table.entries ≡ Some e
   pub came : event_by op (number_of e) table.entries ≡ Some event
   pub found : find p table.entries ≡ Some e
   pub entries : (table_after_op config op table).entries ≡ changed p (λ x. left gone z) table.entries
@@ -68,7 +68,7 @@ pub record Comes (config : CallConfigView) (op : TableOp) (table : Table) (p : E
 -- no call has an event
 pub record IsNobodys (config : CallConfigView) (op : TableOp) (table : Table) : Type 0 where
   pub opens : opening_by config op table ≡ None
-  pub met : entry_by op table.entries ≡ None
+  pub entry : entry_by op table.entries ≡ None
   pub entries : (table_after_op config op table).entries ≡ table.entries
   pub opened : (table_after_op config op table).opened ≡ table.opened
   pub out : out_by config op table ≡ []
@@ -101,7 +101,7 @@ of_signal at view tokens s = Receives (record { at = at; view = view; tokens = t
 -- as all signals except an INVITE without To tag are processed
 record IsStepOfSignal (config : CallConfigView) (at : ℕ) (view : SheetsInForce) (tokens : TokensView) (s : Signal) (table : Table) (whose : Entry → Bool) (received : calls.Signal) : Type 0 where
   pub opens : opening_by config (of_signal at view tokens s) table ≡ None
-  pub met : entry_by (of_signal at view tokens s) table.entries ≡ find whose table.entries
+  pub entry : entry_by (of_signal at view tokens s) table.entries ≡ find whose table.entries
   pub came : (n : ℕ) → event_by (of_signal at view tokens s) n table.entries
       ≡ Some (received_event (record { at = at; view = view; tokens = tokens; signal = s }) n table.entries received)
   pub opened : (table_after_op config (of_signal at view tokens s) table).opened ≡ table.opened
@@ -132,7 +132,7 @@ signal-effect config at view tokens s table whose received t (Found place e at_p
     let moved = t.moved ∙ step-found config at view tokens whose received table.entries place e at_place is in
     ComesTo whose e z (received_event (record { at = at; view = view; tokens = tokens; signal = s }) (number_of e) table.entries received) (record {
       opens = t.opens;
-      met = t.met ∙ found;
+      entry = t.entry ∙ found;
       came = t.came (number_of e);
       found = found;
       entries = ap (λ (m : TableStep). m.entries) moved ∙ placed whose table.entries place e z first is;
@@ -148,7 +148,7 @@ signal-effect config at view tokens s table whose received t (Lost lost none) =
     let moved = t.moved ∙ step-lost config at view tokens whose received table.entries lost in
     Nobodys (record {
       opens = t.opens;
-      met = t.met ∙ none;
+      entry = t.entry ∙ none;
       entries = ap (λ (m : TableStep). m.entries) moved;
       opened = t.opened;
       out = ap (λ (m : TableStep). m.output.out) moved;
@@ -170,24 +170,24 @@ receives-effect config at view tokens (signal.Arrived key invite served registra
     (record { opens = refl; its = refl; number = refl; empty = refl; entries = refl; opened = refl; out = refl; rows = refl })
 receives-effect config at view tokens (signal.Request call side key request) table =
     signal-effect config at view tokens _ table (is_numbered call.0) (of_call.Request side key request)
-    (record { opens = refl; met = refl; came = λ n. refl; opened = refl; moved = refl }) (finds _ table.entries)
+    (record { opens = refl; entry = refl; came = λ n. refl; opened = refl; moved = refl }) (finds _ table.entries)
 receives-effect config at view tokens (signal.Ack call side ack) table =
-    signal-effect config at view tokens _ table (is_numbered call.0) (of_call.Ack side ack) (record { opens = refl; met = refl; came = λ n. refl; opened = refl; moved = refl })
+    signal-effect config at view tokens _ table (is_numbered call.0) (of_call.Ack side ack) (record { opens = refl; entry = refl; came = λ n. refl; opened = refl; moved = refl })
     (finds _ table.entries)
 receives-effect config at view tokens (signal.Cancel call key cancel invite) table =
     signal-effect config at view tokens _ table (is_numbered call.0) (of_call.Cancel key cancel invite)
-    (record { opens = refl; met = refl; came = λ n. refl; opened = refl; moved = refl }) (finds _ table.entries)
+    (record { opens = refl; entry = refl; came = λ n. refl; opened = refl; moved = refl }) (finds _ table.entries)
 receives-effect config at view tokens (signal.Answer key response) table =
     signal-effect config at view tokens _ table (has_sent_branch (awaited_request_branch response)) (of_call.Answer key response)
-    (record { opens = refl; met = refl; came = λ n. refl; opened = refl; moved = refl }) (finds _ table.entries)
+    (record { opens = refl; entry = refl; came = λ n. refl; opened = refl; moved = refl }) (finds _ table.entries)
 receives-effect config at view tokens (signal.Silent branch method) table =
     signal-effect config at view tokens _ table (has_sent_branch (timed_out_branch branch method)) (of_call.Silent branch method)
-    (record { opens = refl; met = refl; came = λ n. refl; opened = refl; moved = refl }) (finds _ table.entries)
+    (record { opens = refl; entry = refl; came = λ n. refl; opened = refl; moved = refl }) (finds _ table.entries)
 receives-effect config at view tokens (signal.Due call what) table =
-    signal-effect config at view tokens _ table (is_numbered call.0) (of_call.Due what) (record { opens = refl; met = refl; came = λ n. refl; opened = refl; moved = refl })
+    signal-effect config at view tokens _ table (is_numbered call.0) (of_call.Due what) (record { opens = refl; entry = refl; came = λ n. refl; opened = refl; moved = refl })
     (finds _ table.entries)
 receives-effect config at view tokens (signal.Over key) table =
-    signal-effect config at view tokens _ table (has_received_key key) (of_call.Ended key) (record { opens = refl; met = refl; came = λ n. refl; opened = refl; moved = refl })
+    signal-effect config at view tokens _ table (has_received_key key) (of_call.Ended key) (record { opens = refl; entry = refl; came = λ n. refl; opened = refl; moved = refl })
     (finds _ table.entries)
 
 -- ---- legs that are detached
@@ -220,7 +220,7 @@ released-effect config number side table stay (Found place e at_place first is f
     let z = entry_after_release side e in
     ComesTo (is_numbered number) e z (lives.Releases side) (record {
       opens = refl;
-      met = found;
+      entry = found;
       came = refl;
       found = found;
       entries =
@@ -237,7 +237,7 @@ released-effect config number side table stay (Found place e at_place first is f
       fits = λ back. tt;
     })
 released-effect config number side table stay (Lost lost none) =
-    Nobodys (record { opens = refl; met = none; entries = ap (λ o. released_where side o table.entries) lost; opened = refl; out = refl; rows = refl })
+    Nobodys (record { opens = refl; entry = none; entries = ap (λ o. released_where side o table.entries) lost; opened = refl; out = refl; rows = refl })
 
 restored-effect : (config : CallConfigView) (number : ℕ) (away : Released) (table : Table) → AllStay table.entries → Finds (is_numbered number) table.entries →
     Effect config (Restores number away) table
@@ -246,7 +246,7 @@ restored-effect config number away table stay (Found place e at_place first is f
     let z = entry_after_restore away e in
     ComesTo (is_numbered number) e z (lives.Restores away) (record {
       opens = refl;
-      met = found;
+      entry = found;
       came = refl;
       found = found;
       entries =
@@ -263,7 +263,7 @@ restored-effect config number away table stay (Found place e at_place first is f
       fits = λ back. ap (λ o. can_restore away o) (sym (ap (λ o. entry_at o table.entries) at_place ∙ is)) ∙ back;
     })
 restored-effect config number away table stay (Lost lost none) =
-    Nobodys (record { opens = refl; met = none; entries = ap (λ o. restored_where away o table.entries) lost; opened = refl; out = refl; rows = refl })
+    Nobodys (record { opens = refl; entry = none; entries = ap (λ o. restored_where away o table.entries) lost; opened = refl; out = refl; rows = refl })
 
 pub finished-effect : (config : CallConfigView) (number at : ℕ) (tokens : TokensView) (table : Table) → Finds (is_numbered number) table.entries → Effect config (Finishes number at tokens) table
 unfolding step_of_finish finish_step
@@ -274,7 +274,7 @@ finished-effect config number at tokens table (Found place e at_place first is f
     ap (λ o. step_of_finish_in config at o table.entries (empty_output tokens)) at_place ∙ ap (λ o. step_of_finish_at config at place o table.entries (empty_output tokens)) is in
     ComesTo (is_numbered number) e z (lives.Finishes at (empty_output tokens)) (record {
       opens = refl;
-      met = found;
+      entry = found;
       came = refl;
       found = found;
       entries = ap (λ (m : TableStep). m.entries) moved ∙ placed (is_numbered number) table.entries place e z first is;
@@ -291,7 +291,7 @@ finished-effect config number at tokens table (Lost lost none) =
     ap (λ o. step_of_finish_in config at o table.entries (empty_output tokens)) lost in
     Nobodys (record {
       opens = refl;
-      met = none;
+      entry = none;
       entries = ap (λ (m : TableStep). m.entries) moved;
       opened = refl;
       out = ap (λ (m : TableStep). m.output.out) moved;
@@ -306,4 +306,4 @@ effect config (Receives x) table stay = receives-effect config x.at x.view x.tok
 effect config (Releases number side) table stay = released-effect config number side table stay (finds _ table.entries)
 effect config (Restores number away) table stay = restored-effect config number away table stay (finds _ table.entries)
 effect config (Finishes number at tokens) table stay = finished-effect config number at tokens table (finds _ table.entries)
-effect config (Drops count) table stay = Nobodys (record { opens = refl; met = refl; entries = refl; opened = refl; out = refl; rows = refl })
+effect config (Drops count) table stay = Nobodys (record { opens = refl; entry = refl; entries = refl; opened = refl; out = refl; rows = refl })

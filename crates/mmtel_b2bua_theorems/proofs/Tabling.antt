@@ -30,7 +30,7 @@ OutputsNothing config op table = (out_by config op table ≡ []) × (op_charging
 nothing-by : (config : CallConfigView) (op : TableOp) (table : Table) → call_of config op table ≡ None → Effect config op table → OutputsNothing config op table
 nothing-by config op table none (Opens s o) = absurd (none-some s.arrival.number.0 (sym none
     ∙ ap (λ opens. number_by opens (Rattle.mmtel_b2bua_theorems.specs.TracesOfTables.entry_by op table.entries)) o.opens))
-nothing-by config op table none (ComesTo p e z event c) = absurd (none-some (Rattle.mmtel_b2bua_theorems.specs.TracesOfTables.number_of e) (sym none ∙ (λ i. number_by (c.opens i) (c.met i))))
+nothing-by config op table none (ComesTo p e z event c) = absurd (none-some (Rattle.mmtel_b2bua_theorems.specs.TracesOfTables.number_of e) (sym none ∙ (λ i. number_by (c.opens i) (c.entry i))))
 nothing-by config op table none (Nobodys o) = (o.out, o.rows)
 
 pub nothing_of_others : OtherOperationsOutputNothing

@@ -176,8 +176,8 @@ impl Call {
             }
             Ok((tag, direction, success)) => {
                 let RelayedInvite { side, invite } = relayed;
-                let taken = new_answered_invite(key, tag, true, invite.into_invite());
-                self.accept(step.alloc, legs, side, direction, taken, success)
+                let answered_invite = new_answered_invite(key, tag, true, invite.into_invite());
+                self.accept(step.alloc, legs, side, direction, answered_invite, success)
             }
         }
     }

@@ -281,10 +281,10 @@ impl Call {
             ≡ (after_ack_timeout step.now.config.now step.now.snapshot.at legs side self.old output.old).output) }
     {
         let mut legs = legs;
-        let left = legs.acknowledge_and_leave(step, side.other(), output);
+        let sent = legs.acknowledge_and_leave(step, side.other(), output);
         let left_too = legs.send_bye_to(step, side, output);
         let closed = self.end_established(step, legs, output);
-        left?;
+        sent?;
         left_too?;
         closed
     }
@@ -304,9 +304,9 @@ impl Call {
             ≡ (after_departure step.now.config.now step.now.snapshot.at legs side self.old output.old).output) }
     {
         let mut legs = legs;
-        let left = legs.send_bye_to(step, side, output);
+        let sent = legs.send_bye_to(step, side, output);
         let closed = self.end_established(step, legs, output);
-        left?;
+        sent?;
         closed
     }
 
@@ -327,9 +327,9 @@ impl Call {
             output.old)).output) }
     {
         let mut legs = legs;
-        let left = legs.acknowledge_and_leave(step, side.other(), output);
+        let sent = legs.acknowledge_and_leave(step, side.other(), output);
         let closed = self.end_established(step, legs, output);
-        left?;
+        sent?;
         closed
     }
 
@@ -410,9 +410,9 @@ impl Call {
         ensures done { OnOk result (self.new ≡ call_with_kept_ack branch.now text.now self.old) }
         ensures phase { self.new.phase ≡ self.old.phase }
     {
-        let taken = mem::replace(&mut self.answered_invites, List::new());
-        let taken = with_kept_acks(alloc, branch, text, taken)?;
-        drop(mem::replace(&mut self.answered_invites, taken));
+        let answered_invites = mem::replace(&mut self.answered_invites, List::new());
+        let answered_invites = with_kept_acks(alloc, branch, text, answered_invites)?;
+        drop(mem::replace(&mut self.answered_invites, answered_invites));
         Ok(())
     }
 

@@ -219,8 +219,8 @@ impl Call {
             ≡ (attempt_start step.now.config.now step.now.snapshot.at caller service waiting destination self.old output.old).output) }
     {
         match self.send_attempt_with_dialog(step, service.as_ref(), waiting, destination, output) {
-            Ok((invitation, dialogue)) => {
-                self.await_response(step.snapshot.at, caller, service, invitation, dialogue);
+            Ok((sent_invite, dialogue)) => {
+                self.await_response(step.snapshot.at, caller, service, sent_invite, dialogue);
                 Ok(())
             }
             Err(error) => {

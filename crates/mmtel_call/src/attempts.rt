@@ -63,13 +63,13 @@ impl Attempt {
             number,
             service,
             rang,
-            invite: invitation,
+            invite: sent_invite,
         } = self;
         Attempt {
             number,
             service,
             rang: rang || rings(code),
-            invite: with_early(early, with_provisional(key, invitation)),
+            invite: with_early(early, with_provisional(key, sent_invite)),
         }
     }
 
@@ -81,13 +81,13 @@ impl Attempt {
             number,
             service,
             rang,
-            invite: invitation,
+            invite: sent_invite,
         } = self;
         Attempt {
             number,
             service,
             rang,
-            invite: with_provisional(key, invitation),
+            invite: with_provisional(key, sent_invite),
         }
     }
 }
@@ -102,13 +102,13 @@ impl OfferedAttempt {
         ensures passed { IfOk result (λ r. r.0 ≡ early_remote_of self.now.callee message.now) }
         ensures kept { IfOk result (λ r. r.1 ≡ early_remote_of self.now.callee message.now) }
     {
-        let said = self.callee.early_remote(alloc, message)?;
+        let passed = self.callee.early_remote(alloc, message)?;
         match self.callee.early_remote(alloc, message) {
             Err(error) => {
-                drop(said);
+                drop(passed);
                 Err(error)
             }
-            Ok(kept) => Ok((said, kept)),
+            Ok(kept) => Ok((passed, kept)),
         }
     }
 }
@@ -340,8 +340,8 @@ impl Call {
                 offered.give_up(step.snapshot.at);
                 Err(error)
             }
-            Ok((said, kept)) => {
-                self.proceed(offered, key, code, said, kept);
+            Ok((passed, kept)) => {
+                self.proceed(offered, key, code, passed, kept);
                 Ok(())
             }
         }
@@ -370,8 +370,8 @@ impl Call {
                 offered.give_up(step.snapshot.at);
                 Err(error)
             }
-            Ok((said, kept)) => {
-                self.proceed(offered, key, code, said, kept);
+            Ok((passed, kept)) => {
+                self.proceed(offered, key, code, passed, kept);
                 Ok(())
             }
         }
@@ -543,9 +543,9 @@ impl Call {
             number: _,
             service,
             rang: _,
-            invite: invitation,
+            invite: sent_invite,
         } = attempt;
-        let noted = self.note_answer(step, new_answered_invite(key, tag, false, invitation));
+        let noted = self.note_answer(step, new_answered_invite(key, tag, false, sent_invite));
         let pair = EstablishedLegs {
             caller,
             callee: callee.confirm(remote),

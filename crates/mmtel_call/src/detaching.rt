@@ -50,22 +50,22 @@ impl EstablishedLegs {
             Side::Caller => {
                 let mut caller = caller;
                 let meter = caller.swap_meter(None);
-                let loan = DetachedLeg {
+                let detached_leg = DetachedLeg {
                     remaining: Released::Callee(callee),
                     meter,
                     service,
                 };
-                (Released::Caller(caller), loan)
+                (Released::Caller(caller), detached_leg)
             }
             Side::Callee => {
                 let mut callee = callee;
                 let meter = callee.swap_meter(None);
-                let loan = DetachedLeg {
+                let detached_leg = DetachedLeg {
                     remaining: Released::Caller(caller),
                     meter,
                     service,
                 };
-                (Released::Callee(callee), loan)
+                (Released::Callee(callee), detached_leg)
             }
         }
     }
@@ -170,8 +170,8 @@ impl Call {
                 self.put_phase(Phase::Offered(x));
                 Err(NotTalking)
             }
-            Phase::Detached(loan) => {
-                self.put_phase(Phase::Detached(loan));
+            Phase::Detached(detached) => {
+                self.put_phase(Phase::Detached(detached));
                 Err(NotTalking)
             }
             Phase::Over(cause) => {
@@ -195,8 +195,8 @@ impl Call {
     {
         match stage {
             Stage::Stable => {
-                let (away, loan) = legs.detach(side);
-                self.put_phase(Phase::Detached(loan));
+                let (away, detached) = legs.detach(side);
+                self.put_phase(Phase::Detached(detached));
                 Ok(away)
             }
             Stage::Answered(waiting, success) => {
@@ -221,8 +221,8 @@ impl Call {
         ensures { self.new ≡ with_leg_restored self.old.phase removed self.old }
     {
         match mem::replace(&mut self.phase, Phase::Over(Cause::Ended)) {
-            Phase::Detached(loan) => {
-                let x = loan.legs_with(removed);
+            Phase::Detached(detached) => {
+                let x = detached.legs_with(removed);
                 self.put_phase(Phase::Established(x, Stage::Stable));
             }
             _ => unreachable!(),
@@ -248,7 +248,7 @@ impl Call {
     {
         self.dismiss(alloc, config, output)?;
         match mem::replace(&mut self.phase, Phase::Over(Cause::Ended)) {
-            Phase::Detached(loan) => self.end_detached(alloc, config, at, loan, output),
+            Phase::Detached(detached) => self.end_detached(alloc, config, at, detached, output),
             _ => unreachable!(),
         }
     }
@@ -267,10 +267,10 @@ impl Call {
         ensures output { OnOk result (output.new ≡ (finish_of_detached config.now at detached self.old output.old).output) }
     {
         let mut detached = detached;
-        let left = bye_to_remaining(alloc, config, &mut detached, output);
+        let sent = bye_to_remaining(alloc, config, &mut detached, output);
         let (first, last) = detached.leave();
         let closed = self.close(alloc, at, Cause::Ended, first, last, output);
-        left?;
+        sent?;
         closed
     }
 }

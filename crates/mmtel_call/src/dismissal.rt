@@ -235,8 +235,8 @@ impl Call {
                 Ok(leaves)
             }
             Signal::Silent { branch, method } => {
-                let silent = timed_out_branch(branch.bytes(), method.bytes());
-                Ok(self.leaves_on_timeout_of(silent))
+                let timed_out = timed_out_branch(branch.bytes(), method.bytes());
+                Ok(self.leaves_on_timeout_of(timed_out))
             }
             Signal::Due { what } => Ok(self.leaves_on_due(*what)),
             Signal::Ended { key: _ } => Ok(false),

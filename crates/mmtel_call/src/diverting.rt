@@ -47,10 +47,10 @@ impl Call {
         ensures output { OnOk result (output.new
             ≡ (call_refusal step.now.config.now step.now.snapshot.at caller cause self.old output.old).output) }
     {
-        let told = self.respond_to_caller(step, cause.status(), output);
+        let responded = self.respond_to_caller(step, cause.status(), output);
         let Ended { meter } = caller.leave();
         let closed = self.close(step.alloc, step.snapshot.at, cause, meter, None, output);
-        told?;
+        responded?;
         closed
     }
 
@@ -348,17 +348,24 @@ impl Call {
         let at = step.snapshot.at;
         match self.next_step_at(step, cause, &target, service.as_ref(), peer) {
             NextStep::Offer { peer, waiting } => {
-                let aim = self
+                let destination = self
                     .opening
                     .destination_of(step.alloc, peer, cause, &target);
                 drop(target);
-                match aim {
+                match destination {
                     Err(error) => {
                         drop(service);
                         give_up_caller(caller, at);
                         Err(error)
                     }
-                    Ok(aim) => self.start_attempt(step, caller, service, waiting, aim, output),
+                    Ok(destination) => self.start_attempt(
+                        step,
+                        caller,
+                        service,
+                        waiting,
+                        destination,
+                        output,
+                    ),
                 }
             }
             NextStep::Divert(due) => match self.keep_unoffered_meter(step, service.as_ref()) {

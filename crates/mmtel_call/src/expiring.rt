@@ -42,9 +42,9 @@ impl Call {
             ≡ (after_expiry step.now.config.now step.now.snapshot.at legs self.old output.old).output) }
     {
         let mut legs = legs;
-        let left = legs.send_byes(step, output);
+        let sent = legs.send_byes(step, output);
         let closed = self.end_established(step, legs, output);
-        left?;
+        sent?;
         closed
     }
 

@@ -60,15 +60,15 @@ impl Call {
             number: _,
             service,
             rang: _,
-            invite: invitation,
+            invite: sent_invite,
         } = attempt;
         drop(service);
-        let left = self.leave_attempt(step.alloc, invitation);
+        let abandoned = self.leave_attempt(step.alloc, sent_invite);
         let Ended { meter: first } = caller.leave();
         let last = callee.leave();
         let closed = self.close(step.alloc, step.snapshot.at, cause, first, last, output);
         passed?;
-        left?;
+        abandoned?;
         closed
     }
 
@@ -189,9 +189,9 @@ impl Call {
             request.message (record self.old { phase = Offered offered }) output.old).output) }
     {
         if request.side == Side::Caller && is_method(b"BYE", request.message.message.start()) {
-            let heard = self.receive_bye_offered(step, offered, &request, output);
+            let received = self.receive_bye_offered(step, offered, &request, output);
             drop(request);
-            return heard;
+            return received;
         }
         self.receive_other_offered(step, offered, request, output)
     }

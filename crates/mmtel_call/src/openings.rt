@@ -72,7 +72,7 @@ impl Phase {
                 drop(stage);
                 pair.give_up(at);
             }
-            Phase::Detached(loan) => loan.give_up(at),
+            Phase::Detached(detached) => detached.give_up(at),
             Phase::Over(_) => {}
         }
     }
@@ -205,16 +205,16 @@ impl Call {
             acks,
             relayed: flights,
             past,
-            abandoned: loose,
-            answered_invites: taken,
+            abandoned: abandoned_invites,
+            answered_invites: answered,
             phase,
         } = self;
         drop(opening);
         drop(diversions);
         drop(acks);
         drop(flights);
-        drop(loose);
-        drop(taken);
+        drop(abandoned_invites);
+        drop(answered);
         phase.give_up(at);
         give_up_meters(past, at);
     }

@@ -127,10 +127,10 @@ impl Call {
         ensures output { OnOk result (output.new
             ≡ (on_response_abandoned step.now.config.now key message.now at (slice_get self.old.abandoned at) self.old output.old).output) }
     {
-        let loose = self.abandoned.remove(at);
-        match output.receive_abandoned(step.alloc, step.sip(), key, loose, message)? {
+        let abandoned = self.abandoned.remove(at);
+        match output.receive_abandoned(step.alloc, step.sip(), key, abandoned, message)? {
             None => Ok(()),
-            Some(left) => push_item(step.alloc, &mut self.abandoned, left),
+            Some(remaining) => push_item(step.alloc, &mut self.abandoned, remaining),
         }
     }
 
@@ -172,30 +172,30 @@ impl Call {
             → OnOk result (output.new ≡ (on_forked_response step.now.config.now key message.now at t self.old output.old).output) }
     {
         let AnsweredInvite {
-            invite: invitation,
+            invite: sent_invite,
             tag,
             in_dialog: within,
         } = self.answered_invites.remove(at);
-        let loose = AbandonedInvite {
-            invite: invitation,
+        let abandoned = AbandonedInvite {
+            invite: sent_invite,
             in_dialog: false,
         };
-        match output.receive_abandoned(step.alloc, step.sip(), key, loose, message)? {
+        match output.receive_abandoned(step.alloc, step.sip(), key, abandoned, message)? {
             None => {
                 drop(tag);
                 Ok(())
             }
-            Some(left) => {
+            Some(remaining) => {
                 let AbandonedInvite {
-                    invite: invitation,
+                    invite: sent_invite,
                     in_dialog: _,
-                } = left;
-                let taken = AnsweredInvite {
-                    invite: invitation,
+                } = remaining;
+                let answered_invite = AnsweredInvite {
+                    invite: sent_invite,
                     tag,
                     in_dialog: within,
                 };
-                push_item(step.alloc, &mut self.answered_invites, taken)
+                push_item(step.alloc, &mut self.answered_invites, answered_invite)
             }
         }
     }
@@ -214,16 +214,16 @@ impl Call {
         ensures output { OnOk result (output.new
             ≡ (on_response_answered step.now.config.now key message.now at (slice_get self.old.answered_invites at) self.old output.old).output) }
     {
-        let Some(taken) = self.answered_invites.items().get(at) else {
+        let Some(answered_invite) = self.answered_invites.items().get(at) else {
             return Ok(());
         };
         if !is_success(status_of(message.message.start())) {
             return Ok(());
         }
-        if taken.is_forked_by(step.alloc, message)? {
+        if answered_invite.is_forked_by(step.alloc, message)? {
             return self.receive_fork(step, key, message, at, output);
         }
-        self.retransmit_ack(step.alloc, taken, output)
+        self.retransmit_ack(step.alloc, answered_invite, output)
     }
 
     /// Processes a response to the request of this branch, which is not the INVITE for which the call waits.

@@ -108,10 +108,10 @@ impl Call {
     {
         let mut legs = legs;
         let refused = self.relay_refusal_back(step, &legs, relayed, key, message, output);
-        let left = legs.send_byes(step, output);
+        let sent = legs.send_byes(step, output);
         let closed = self.end_established(step, legs, output);
         refused?;
-        left?;
+        sent?;
         closed
     }
 
@@ -189,9 +189,9 @@ impl Call {
             else step_result (at_stage legs Stable self.old) (with_refusal_back step.now.config.now legs relayed.side relayed.invite key
             message.now self.old output.old)).output) }
     {
-        let heard = self.receive_final_across(step, legs, &relayed, key, message, output);
+        let received = self.receive_final_across(step, legs, &relayed, key, message, output);
         drop(relayed);
-        heard
+        received
     }
 
     /// Sends what is due where the call ends while an INVITE has no final response: this status to the side that sent it, and BYE to both.
@@ -264,9 +264,9 @@ impl Call {
             ≡ with_abandoned (record { invite = record reinvite.invite { forks = forks }; in_dialog = true }) self.old) }
         ensures phase { self.new.phase ≡ self.old.phase }
     {
-        let mut invitation = reinvite.into_invite();
-        drop(mem::replace(&mut invitation.forks, forks));
-        self.abandon(alloc, invitation, true)
+        let mut sent_invite = reinvite.into_invite();
+        drop(mem::replace(&mut sent_invite.forks, forks));
+        self.abandon(alloc, sent_invite, true)
     }
 
     /// A side leaves, and the call is over; the INVITE is abandoned, with these dialogs that need no BYE any more.

@@ -75,13 +75,13 @@ impl Reinvite {
         let Reinvite {
             key: own,
             request,
-            invite: invitation,
+            invite: sent_invite,
             cancel_due,
         } = self;
         Reinvite {
             key: own,
             request,
-            invite: invite_after_provisional(key, cancel_due, invitation),
+            invite: invite_after_provisional(key, cancel_due, sent_invite),
             cancel_due: false,
         }
     }
@@ -93,14 +93,14 @@ impl Reinvite {
         let Reinvite {
             key,
             request,
-            invite: invitation,
+            invite: sent_invite,
             cancel_due: _,
         } = self;
-        let provisional = invitation.provisional;
+        let provisional = sent_invite.provisional;
         Reinvite {
             key,
             request,
-            invite: invite_after_cancel(invitation),
+            invite: invite_after_cancel(sent_invite),
             cancel_due: !provisional,
         }
     }
@@ -112,11 +112,11 @@ impl Reinvite {
         let Reinvite {
             key: _,
             request,
-            invite: invitation,
+            invite: sent_invite,
             cancel_due: _,
         } = self;
         drop(request);
-        invitation
+        sent_invite
     }
 }
 
@@ -218,19 +218,19 @@ impl Call {
                 legs.give_up(step.snapshot.at);
                 Err(error)
             }
-            Ok(invitation) => {
+            Ok(sent_invite) => {
                 let SideRequest {
                     side,
                     key,
                     message: hearing,
                 } = request;
-                let asked = Reinvite {
+                let new_reinvite = Reinvite {
                     key,
                     request: hearing,
-                    invite: invitation,
+                    invite: sent_invite,
                     cancel_due: false,
                 };
-                self.put_phase(Phase::Established(legs, Stage::Reinviting(side, asked)));
+                self.put_phase(Phase::Established(legs, Stage::Reinviting(side, new_reinvite)));
                 Ok(())
             }
         }

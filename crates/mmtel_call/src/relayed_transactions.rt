@@ -85,7 +85,7 @@ impl Phase {
         match self {
             Phase::Offered(x) => x.attempt.service.as_ref(),
             Phase::Established(x, _) => x.service.as_ref(),
-            Phase::Detached(loan) => loan.service.as_ref(),
+            Phase::Detached(detached) => detached.service.as_ref(),
             Phase::Over(_) => None,
         }
     }
@@ -143,7 +143,7 @@ impl Call {
             key,
             message: hearing,
         } = request;
-        let asked = Reinvite {
+        let new_reinvite = Reinvite {
             key,
             request: hearing,
             invite,
@@ -155,7 +155,7 @@ impl Call {
             RelayedTransaction {
                 kind,
                 side,
-                exchange: asked,
+                exchange: new_reinvite,
             },
         )
     }
@@ -171,7 +171,7 @@ impl Call {
         ensures { OnOk result (output.new
             ≡ with_response_back step.now.config.now transaction.now message.now self.now output.old) }
     {
-        let asked = &transaction.exchange;
+        let exchange = &transaction.exchange;
         let opening = &self.opening;
         let other = transaction.side.other();
         let lines = opening.copied_lines(
@@ -180,14 +180,14 @@ impl Call {
             &self.diversions,
             self.phase.service(),
             other,
-            asked.request.peer,
+            exchange.request.peer,
             message,
         )?;
         let relayed = output.relay_response(
             step.alloc,
             step.sip(),
-            asked.key,
-            &asked.request,
+            exchange.key,
+            &exchange.request,
             opening.tag.bytes(),
             lines.items(),
             message,
@@ -259,9 +259,9 @@ impl Call {
             return Ok(());
         }
         let flight = self.relayed.remove(at);
-        let heard = self.receive_final_in_flight(step, &flight, message, code, output);
+        let received = self.receive_final_in_flight(step, &flight, message, code, output);
         drop(flight);
-        heard
+        received
     }
 
     /// The request in flight at this index timed out: 408 to the side that sent it.
@@ -278,8 +278,8 @@ impl Call {
             ≡ (on_timeout_in_flight step.now.config.now (Some at) self.old output.old).output) }
     {
         let flight = self.relayed.remove(at);
-        let asked = &flight.exchange;
-        let replied = self.respond_with_status(step, asked.key, &asked.request, 408, output);
+        let exchange = &flight.exchange;
+        let replied = self.respond_with_status(step, exchange.key, &exchange.request, 408, output);
         drop(flight);
         replied
     }
@@ -333,12 +333,12 @@ impl Call {
         if transaction.is_updating() != updates {
             return Ok(());
         }
-        let asked = &transaction.exchange;
+        let exchange = &transaction.exchange;
         output.respond_with_status(
             alloc,
             config.sip,
-            asked.key,
-            &asked.request,
+            exchange.key,
+            &exchange.request,
             self.opening.tag.bytes(),
             transaction.kind.dismissal(),
         )

@@ -279,10 +279,10 @@ impl Call {
             (with_due_cancel step.now.config.now.sip invite output.old)).output) }
     {
         let cancelled = output.cancel(step.alloc, step.sip(), &invite);
-        let left = self.leave_attempt(step.alloc, invite);
+        let abandoned = self.leave_attempt(step.alloc, invite);
         let gone = self.go_on_from(step, caller, callee, service, end, None, output);
         cancelled?;
-        left?;
+        abandoned?;
         gone
     }
 
@@ -311,10 +311,10 @@ impl Call {
             number: _,
             service,
             rang: _,
-            invite: invitation,
+            invite: sent_invite,
         } = attempt;
         let reached = service.as_ref();
-        let gone = self.leave_for_next(step, caller, callee, reached, invitation, end, output);
+        let gone = self.leave_for_next(step, caller, callee, reached, sent_invite, end, output);
         drop(service);
         gone
     }

@@ -189,11 +189,11 @@ impl Call {
             }
             Stage::Stable => self.receive_bye_across(step, legs, side, message, output),
             Stage::Reinviting(asking, q) => {
-                let asked = RelayedInvite {
+                let relayed_invite = RelayedInvite {
                     side: asking,
                     invite: q,
                 };
-                self.receive_bye_reinviting(step, legs, asked, side, output)
+                self.receive_bye_reinviting(step, legs, relayed_invite, side, output)
             }
         }
     }
@@ -222,9 +222,9 @@ impl Call {
             return replied;
         }
         let replied = self.respond_with_status(step, request.key, hearing, 200, output);
-        let left = self.end_by_bye(step, legs, stage, request.side, hearing, output);
+        let ended = self.end_by_bye(step, legs, stage, request.side, hearing, output);
         replied?;
-        left
+        ended
     }
 
     /// Processes a request of a side that its leg accepted, other than INVITE, BYE and UPDATE: a PRACK, which acknowledges nothing here, or a request for which there is no
@@ -276,9 +276,9 @@ impl Call {
             return self.receive_invite(step, legs, stage, request, output);
         }
         if is_method(b"BYE", request.message.message.start()) {
-            let taken = self.receive_bye(step, legs, stage, &request, output);
+            let received = self.receive_bye(step, legs, stage, &request, output);
             drop(request);
-            return taken;
+            return received;
         }
         if is_method(b"UPDATE", request.message.message.start()) {
             return self.receive_update_at(step, legs, stage, request, output);
@@ -409,11 +409,11 @@ impl Call {
             Stage::Stable => self.stay(Phase::Established(legs, Stage::Stable)),
             Stage::Reinviting(asking, q) => {
                 if invite.0 == q.key.0 {
-                    let asked = RelayedInvite {
+                    let relayed_invite = RelayedInvite {
                         side: asking,
                         invite: q,
                     };
-                    return self.cancel_across(step, legs, asked, output);
+                    return self.cancel_across(step, legs, relayed_invite, output);
                 }
                 self.stay(Phase::Established(legs, Stage::Reinviting(asking, q)))
             }
@@ -449,11 +449,11 @@ impl Call {
             )),
             Stage::Stable => self.stay(Phase::Established(legs, Stage::Stable)),
             Stage::Reinviting(asking, q) => {
-                let asked = RelayedInvite {
+                let relayed_invite = RelayedInvite {
                     side: asking,
                     invite: q,
                 };
-                self.receive_response_across(step, legs, asked, key, message, output)
+                self.receive_response_across(step, legs, relayed_invite, key, message, output)
             }
         }
     }
@@ -472,9 +472,9 @@ impl Call {
         ensures output { OnOk result (output.new
             ≡ (on_timeout_across step.now.config.now step.now.snapshot.at legs reinvite self.old output.old).output) }
     {
-        let heard = self.receive_timeout_across(step, legs, &reinvite, output);
+        let received = self.receive_timeout_across(step, legs, &reinvite, output);
         drop(reinvite);
-        heard
+        received
     }
 
     /// The INVITE that was relayed timed out.
@@ -534,11 +534,11 @@ impl Call {
             }
             Stage::Stable => self.expire(step, legs, output),
             Stage::Reinviting(asking, q) => {
-                let asked = RelayedInvite {
+                let relayed_invite = RelayedInvite {
                     side: asking,
                     invite: q,
                 };
-                self.expire_reinviting(step, legs, asked, output)
+                self.expire_reinviting(step, legs, relayed_invite, output)
             }
         }
     }

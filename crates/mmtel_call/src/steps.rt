@@ -61,9 +61,9 @@ impl Call {
             Phase::Established(x, stage) => {
                 self.receive_request_at(step, x, stage, request, output)
             }
-            Phase::Detached(loan) => {
+            Phase::Detached(detached) => {
                 drop(request);
-                self.stay(Phase::Detached(loan))
+                self.stay(Phase::Detached(detached))
             }
             Phase::Over(cause) => {
                 drop(request);
@@ -90,7 +90,7 @@ impl Call {
             Phase::Established(x, stage) => {
                 self.receive_ack_at(step, x, stage, side, message, output)
             }
-            Phase::Detached(loan) => self.stay(Phase::Detached(loan)),
+            Phase::Detached(detached) => self.stay(Phase::Detached(detached)),
             Phase::Over(cause) => self.stay(Phase::Over(cause)),
         }
     }
@@ -115,11 +115,11 @@ impl Call {
             Phase::Offered(x) => { self.receive_cancel(step, x, key, message, invite, output) }
             Phase::Established(x, stage) => {
                 let replied = self.respond_with_status(step, key, message, 200, output);
-                let heard = self.receive_cancel_at(step, x, stage, invite, output);
+                let received = self.receive_cancel_at(step, x, stage, invite, output);
                 replied?;
-                heard
+                received
             }
-            Phase::Detached(loan) => self.stay(Phase::Detached(loan)),
+            Phase::Detached(detached) => self.stay(Phase::Detached(detached)),
             Phase::Over(cause) => self.stay(Phase::Over(cause)),
         }
     }
@@ -164,7 +164,7 @@ impl Call {
             Phase::Established(x, stage) => {
                 self.receive_response_at(step, x, stage, key, message, output)
             }
-            Phase::Detached(loan) => self.stay(Phase::Detached(loan)),
+            Phase::Detached(detached) => self.stay(Phase::Detached(detached)),
             Phase::Over(cause) => self.stay(Phase::Over(cause)),
         }
     }
@@ -183,7 +183,7 @@ impl Call {
         match mem::replace(&mut self.phase, Phase::Over(Cause::Ended)) {
             Phase::Offered(x) => self.receive_timeout(step, x, output),
             Phase::Established(x, stage) => { self.receive_timeout_at(step, x, stage, output) }
-            Phase::Detached(loan) => self.stay(Phase::Detached(loan)),
+            Phase::Detached(detached) => self.stay(Phase::Detached(detached)),
             Phase::Over(cause) => self.stay(Phase::Over(cause)),
         }
     }
@@ -203,7 +203,7 @@ impl Call {
         match mem::replace(&mut self.phase, Phase::Over(Cause::Ended)) {
             Phase::Offered(x) => self.fire_offered(step, x, what, output),
             Phase::Established(x, stage) => { self.fire_at(step, x, stage, what, output) }
-            Phase::Detached(loan) => self.stay(Phase::Detached(loan)),
+            Phase::Detached(detached) => self.stay(Phase::Detached(detached)),
             Phase::Over(cause) => self.stay(Phase::Over(cause)),
         }
     }
@@ -275,9 +275,9 @@ impl Call {
             None => Ok(()),
             Some(branch) => {
                 let answered = Some(branch.bytes());
-                let heard = self.receive_response_to(step, answered, key, message, output);
+                let received = self.receive_response_to(step, answered, key, message, output);
                 drop(branch);
-                heard
+                received
             }
         }
     }
@@ -360,30 +360,30 @@ impl Call {
                 )
             }
             Signal::Ack { side, ack } => {
-                let heard = self.receive_ack(step, side, &ack, output);
+                let received = self.receive_ack(step, side, &ack, output);
                 drop(ack);
-                heard
+                received
             }
             Signal::Cancel {
                 key,
                 cancel,
                 invite,
             } => {
-                let heard = self.receive_any_cancel(step, key, &cancel, invite, output);
+                let received = self.receive_any_cancel(step, key, &cancel, invite, output);
                 drop(cancel);
-                heard
+                received
             }
             Signal::Answer { key, response } => {
-                let heard = self.receive_any_response(step, key, &response, output);
+                let received = self.receive_any_response(step, key, &response, output);
                 drop(response);
-                heard
+                received
             }
             Signal::Silent { branch, method } => {
                 let invite = timed_out_branch(branch.bytes(), method.bytes());
-                let heard = self.receive_timeout_to(step, invite, output);
+                let received = self.receive_timeout_to(step, invite, output);
                 drop(branch);
                 drop(method);
-                heard
+                received
             }
             Signal::Due { what } => self.receive_due(step, what, output),
             Signal::Ended { key } => {

@@ -171,10 +171,10 @@ module _ (config : CallConfigView) (now : SnapshotView) (received : Signal) (c :
   replied own is a = replies.transition_good own config notified.out now received (without_in_flight c) notified a is.phase (is.opening, tt) (record { more = []; is = sym (append-nil notified.out); each = tt })
 
   abbrev behind : List Emit
-  behind = (replied all (record { opening = refl; phase = phase_of_all c.phase; in_flight = tt }) (signal_of_all received)).desk_in.more
+  behind = (replied all (record { opening = refl; phase = phase_of_all c.phase; in_flight = tt }) (signal_of_all received)).output_in.more
 
   behind_is : left.output.out ≡ notified.out ++ behind
-  behind_is = (replied all (record { opening = refl; phase = phase_of_all c.phase; in_flight = tt }) (signal_of_all received)).desk_in.is
+  behind_is = (replied all (record { opening = refl; phase = phase_of_all c.phase; in_flight = tt }) (signal_of_all received)).output_in.is
 
   are_dismissed : leaves received c ≡ true → AreDismissed config (ReceivedIsOf received) c output left
   are_dismissed e =
@@ -187,8 +187,8 @@ module _ (config : CallConfigView) (now : SnapshotView) (received : Signal) (c :
             behind_is ∙ ap (λ (o : List Emit). o ++ behind) f.is ∙ append_assoc (output.out ++ front) f.more behind ∙ append_assoc output.out front (f.more ++ behind);
         once = λ own is a.
             let r = replied own is a in
-            let same : r.desk_in.more ≡ behind = same_behind notified.out r.desk_in.more behind (sym r.desk_in.is ∙ behind_is) in
-            each_append (IsRepliedIn own) f.more behind (f.quiet own) (subst (Each (IsRepliedIn own)) same r.desk_in.each);
+            let same : r.output_in.more ≡ behind = same_behind notified.out r.output_in.more behind (sym r.output_in.is ∙ behind_is) in
+            each_append (IsRepliedIn own) f.more behind (f.quiet own) (subst (Each (IsRepliedIn own)) same r.output_in.each);
       }
 
   stays : leaves received c ≡ false → rows.Stays received c output (transition config now received c output)

@@ -22,7 +22,7 @@ module _ (own : ℕ → Bool) (config : CallConfigView) (before : List Emit) whe
   in_own : (s : StepResult) → Each (IsRepliedIn own) before → rows.Good own config before s → RepliesIn own s
   in_own s had is = record {
     call_in = is.call_in;
-    out_in = subst (Each (IsRepliedIn own)) (sym is.desk_in.is) (each_append (IsRepliedIn own) before is.desk_in.more had is.desk_in.each);
+    out_in = subst (Each (IsRepliedIn own)) (sym is.output_in.is) (each_append (IsRepliedIn own) before is.output_in.more had is.output_in.each);
   }
 
   nothing : rows.Replies own config before before

@@ -27,10 +27,10 @@ fn deliver<L: Link>(
     link: &mut L,
     offer: &Offer,
 ) -> Result<(), NoMemory>
-    ensures delivered { OnOk result (Delivered peers.now.known (offer.now ∷ []) (L.given link.old) (L.given link.new)) }
-    ensures none { OnErr result (L.given link.new ≡ L.given link.old) }
-    ensures lost { LostOnlyWhereRose (L.given link.old) (L.given link.new) (L.delivery_faults link.old) (L.delivery_faults link.new) }
-    ensures counted { RoseBy (new_losses (L.given link.old) (L.given link.new)) (L.delivery_faults link.old) (L.delivery_faults link.new) }
+    ensures delivered { OnOk result (Delivered peers.now.known (offer.now ∷ []) (L.output link.old) (L.output link.new)) }
+    ensures none { OnErr result (L.output link.new ≡ L.output link.old) }
+    ensures lost { LostOnlyWhereRose (L.output link.old) (L.output link.new) (L.delivery_faults link.old) (L.delivery_faults link.new) }
+    ensures counted { RoseBy (new_losses (L.output link.old) (L.output link.new)) (L.delivery_faults link.old) (L.delivery_faults link.new) }
     ensures received { L.input link.new ≡ L.input link.old }
     ensures bound { IsBoundStill (L.calls link.old) (L.calls link.new) }
     ensures arrival_faults { L.arrival_faults link.new ≡ L.arrival_faults link.old }
@@ -55,9 +55,9 @@ pub fn deliver_each<L: Link>(
     link: &mut L,
     offers: &[Offer],
 ) -> Result<(), NoMemory>
-    ensures delivered { DeliveredAll peers.now.known offers.now (L.given link.old) (L.given link.new) result }
-    ensures lost { LostOnlyWhereRose (L.given link.old) (L.given link.new) (L.delivery_faults link.old) (L.delivery_faults link.new) }
-    ensures counted { RoseBy (new_losses (L.given link.old) (L.given link.new)) (L.delivery_faults link.old) (L.delivery_faults link.new) }
+    ensures delivered { DeliveredAll peers.now.known offers.now (L.output link.old) (L.output link.new) result }
+    ensures lost { LostOnlyWhereRose (L.output link.old) (L.output link.new) (L.delivery_faults link.old) (L.delivery_faults link.new) }
+    ensures counted { RoseBy (new_losses (L.output link.old) (L.output link.new)) (L.delivery_faults link.old) (L.delivery_faults link.new) }
     ensures received { L.input link.new ≡ L.input link.old }
     ensures bound { IsBoundStill (L.calls link.old) (L.calls link.new) }
     ensures arrival_faults { L.arrival_faults link.new ≡ L.arrival_faults link.old }

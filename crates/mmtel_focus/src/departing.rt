@@ -71,14 +71,14 @@ fn end_all(conference: Conference, blank: Vec<Ended>) -> Vec<Ended>
         number: _,
         last_seat: _,
         last_number: _,
-        participants: seats,
+        participants,
     } = conference;
-    let mut seats = seats;
+    let mut participants = participants;
     let mut all = blank;
-    'seats: while !seats.is_empty() {
-        all.push_reserved(seats.remove(0).end());
+    'participants: while !participants.is_empty() {
+        all.push_reserved(participants.remove(0).end());
     }
-    seats.destroy_empty();
+    participants.destroy_empty();
     all
 }
 

@@ -140,8 +140,8 @@ fn receive_in(
     match live.place_of(room) {
         None => Ok(()),
         Some(place) => {
-            let asked = &live.conferences()[place];
-            let seat = seats::place_of(&asked.participants, seat);
+            let conference = &live.conferences()[place];
+            let seat = seats::place_of(&conference.participants, seat);
             step_at(live, step, signal, place, seat, effects)
         }
     }
@@ -208,7 +208,7 @@ fn receive_abandoned_at(
         .receive_abandoned(alloc, sip, key, one, response)?
     {
         None => Ok(()),
-        Some(left) => push_item(alloc, abandoned, left),
+        Some(remaining) => push_item(alloc, abandoned, remaining),
     }
 }
 

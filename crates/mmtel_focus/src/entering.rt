@@ -27,8 +27,8 @@ pub fn access(live: &LiveConferences, room: RoomNo) -> Result<usize, RoomFault>
     match live.place_of(room) {
         None => Err(RoomFault::Gone),
         Some(place) => {
-            let asked = &live.conferences()[place];
-            if has_no_free_seat(&asked.participants) {
+            let conference = &live.conferences()[place];
+            if has_no_free_seat(&conference.participants) {
                 return Err(RoomFault::RoomFull);
             }
             Ok(place)
@@ -66,9 +66,9 @@ pub fn join_at(
     ensures handed_back { IfErr result (λ l. l ≡ entrant.leg) }
 {
     let mut room = live.take_out(step.alloc, place);
-    let come = room.join(step, entrant, key, invite, effects);
+    let joined = room.join(step, entrant, key, invite, effects);
     live.put_back(place, room);
-    come
+    joined
 }
 
 /// A leg is moved out of a call into the conference at this place.

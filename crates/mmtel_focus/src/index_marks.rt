@@ -13,7 +13,7 @@ fn branch_of(invite: &Invite) -> &[u8]
     ensures { result.now ≡ branch_of invite.now }
 {
     match invite {
-        Invite::Outstanding(_, invitation) => invitation.branch.bytes(),
+        Invite::Outstanding(_, sent_invite) => sent_invite.branch.bytes(),
         Invite::Accepted(branch, _, _) => branch.bytes(),
     }
 }

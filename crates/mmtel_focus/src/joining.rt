@@ -143,7 +143,7 @@ fn adopted_participant(
     leg: Released,
     account: Option<Account>,
     by: u64,
-    invitation: SentInvite,
+    sent_invite: SentInvite,
     now: Moment,
 ) -> ParticipantState
     ensures { result ≡ record {
@@ -151,7 +151,7 @@ fn adopted_participant(
       by = Some by;
       account = account;
       pending_ack = None;
-      invite = Some (Outstanding (next_number conference.now.last_number) invitation);
+      invite = Some (Outstanding (next_number conference.now.last_number) sent_invite);
       party = party_of (meter_of conference.now.number now account) leg;
     } }
 {
@@ -166,7 +166,7 @@ fn adopted_participant(
         by: Some(by),
         account,
         pending_ack: None,
-        invite: Some(Invite::Outstanding(number, invitation)),
+        invite: Some(Invite::Outstanding(number, sent_invite)),
         party: party_of(leg, meter, now),
     }
 }
@@ -329,9 +329,9 @@ impl Conference {
         }
         match reinvite_released(step, self.number, leg, &mut effects.output) {
             (leg, Err(_)) => Err(leg),
-            (leg, Ok(invitation)) => {
+            (leg, Ok(sent_invite)) => {
                 let next = self.next();
-                let seat = adopted_participant(self, leg, account, by, invitation, step.at);
+                let seat = adopted_participant(self, leg, account, by, sent_invite, step.at);
                 self.participants.push_reserved(seat);
                 self.count(next);
                 Ok(())

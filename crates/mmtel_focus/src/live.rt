@@ -50,13 +50,13 @@ pub fn give_up_conference(conference: Conference, at: Moment) {
         number: _,
         last_seat: _,
         last_number: _,
-        participants: seats,
+        participants,
     } = conference;
-    let mut seats = seats;
-    'given: while let Some(seat) = seats.pop() {
-        seat.give_up(at);
+    let mut participants = participants;
+    'participants: while let Some(participant) = participants.pop() {
+        participant.give_up(at);
     }
-    seats.destroy_empty();
+    participants.destroy_empty();
 }
 
 /// The moment 0, for CDRs that are discarded.
@@ -285,15 +285,15 @@ impl LiveConferences {
     /// Spends all of them, without CDRs. It allocates nothing.
     pub fn give_up(self) {
         let LiveConferences {
-            conferences: rooms,
+            conferences,
             opened: _,
             index,
         } = self;
         drop(index);
-        let mut rooms = rooms;
-        'given: while let Some(room) = rooms.pop() {
-            give_up_conference(room, beginning());
+        let mut conferences = conferences;
+        'conferences: while let Some(conference) = conferences.pop() {
+            give_up_conference(conference, beginning());
         }
-        rooms.destroy_empty();
+        conferences.destroy_empty();
     }
 }

@@ -96,8 +96,8 @@ pub fn participant_count(live: &LiveConferences, room: RoomNo) -> u32
     match live.place_of(room) {
         None => 0,
         Some(place) => {
-            let asked = &live.conferences()[place];
-            u32::try_from(asked.participants.len()).unwrap_or(u32::MAX)
+            let conference = &live.conferences()[place];
+            u32::try_from(conference.participants.len()).unwrap_or(u32::MAX)
         }
     }
 }

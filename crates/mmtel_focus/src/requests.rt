@@ -155,9 +155,9 @@ impl Conference {
         let replied = effects
             .output
             .respond_with_status(step.alloc, step.config.sip, key, request, seat.tag(), 200);
-        let left = seat.leave(step.alloc, step.at, false, effects);
+        let departed = seat.leave(step.alloc, step.at, false, effects);
         replied?;
-        left?;
+        departed?;
         self.close_with(step, number, effects)
     }
 
@@ -184,8 +184,8 @@ impl Conference {
             named: &[],
             body: b"",
         };
-        let desk = &mut effects.output;
-        desk.respond_with_contact(step.alloc, contact.bytes(), key, request, tag, own)
+        let output = &mut effects.output;
+        output.respond_with_contact(step.alloc, contact.bytes(), key, request, tag, own)
     }
 
     /// Notifies the participant of this number that its request is being tried.
@@ -251,9 +251,9 @@ impl Conference {
     {
         let mut referral = referral_of(step.alloc, request)?;
         let asked = &mut referral;
-        let heard = self.receive_referral(step, key, request, asked, place, effects);
+        let received = self.receive_referral(step, key, request, asked, place, effects);
         drop(referral);
-        heard
+        received
     }
 
     /// An OPTIONS (RFC 3261 §11.2).

@@ -200,13 +200,13 @@ impl Conference {
         ensures effects { OnOk result (effects.new
             ≡ (at_participant (on_failure step.now.config step.now.at key response.now) place (in_step self.old effects.old)).effects) }
     {
-        let desk = &mut effects.output;
+        let output = &mut effects.output;
         self.participants[place].acknowledge_failure(
             step.alloc,
             step.config.sip,
             key,
             response,
-            desk,
+            output,
         )?;
         let line = status_line_of(step.alloc, response)?;
         self.end_invite(step, line.bytes(), place, effects)

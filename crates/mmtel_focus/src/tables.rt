@@ -145,10 +145,10 @@ impl Rooms {
         ensures emits { IfOk result (λ out. out ≡ effects.output.out) }
     {
         let mut effects = effects;
-        let loose = mem::replace(&mut effects.abandoned, List::new());
+        let abandoned_invites = mem::replace(&mut effects.abandoned, List::new());
         let rows = mem::replace(&mut effects.output.rows, List::new());
         let out = effects.into_emits();
-        self.keep(alloc, loose, rows)?;
+        self.keep(alloc, abandoned_invites, rows)?;
         Ok(out)
     }
 
@@ -205,11 +205,11 @@ impl Rooms {
             mixer: _,
             methods: _,
             live,
-            abandoned: loose,
+            abandoned: abandoned_invites,
             rows,
             has_failed: _,
         } = self;
-        drop(loose);
+        drop(abandoned_invites);
         drop(rows);
         live.give_up();
     }

@@ -505,9 +505,9 @@ booked_deed config (Notifies room seat code tokens) table p =
 booked_deed config (Receives x) table p =
     let moves = signal_books x.at config x.signal table.live table.abandoned (no_effects x.tokens) refl p in (moved_charged x.at table (table_after_op config (Receives x) table) x.tokens (step_on_receive config x table).effects refl moves, moves.plain)
 booked_deed config (Leaves room seat) table p =
-    let g = gives room seat table.live p in (record { front = g.front; meter = g.meter; back = g.back; filed = refl; old = g.was; is = g.is; row = g.row }, g.plain)
+    let g = gives room seat table.live p in (record { front = g.front; meter = g.meter; back = g.back; filed = refl; old = g.was; new = g.is; row = g.row }, g.plain)
 booked_deed config (Closes room) table p =
-    let g = closes_all room table.live p in (record { front = g.front; back = g.back; filed = refl; old = g.was; is = g.is }, g.plain)
+    let g = closes_all room table.live p in (record { front = g.front; back = g.back; filed = refl; old = g.was; new = g.is }, g.plain)
 booked_deed config (Drops count) table p = (record { remaining = refl; runs_on = refl }, p)
 
 -- ---- whatever was done before

@@ -355,28 +355,31 @@ module _ (config : ConferenceConfigView) (older : List TableOp) where
 
   -- the participants after it, and the CDRs that it files
   record Comes (op : TableOp) : Type 0 where
-    pub seats : AllDue (IsAccountedFor config (op ∷ older)) 0 (table_after config (op ∷ older)).live
+    pub participants : AllDue (IsAccountedFor config (op ∷ older)) 0 (table_after config (op ∷ older)).live
     pub rows : AreRowsAccountedFor config (op ∷ older) (moment_of op) (effects_after config older op).output.rows
 
   comes : (op : TableOp) → AllDue (IsAccountedFor config older) 0 before.live → Comes op
   comes (Opens c) h =
       let opened = opens_due c in
-      record { seats = each_joined (AreDue (IsAccountedFor config (Opens c ∷ older)) 0) before.live ((step_on_open config c before).conference ∷ []) (still (Opens c) 0 before.live h) (opened.0, tt); rows = opened.1 }
-  comes (Joins room c) h = let moved = joins_due room c (still (Joins room c) c.at before.live h, tt) in record { seats = moved.0; rows = moved.1 }
-  comes (Adopts room a) h = let moved = adopts_due room a (still (Adopts room a) a.at before.live h, tt) in record { seats = moved.0; rows = moved.1 }
+      record {
+        participants = each_joined (AreDue (IsAccountedFor config (Opens c ∷ older)) 0) before.live ((step_on_open config c before).conference ∷ []) (still (Opens c) 0 before.live h) (opened.0, tt);
+        rows = opened.1;
+      }
+  comes (Joins room c) h = let moved = joins_due room c (still (Joins room c) c.at before.live h, tt) in record { participants = moved.0; rows = moved.1 }
+  comes (Adopts room a) h = let moved = adopts_due room a (still (Adopts room a) a.at before.live h, tt) in record { participants = moved.0; rows = moved.1 }
   comes (Notifies room seat code tokens) h =
       let moved = step_of_notify_due (IsAccountedFor config (Notifies room seat code tokens ∷ older)) 0 config room seat code before.live (no_effects tokens) (still (Notifies room seat code tokens) 0 before.live h, tt) in
-      record { seats = moved.0; rows = (step_of_notify_quiet config room seat code before.live (no_effects tokens) (always_plain config older)).filed }
-  comes (Receives x) h = let moved = step_of_participant_due x (still (Receives x) x.at before.live h, tt) in record { seats = moved.0; rows = moved.1 }
-  comes (Leaves room seat) h = record { seats = conferences_after_leave_due (IsAccountedFor config (Leaves room seat ∷ older)) 0 room seat before.live (still (Leaves room seat) 0 before.live h); rows = refl }
-  comes (Closes room) h = record { seats = conferences_after_close_due (IsAccountedFor config (Closes room ∷ older)) 0 room before.live (still (Closes room) 0 before.live h); rows = refl }
-  comes (Drops count) h = record { seats = still (Drops count) 0 before.live h; rows = refl }
+      record { participants = moved.0; rows = (step_of_notify_quiet config room seat code before.live (no_effects tokens) (always_plain config older)).filed }
+  comes (Receives x) h = let moved = step_of_participant_due x (still (Receives x) x.at before.live h, tt) in record { participants = moved.0; rows = moved.1 }
+  comes (Leaves room seat) h = record { participants = conferences_after_leave_due (IsAccountedFor config (Leaves room seat ∷ older)) 0 room seat before.live (still (Leaves room seat) 0 before.live h); rows = refl }
+  comes (Closes room) h = record { participants = conferences_after_close_due (IsAccountedFor config (Closes room ∷ older)) 0 room before.live (still (Closes room) 0 before.live h); rows = refl }
+  comes (Drops count) h = record { participants = still (Drops count) 0 before.live h; rows = refl }
 
 -- ---- whatever was done
 
 all_due : (config : ConferenceConfigView) (ops : List TableOp) → AllDue (IsAccountedFor config ops) 0 (table_after config ops).live
 all_due config [] = tt
-all_due config (op ∷ older) = (comes config older op (all_due config older)).seats
+all_due config (op ∷ older) = (comes config older op (all_due config older)).participants
 
 pub seats_due : ParticipantsAreAccountedFor
 seats_due config ops = all_places (IsAccountedFor config ops) 0 (table_after config ops).live (all_due config ops)

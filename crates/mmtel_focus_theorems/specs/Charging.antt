@@ -86,7 +86,7 @@ pub record IsHandedBack (before after : Table) (answer : (at : ℕ) → Option R
   pub back : List MeterView
   pub filed : after.rows ≡ before.rows
   pub old : running_meters before.live ≡ among front meter back
-  pub is : running_meters after.live ≡ front ++ back
+  pub new : running_meters after.live ≡ front ++ back
   pub row : (at : ℕ) → answer at ≡ option_map (row_of_closed at) meter
 
 abbrev pub meters_in : List Ended → List MeterView
@@ -98,7 +98,7 @@ pub record AreHandedBack (before after : Table) (answer : List Ended) : Type 0 w
   pub back : List MeterView
   pub filed : after.rows ≡ before.rows
   pub old : running_meters before.live ≡ front ++ (meters_in answer ++ back)
-  pub is : running_meters after.live ≡ front ++ back
+  pub new : running_meters after.live ≡ front ++ back
 
 -- CDRs that were handed over no longer wait
 pub record IsDropped (count : ℕ) (before after : Table) : Type 0 where

@@ -5,7 +5,7 @@ use Rattle.mmtel_link.specs.LinkStates.{LinkCalls, LinkInput, LinkOutput, fails_
 -- its inputs and outputs, its calls, and the counts of its arrival and delivery faults
 pub record MemoryLinkView : Type 0 where
   pub input : LinkInput
-  pub given : LinkOutput
+  pub output : LinkOutput
   pub calls : LinkCalls
   pub arrival_faults : ℕ
   pub delivery_faults : ℕ

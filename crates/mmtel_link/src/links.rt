@@ -61,7 +61,7 @@ pub trait Link {
     ghost input: { Self → Option LinkInput };
 
     /// The outputs, where they are known.
-    ghost given: { Self → Option LinkOutput };
+    ghost output: { Self → Option LinkOutput };
 
     /// The addresses bound last, the number of calls so far and the numbers of those that fail, where they are known.
     ghost calls: { Self → Option LinkCalls };
@@ -79,7 +79,7 @@ pub trait Link {
     /// `Failed` only where the count of arrival faults rose in this call.
     fn bind(&mut self, sip: Addr, web: Addr) -> Result<(), Failed>
         ensures received { input self.new ≡ input self.old }
-        ensures output { given self.new ≡ given self.old }
+        ensures output { output self.new ≡ output self.old }
         ensures calls { IsCountedBind (calls self.old) (calls self.new) sip web result }
         ensures delivery_faults { delivery_faults self.new ≡ delivery_faults self.old }
         ensures cause { HasCause (arrival_faults self.old) (arrival_faults self.new) result };
@@ -91,7 +91,7 @@ pub trait Link {
     /// `Failed` only where the count of arrival faults rose in this call.
     fn next(&mut self, alloc: Global) -> Result<Arrival, Failed>
         ensures received { NextIfExposed (input self.old) (input self.new) result }
-        ensures output { given self.new ≡ given self.old }
+        ensures output { output self.new ≡ output self.old }
         ensures calls { IsCountedCall (calls self.old) (calls self.new) result }
         ensures delivery_faults { delivery_faults self.new ≡ delivery_faults self.old }
         ensures cause { HasCause (arrival_faults self.old) (arrival_faults self.new) result };
@@ -105,7 +105,7 @@ pub trait Link {
         requires capacity { 0 < length buf.old }
         ensures within { IfOk result (λ n. n ≤ length buf.new) }
         ensures received { ReadIfExposed (input self.old) (input self.new) buf.old buf.new result }
-        ensures output { given self.new ≡ given self.old }
+        ensures output { output self.new ≡ output self.old }
         ensures calls { IsCountedCall (calls self.old) (calls self.new) result }
         ensures arrival_faults { arrival_faults self.new ≡ arrival_faults self.old }
         ensures cause { HasCause (delivery_faults self.old) (delivery_faults self.new) result };
@@ -117,7 +117,7 @@ pub trait Link {
     /// `Failed` only where the count of delivery faults rose in this call: the reply is lost.
     fn web_reply(&mut self, alloc: Global, bytes: &[u8]) -> Result<(), SendFault>
         ensures received { input self.new ≡ input self.old }
-        ensures output { DeliversIfExposed (given self.old) (given self.new) (with_reply bytes.now) result }
+        ensures output { DeliversIfExposed (output self.old) (output self.new) (with_reply bytes.now) result }
         ensures calls { IsCountedDelivery (calls self.old) (calls self.new) result }
         ensures arrival_faults { arrival_faults self.new ≡ arrival_faults self.old }
         ensures cause { HasSendCause (delivery_faults self.old) (delivery_faults self.new) result };
@@ -129,7 +129,7 @@ pub trait Link {
     /// `Failed` only where the count of delivery faults rose in this call: the datagram is lost.
     fn send(&mut self, alloc: Global, to: Addr, bytes: &[u8]) -> Result<(), SendFault>
         ensures received { input self.new ≡ input self.old }
-        ensures output { DeliversIfExposed (given self.old) (given self.new) (with_offer to bytes.now) result }
+        ensures output { DeliversIfExposed (output self.old) (output self.new) (with_offer to bytes.now) result }
         ensures calls { IsCountedDelivery (calls self.old) (calls self.new) result }
         ensures arrival_faults { arrival_faults self.new ≡ arrival_faults self.old }
         ensures cause { HasSendCause (delivery_faults self.old) (delivery_faults self.new) result };

@@ -348,13 +348,13 @@ impl Boxes {
             mailboxes,
             made: _,
             live,
-            pending: asked,
+            pending,
         } = self;
         drop(mailboxes);
-        drop(asked);
+        drop(pending);
         let mut live = live;
-        'given: while let Some(one) = live.pop() {
-            drop_ended(one.leave());
+        'subscriptions: while let Some(subscription) = live.pop() {
+            drop_ended(subscription.leave());
         }
         live.destroy_empty();
     }

@@ -35,11 +35,11 @@ impl Effects {
     {
         let Effects {
             closes: _,
-            abandoned: loose,
+            abandoned: abandoned_invites,
             output: desk,
         } = self;
         let StepOutput { tokens, out, rows } = desk;
-        drop(loose);
+        drop(abandoned_invites);
         drop(tokens);
         drop(rows);
         out

@@ -24,10 +24,10 @@ fn accepted_invite(tag: Text, ack: Text, invite: Option<Invite>) -> Option<Invit
             drop(ack);
             None
         }
-        Some(Invite::Outstanding(_, invitation)) => {
-            let mut invitation = invitation;
-            let branch = mem::replace(&mut invitation.branch, Text::new());
-            drop(invitation);
+        Some(Invite::Outstanding(_, sent_invite)) => {
+            let mut sent_invite = sent_invite;
+            let branch = mem::replace(&mut sent_invite.branch, Text::new());
+            drop(sent_invite);
             Some(Invite::Accepted(branch, tag, ack))
         }
         Some(Invite::Accepted(branch, before, sent)) => {
@@ -51,8 +51,12 @@ impl Invite {
         ensures { OnOk result (output.new ≡ with_failure_ack sip key response.now (Some self.now) output.old) }
     {
         match self {
-            Invite::Outstanding(_, invitation) => output.acknowledge_final(
-                alloc, sip, key, invitation, response,
+            Invite::Outstanding(_, sent_invite) => output.acknowledge_final(
+                alloc,
+                sip,
+                key,
+                sent_invite,
+                response,
             ),
             Invite::Accepted(_, _, _) => Ok(()),
         }
@@ -128,7 +132,7 @@ impl ParticipantState {
         ensures cancelled { OnOk result (output.new ≡ with_invite_cancel sip self.now.invite output.old) }
     {
         match &self.invite {
-            Some(Invite::Outstanding(_, invitation)) => output.cancel(alloc, sip, invitation),
+            Some(Invite::Outstanding(_, sent_invite)) => output.cancel(alloc, sip, sent_invite),
             _ => Ok(()),
         }
     }
@@ -139,9 +143,9 @@ impl ParticipantState {
     {
         match &mut self.invite {
             None => {}
-            Some(Invite::Outstanding(_, invitation)) => {
-                invitation.key = Some(key);
-                invitation.provisional = true;
+            Some(Invite::Outstanding(_, sent_invite)) => {
+                sent_invite.key = Some(key);
+                sent_invite.provisional = true;
             }
             Some(Invite::Accepted(_, _, _)) => {}
         }
@@ -161,9 +165,9 @@ impl ParticipantState {
     {
         match &mut self.invite {
             None => {}
-            Some(Invite::Outstanding(_, invitation)) => {
-                if is_cancel_due(invitation.provisional, invitation.cancelled) {
-                    invitation.cancelled = true;
+            Some(Invite::Outstanding(_, sent_invite)) => {
+                if is_cancel_due(sent_invite.provisional, sent_invite.cancelled) {
+                    sent_invite.cancelled = true;
                 }
             }
             Some(Invite::Accepted(_, _, _)) => {}

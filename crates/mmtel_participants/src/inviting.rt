@@ -67,11 +67,11 @@ fn begin_dialog(
         ≡ invitation_dialog step.now.config room peer (uri_text (target_of uri)) output.old) }
     ensures output { OnOk result (output.new ≡ after_draw (after_draw output.old)) }
 {
-    let aim = destination_of(step.alloc, peer, uri)?;
+    let destination = destination_of(step.alloc, peer, uri)?;
     let call_id = output.draw(step.alloc)?;
     let tag = output.draw(step.alloc)?;
     let from = conference_from(step.alloc, step.config.sip, room, tag.bytes())?;
-    Ok(dialogue_to(aim, call_id, tag, from))
+    Ok(dialogue_to(destination, call_id, tag, from))
 }
 
 /// The INVITE that creates this dialog, with this branch after the magic cookie.
@@ -153,14 +153,14 @@ fn participant_of_invite(
             return Err(error);
         }
     };
-    let invitation = SentInvite::new(first, 1, branch);
+    let sent_invite = SentInvite::new(first, 1, branch);
     let leg = CalleeLeg::initial(as_callee(dialogue), None);
     Ok(ParticipantState {
         number: next.seat,
         by: Some(by),
         account,
         pending_ack: None,
-        invite: Some(Invite::Outstanding(next.number, invitation)),
+        invite: Some(Invite::Outstanding(next.number, sent_invite)),
         party: Party::Invited(leg),
     })
 }

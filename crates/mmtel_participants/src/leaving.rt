@@ -42,13 +42,13 @@ fn end_dialog_of_invite(
     alloc: Global,
     had_bye: bool,
     dialogue: &Dialogue,
-    invitation: &mut SentInvite,
+    sent_invite: &mut SentInvite,
 ) -> Result<(), NoMemory>
-    ensures { OnOk result (invitation.new
-        ≡ record invitation.old { dialogue = dialogue.now; forks = ended_dialogs had_bye dialogue.now }) }
+    ensures { OnOk result (sent_invite.new
+        ≡ record sent_invite.old { dialogue = dialogue.now; forks = ended_dialogs had_bye dialogue.now }) }
 {
-    invitation.forks = ended_dialogs(alloc, had_bye, dialogue)?;
-    invitation.dialogue = dialogue.copied(alloc)?;
+    sent_invite.forks = ended_dialogs(alloc, had_bye, dialogue)?;
+    sent_invite.dialogue = dialogue.copied(alloc)?;
     Ok(())
 }
 
@@ -57,19 +57,19 @@ fn abandoned_in_dialog(
     alloc: Global,
     had_bye: bool,
     dialogue: &Dialogue,
-    invitation: SentInvite,
+    sent_invite: SentInvite,
 ) -> Result<AbandonedInvite, NoMemory>
     ensures { IfOk result (λ l. l
-        ≡ record { invite = record invitation { dialogue = dialogue.now; forks = ended_dialogs had_bye dialogue.now }; in_dialog = true }) }
+        ≡ record { invite = record sent_invite { dialogue = dialogue.now; forks = ended_dialogs had_bye dialogue.now }; in_dialog = true }) }
 {
-    let mut invitation = invitation;
-    match end_dialog_of_invite(alloc, had_bye, dialogue, &mut invitation) {
+    let mut sent_invite = sent_invite;
+    match end_dialog_of_invite(alloc, had_bye, dialogue, &mut sent_invite) {
         Ok(()) => Ok(AbandonedInvite {
-            invite: invitation,
+            invite: sent_invite,
             in_dialog: true,
         }),
         Err(error) => {
-            drop(invitation);
+            drop(sent_invite);
             Err(error)
         }
     }
@@ -79,17 +79,17 @@ fn abandoned_of_party(
     alloc: Global,
     had_bye: bool,
     party: &Party,
-    invitation: SentInvite,
+    sent_invite: SentInvite,
 ) -> Result<AbandonedInvite, NoMemory>
-    ensures { IfOk result (λ l. l ≡ abandoned_of_party had_bye party.now invitation) }
+    ensures { IfOk result (λ l. l ≡ abandoned_of_party had_bye party.now sent_invite) }
 {
     match party {
         Party::Invited(_) => Ok(AbandonedInvite {
-            invite: invitation,
+            invite: sent_invite,
             in_dialog: false,
         }),
-        Party::DialedIn(leg) => abandoned_in_dialog(alloc, had_bye, leg.dialogue(), invitation),
-        Party::DialedOut(leg) => abandoned_in_dialog(alloc, had_bye, leg.dialogue(), invitation),
+        Party::DialedIn(leg) => abandoned_in_dialog(alloc, had_bye, leg.dialogue(), sent_invite),
+        Party::DialedOut(leg) => abandoned_in_dialog(alloc, had_bye, leg.dialogue(), sent_invite),
     }
 }
 
@@ -107,8 +107,8 @@ fn abandon(
     match invite {
         None => Ok(()),
         Some(Invite::Accepted(_, _, _)) => Ok(()),
-        Some(Invite::Outstanding(_, invitation)) => {
-            let one = abandoned_of_party(alloc, had_bye, party, invitation)?;
+        Some(Invite::Outstanding(_, sent_invite)) => {
+            let one = abandoned_of_party(alloc, had_bye, party, sent_invite)?;
             push_item(alloc, abandoned, one)
         }
     }

@@ -87,7 +87,7 @@ impl Invite {
         ensures { result ≡ invite_has_branch branch.now (Some self.now) }
     {
         match self {
-            Invite::Outstanding(_, invitation) => invitation.branch.bytes() == branch,
+            Invite::Outstanding(_, sent_invite) => sent_invite.branch.bytes() == branch,
             Invite::Accepted(sent, _, _) => sent.bytes() == branch,
         }
     }

@@ -172,14 +172,14 @@ module _ (events : List Event) (answer : ReliableResponse) (rest : List Reliable
 -- ---- one operation
 
 -- the own number is the next one
-pub assigned_next : (rseq own : ℕ) (acks : AcksView) → own_number rseq acks ≡ Some own → own ≡ acks.given + 1
-assigned_next rseq own acks e = sym (guard_some _ (acks.given + 1) own e).1
+pub assigned_next : (rseq own : ℕ) (acks : AcksView) → own_number rseq acks ≡ Some own → own ≡ acks.assigned + 1
+assigned_next rseq own acks e = sym (guard_some _ (acks.assigned + 1) own e).1
 
 -- the callee's number is the next one
 pub assigned_after : (rseq own : ℕ) (acks : AcksView) → own_number rseq acks ≡ Some own → comes_next rseq acks.last_relayed ≡ true
 assigned_after rseq own acks e =
-    let tests = guard_some _ (acks.given + 1) own e in
-    let fits = and_true (comes_next rseq acks.last_relayed && nat_lt (length acks.waiting) most_waiting) (nat_lt acks.given greatest_number) tests.0 in
+    let tests = guard_some _ (acks.assigned + 1) own e in
+    let fits = and_true (comes_next rseq acks.last_relayed && nat_lt (length acks.waiting) most_waiting) (nat_lt acks.assigned greatest_number) tests.0 in
     (and_true (comes_next rseq acks.last_relayed) (nat_lt (length acks.waiting) most_waiting) fits.0).0
 
 -- what the PRACK names is the first

@@ -16,7 +16,7 @@ module _ (acks : AcksView) (ops : List AcksOperation) (stands : Represents acks 
   before = events_of acks.cseq ops
 
   abbrev view : (given : ℕ) (last : Option ℕ) (waiting : List ReliableResponse) → AcksView
-  view given last waiting = record { cseq = acks.cseq; given = given; last_relayed = last; waiting = waiting }
+  view given last waiting = record { cseq = acks.cseq; assigned = given; last_relayed = last; waiting = waiting }
 
   pub stands_relayed : (rseq : ℕ) → Represents (after_relay rseq acks) (Relays rseq ∷ ops)
   stands_relayed rseq = by_number (own_number rseq acks) (ap (own_number rseq) (sym stands.state))
@@ -44,17 +44,17 @@ module _ (acks : AcksView) (ops : List AcksOperation) (stands : Represents acks 
       by_name None e = record { state = stands.state ∙ ap (λ (o : Option ReliableResponse). acks_after acks.cseq (events_with_ack o before)) (sym e) }
       by_name (Some answer) e =
           let first = named_first rack acks.cseq (unacknowledged_responses before) answer e in
-          let given : acks.given ≡ length (relayed_responses before) = ap (λ (a : AcksView). a.given) stands.state in
+          let given : acks.assigned ≡ length (relayed_responses before) = ap (λ (a : AcksView). a.assigned) stands.state in
           let last : acks.last_relayed ≡ last_number before = ap (λ (a : AcksView). a.last_relayed) stands.state in
           let waiting : drop 1 acks.waiting ≡ unacknowledged_responses (Acknowledged answer ∷ before) =
           ap (λ (a : AcksView). drop 1 a.waiting) stands.state ∙ ap (drop 1) first.1 ∙ sym (unacknowledged_acknowledged before answer first.0 (kept acks.cseq ops) first.1) in
           record {
             state =
-                ap (λ (w : List ReliableResponse). view acks.given acks.last_relayed w) waiting
+                ap (λ (w : List ReliableResponse). view acks.assigned acks.last_relayed w) waiting
                 ∙ ap (λ (n : ℕ). view n acks.last_relayed (unacknowledged_responses (Acknowledged answer ∷ before))) given
                 ∙ ap (λ (o : Option ℕ). view (length (relayed_responses before)) o (unacknowledged_responses (Acknowledged answer ∷ before))) last
                 ∙ ap (λ (o : Option ReliableResponse). acks_after acks.cseq (events_with_ack o before)) (sym e);
           }
 
   pub stands_left : Represents (next_attempt acks) (LeavesAttempt ∷ ops)
-  stands_left = record { state = ap (λ (n : ℕ). view n None []) (ap (λ (a : AcksView). a.given) stands.state) }
+  stands_left = record { state = ap (λ (n : ℕ). view n None []) (ap (λ (a : AcksView). a.assigned) stands.state) }

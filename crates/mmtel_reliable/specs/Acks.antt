@@ -11,7 +11,7 @@ pub record AcksView : Type 0 where
   -- the CSeq number of that INVITE
   pub cseq : ℕ
   -- how many own numbers were used, which are 1, 2, 3 and so on
-  pub given : ℕ
+  pub assigned : ℕ
   -- the callee's number of the last response of this attempt
   pub last_relayed : Option ℕ
   -- the responses of this attempt that are not acknowledged, the oldest first
@@ -23,7 +23,7 @@ has_own own = list_any (λ answer. answer.own == own)
 
 -- none was relayed
 abbrev pub no_responses : ℕ → AcksView
-no_responses cseq = record { cseq = cseq; given = 0; last_relayed = None; waiting = [] }
+no_responses cseq = record { cseq = cseq; assigned = 0; last_relayed = None; waiting = [] }
 
 -- how many responses may wait at most (RFC 3262 leaves it to whoever relays them)
 abbrev pub most_waiting : ℕ
@@ -39,12 +39,12 @@ comes_next rseq (Some last) = rseq == last + 1
 -- the own number of the callee's response of this number; None where it is not its next one, where too many wait, or where the numbers are exhausted
 abbrev pub own_number : ℕ → AcksView → Option ℕ
 own_number rseq acks =
-    if comes_next rseq acks.last_relayed && nat_lt (length acks.waiting) most_waiting && nat_lt acks.given greatest_number then Some (acks.given + 1) else None
+    if comes_next rseq acks.last_relayed && nat_lt (length acks.waiting) most_waiting && nat_lt acks.assigned greatest_number then Some (acks.assigned + 1) else None
 
 abbrev pub with_response : ℕ → Option ℕ → AcksView → AcksView
 with_response rseq None acks = acks
 with_response rseq (Some own) acks =
-    record acks { given = own; last_relayed = Some rseq; waiting = acks.waiting ++ (record { own = own; callee = rseq }) ∷ [] }
+    record acks { assigned = own; last_relayed = Some rseq; waiting = acks.waiting ++ (record { own = own; callee = rseq }) ∷ [] }
 
 abbrev pub after_relay : ℕ → AcksView → AcksView
 after_relay rseq acks = with_response rseq (own_number rseq acks) acks

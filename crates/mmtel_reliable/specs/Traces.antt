@@ -60,7 +60,7 @@ unacknowledged_responses events = filter (λ answer. not (is_acknowledged events
 -- the responses to the INVITE of this CSeq number, as these events leave them
 abbrev pub acks_after : ℕ → List Event → AcksView
 acks_after cseq events =
-    record { cseq = cseq; given = length (relayed_responses events); last_relayed = last_number events; waiting = unacknowledged_responses events }
+    record { cseq = cseq; assigned = length (relayed_responses events); last_relayed = last_number events; waiting = unacknowledged_responses events }
 
 -- ---- the results of operations, the newest first
 

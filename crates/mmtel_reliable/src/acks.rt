@@ -27,7 +27,7 @@ pub struct ReliableResponse {
 #[derive(Drop)]
 pub struct Acks {
     cseq: u32,
-    given: u32,
+    assigned: u32,
     last_relayed: Option<u32>,
     waiting: VecDeque<ReliableResponse>,
 }
@@ -40,7 +40,7 @@ impl Model for Acks {
     ghost use Rattle.std.specs.Prelude.{◌≡◌};
     ghost use Rattle.std.specs.VecDeque.{deque_capacity};
 
-    ghost view = { λ acks. record { cseq = acks.cseq; given = acks.given; last_relayed = acks.last_relayed; waiting = acks.waiting.items } };
+    ghost view = { λ acks. record { cseq = acks.cseq; assigned = acks.assigned; last_relayed = acks.last_relayed; waiting = acks.waiting.items } };
 
     ghost invariant = { λ acks. deque_capacity acks.waiting ≡ 16 };
 }
@@ -58,7 +58,7 @@ impl Acks {
         let waiting = VecDeque::with_capacity(alloc, MOST_WAITING)?;
         Ok(Acks {
             cseq,
-            given: 0,
+            assigned: 0,
             last_relayed: None,
             waiting,
         })
@@ -75,11 +75,11 @@ impl Acks {
     {
         if !comes_next(rseq, self.last_relayed)
             || self.waiting.len() >= MOST_WAITING
-            || self.given >= GREATEST_NUMBER
+            || self.assigned >= GREATEST_NUMBER
         {
             return None;
         }
-        let own = self.given + 1;
+        let own = self.assigned + 1;
         match self
             .waiting
             .push_back(ReliableResponse { own, callee: rseq })
@@ -87,7 +87,7 @@ impl Acks {
             Ok(()) => {}
             Err(_) => unreachable!(),
         }
-        self.given = own;
+        self.assigned = own;
         self.last_relayed = Some(rseq);
         Some(own)
     }

@@ -98,7 +98,7 @@ in_back (y ∷ xs) ys x is = inr (in_back xs ys x is)
 module _ (d : Directory) (whole : List EventRecord) where
   -- an ACK of an event
   pub record IsAckOfEvent (said : MessageView) : Type 0 where
-    pub heard : IsReceivedIn d whole said
+    pub received : IsReceivedIn d whole said
     pub is_ack : is_method (codes "ACK") said.parsed.start ≡ true
 
   abbrev pub AreHeard : List ReceivedAck → Type 0
@@ -139,8 +139,8 @@ module _ (d : Directory) (whole : List EventRecord) where
   pub ack_still : (ops : List TableOp) (op : TableOp) (text : List ℕ) → IsOwnAck d whole ops text → IsOwnAck d whole (op ∷ ops) text
   ack_still ops op text own = record {
     dialogue = own.dialogue;
-    given = own.given;
-    passes = passes_still (acked_by (call_config d) op (table_after (call_config d) ops).entries) ops op own.dialogue own.given refl own.passes;
+    parts = own.parts;
+    passes = passes_still (acked_by (call_config d) op (table_after (call_config d) ops).entries) ops op own.dialogue own.parts refl own.passes;
     lines = own.lines;
     is = own.is;
   }
@@ -155,7 +155,7 @@ module _ (d : Directory) (whole : List EventRecord) where
       inr (record {
         acked = p.received;
         in_call = p.among;
-        received = one.heard;
+        received = one.received;
         is_ack = one.is_ack;
         dialog = p.dialog;
         is =
@@ -168,9 +168,9 @@ module _ (d : Directory) (whole : List EventRecord) where
       IsTextOfAck (acked_after (call_config d) ops) text → IsOwnAck d whole ops text
   own_ack own_lines ops text heard is = record {
     dialogue = is.dialogue;
-    given = is.given;
-    passes = gives ops is.dialogue is.given heard is.passes;
-    lines = own_lines (ack_of is.dialogue is.given) is.clean;
+    parts = is.parts;
+    passes = gives ops is.dialogue is.parts heard is.passes;
+    lines = own_lines (ack_of is.dialogue is.parts) is.no_injection;
     is = is.is;
   }
 
@@ -184,7 +184,7 @@ emit_more : (acks : List ReceivedAck) (x : Emit) → EmitHasNoInjection [] x →
 emit_more acks (emit.Ask peer m) is = is
 emit_more acks (emit.Reply key m) is = is
 emit_more acks (emit.Plain peer text) is =
-    record { dialogue = is.dialogue; given = is.given; passes = given_more acks is.dialogue is.given is.passes; clean = is.clean; is = is.is }
+    record { dialogue = is.dialogue; parts = is.parts; passes = given_more acks is.dialogue is.parts is.passes; no_injection = is.no_injection; is = is.is }
 emit_more acks (emit.Ack key m) is = is
 emit_more acks (emit.Settled key own) is = is
 emit_more acks (emit.Arm call what at) is = is

@@ -42,7 +42,7 @@ runs-behind before (x ∷ one) mid rows two after more f g =
 pub record Kept (config : ConferenceConfigView) (ops : List TableOp) : Type 0 where
   pub book : List DatedEntry
   pub runs : RunsOn [] book (running_meters (table_after config ops).live) (rows_of_departed config ops)
-  pub of_deeds : IsBookOf config ops book
+  pub of_operations : IsBookOf config ops book
 
 -- these CDRs were filed, after those before
 same-rows : (before rows brought : List Row) → before ++ brought ≡ before ++ rows → rows ≡ brought
@@ -58,11 +58,11 @@ charged-more config op older at moment c is k =
           runs-behind [] k.book (running_meters (table_after config older).live) (rows_of_departed config older) (dated_entries at c.booked.entries) (running_meters (table_after config (op ∷ older)).live) (effects_after config older op).output.rows k.runs
           (subst (λ (rows : List Row). RunsOn (running_meters (table_after config older).live) (dated_entries at c.booked.entries) (running_meters (table_after config (op ∷ older)).live) rows) same
           (follows-on at (running_meters (table_after config older).live) c.booked.entries (running_meters (table_after config (op ∷ older)).live) c.rows c.booked.follows));
-      of_deeds = (
+      of_operations = (
         k.book,
         dated_entries at c.booked.entries,
         refl,
-        k.of_deeds,
+        k.of_operations,
         subst (λ (o : Option ℕ). IsBookAt o (running_meters (table_after config older).live) (running_meters (table_after config (op ∷ older)).live) (effects_after config older op).output.rows (dated_entries at c.booked.entries)) (sym moment)
             (c.booked.entries, refl, subst (λ (rows : List Row). Follows at (running_meters (table_after config older).live) c.booked.entries (running_meters (table_after config (op ∷ older)).live) rows) same c.booked.follows),
       );
@@ -76,11 +76,11 @@ uncharged-more config op older moment runs none k = record {
   runs =
       subst (λ (meters : List MeterView). RunsOn [] k.book meters (rows_of_departed config older ++ (effects_after config older op).output.rows)) (sym runs)
       (subst (RunsOn [] k.book (running_meters (table_after config older).live)) (sym (ap (λ (rows : List Row). rows_of_departed config older ++ rows) none ∙ append-nil (rows_of_departed config older))) k.runs);
-  of_deeds = (
+  of_operations = (
     k.book,
     [],
     sym (append-nil k.book),
-    k.of_deeds,
+    k.of_operations,
     subst (λ (o : Option ℕ). IsBookAt o (running_meters (table_after config older).live) (running_meters (table_after config (op ∷ older)).live) (effects_after config older op).output.rows []) (sym moment) (refl, runs, none),
   );
 }
@@ -108,7 +108,7 @@ more-kept law config (Drops count) older of k =
     uncharged-more config (Drops count) older refl dropped.runs_on refl k
 
 pub kept : OperationsAreCharged → (config : ConferenceConfigView) (ops : List TableOp) → Each IsOfRun ops → Kept config ops
-kept law config [] of = record { book = []; runs = (refl, refl); of_deeds = refl }
+kept law config [] of = record { book = []; runs = (refl, refl); of_operations = refl }
 kept law config (op ∷ older) of = more-kept law config op older of.0 (kept law config older of.1)
 
 -- ---- whose its meters and CDRs are

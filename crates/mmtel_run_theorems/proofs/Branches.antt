@@ -113,7 +113,7 @@ pub awaited_branch : (m : Message Start) (sip : Addr) (branch : List ℕ) → Is
 unfolding head_of
 awaited_branch m sip branch is low token awaited =
     let r : IsRequest awaited.method sip branch m = awaited.request in
-    let g : RequestPartsView = r.given in
+    let g : RequestPartsView = r.parts in
     let read : via_in m.lines ≡ Some (via_of sip branch) =
     ap (λ (n : Message Start). via_in n.lines) r.is
     ∙ (via_read r.dialogue r.number awaited.method g (subst IsSource (sym r.from_there) is) (subst (λ (a : Addr). 0 < a.port) (sym r.from_there) low) (subst IsToken (sym r.has_it) token)
@@ -129,7 +129,7 @@ text_of : (sip : Addr) (branch : List ℕ) (m : Message Start) → IsAwaited sip
 unfolding line
 text_of sip branch m awaited =
     let r : IsRequest awaited.method sip branch m = awaited.request in
-    ap (λ (n : Message Start). first_text n.lines) r.is ∙ (ap (λ (a : Addr). via_text a r.given.branch) r.from_there ∙ ap (via_text sip) r.has_it)
+    ap (λ (n : Message Start). first_text n.lines) r.is ∙ (ap (λ (a : Addr). via_text a r.parts.branch) r.from_there ∙ ap (via_text sip) r.has_it)
 
 pub branch_once : (sip : Addr) (one other : List ℕ) (m : Message Start) → IsAwaited sip one m → IsAwaited sip other m → one ≡ other
 branch_once sip one other m is too =

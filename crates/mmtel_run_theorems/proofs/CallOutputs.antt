@@ -220,11 +220,11 @@ module _ (d : Directory) where
   record SendsOn (at : ℕ) (w v : RunState) : Type 0 where
     extends : Extends w v
     gone : AllGone w w.call_ops → AllGone v v.call_ops
-    said : HandsOverMore w v
+    handed_over : HandsOverMore w v
 
   -- no operation on calls
   alike : (at : ℕ) (w v : RunState) → v.call_ops ≡ w.call_ops → Extends w v → HandsOverMore w v → SendsOn at w v
-  alike at w v ops e said = record { extends = e; gone = λ g. subst (AllGone v) (sym ops) (gone_more w v w.call_ops e g); said = said }
+  alike at w v ops e said = record { extends = e; gone = λ g. subst (AllGone v) (sym ops) (gone_more w v w.call_ops e g); handed_over = said }
 
   brings_on : (at : ℕ) (op : TableOp) (output : StepOutput) (w : RunState) → output.out ≡ out_by (call_config d) op (calls_in d w) → SendsOn at w (with_call_output at op output w)
   brings_on at op output w out =
@@ -234,7 +234,7 @@ module _ (d : Directory) where
       record {
         extends = e;
         gone = λ g. subst (AllGone v) (sym (with_emits_deeds at output.out u)) (tt, (subst (Each (GoesOut v)) out (with_emits_go at output.out u), gone_more w v w.call_ops e g));
-        said = λ s. with_emits_said at output.out u (same_said w u refl (extends_refl w u refl refl) s);
+        handed_over = λ s. with_emits_said at output.out u (same_said w u refl (extends_refl w u refl refl) s);
       }
 
   lodges_on : (at : ℕ) (op : rooms.TableOp) (output : StepOutput) (w : RunState) → SendsOn at w (with_conference_output at op output w)
@@ -247,7 +247,7 @@ module _ (d : Directory) where
   sent : IsWalked d SendsOn
   sent = record {
     quiet = λ at w v ops seats acts offers. let e : Extends w v = extends_refl w v acts offers in alike at w v ops e (same_said w v acts e);
-    next = λ at u v w s t. record { extends = extends_then u v w s.extends t.extends; gone = λ g. t.gone (s.gone g); said = λ x. t.said (s.said x) };
+    next = λ at u v w s t. record { extends = extends_then u v w s.extends t.extends; gone = λ g. t.gone (s.gone g); handed_over = λ x. t.handed_over (s.handed_over x) };
     acting = λ at x w v unsent ops seats acts offers.
         let e : Extends w v = record { actions = x ∷ []; on_actions = acts; offers = []; offered = offers ∙ sym (append-nil w.offers) } in
         alike at w v ops e (λ s. subst (AreHandedOver v) (sym acts) (unsent-said v x w.actions unsent, said_more w v w.actions e s));
@@ -260,7 +260,7 @@ module _ (d : Directory) where
         record {
           extends = e;
           gone = λ g. (subst (Each (GoesOut (with_call_op op w))) (sym none) tt, gone_more w (with_call_op op w) w.call_ops e g);
-          said = same_said w (with_call_op op w) refl e;
+          handed_over = same_said w (with_call_op op w) refl e;
         };
     brings = λ at op output w is out. brings_on at op output w out;
     lodges = λ at op output w is. lodges_on at op output w;
@@ -269,10 +269,10 @@ module _ (d : Directory) where
   module _ (token : List ℕ) (begins : BeginsChangeNothing) where
     record IsGoneIn (w : RunState) : Type 0 where
       gone : AllGone w w.call_ops
-      said : AreHandedOver w w.actions
+      handed_over : AreHandedOver w w.actions
 
     gone_on : (at : ℕ) (w v : RunState) → SendsOn at w v → IsGoneIn w → IsGoneIn v
-    gone_on at w v s g = record { gone = s.gone g.gone; said = s.said g.said }
+    gone_on at w v s g = record { gone = s.gone g.gone; handed_over = s.handed_over g.handed_over }
 
     fired_by : (o : Option ℕ) (w v : RunState) → FiresBy d token SendsOn sent o w v → IsGoneIn w → IsGoneIn v
     fired_by None w v is g = subst IsGoneIn (sym is) g
@@ -302,7 +302,7 @@ module _ (d : Directory) where
         go false = tt
 
     all_gone : (loaded : Texts) (fuel : ℕ) (recorded : List EventRecord) → IsGoneIn (state_after d token loaded fuel recorded)
-    all_gone loaded fuel recorded = after_gone fuel (timed_events d recorded) (initial_state loaded) (record { gone = tt; said = tt })
+    all_gone loaded fuel recorded = after_gone fuel (timed_events d recorded) (initial_state loaded) (record { gone = tt; handed_over = tt })
 
     pub calls_go_out : (loaded : Texts) (fuel : ℕ) (recorded : List EventRecord) (number : ℕ) →
         Each (GoesOut (state_after d token loaded fuel recorded)) (emits_of (call_config d) number (state_after d token loaded fuel recorded).call_ops)
@@ -310,4 +310,4 @@ module _ (d : Directory) where
         let w : RunState = state_after d token loaded fuel recorded in of_call_gone w number w.call_ops (all_gone loaded fuel recorded).gone
 
     pub replies_said : (loaded : Texts) (fuel : ℕ) (recorded : List EventRecord) → AreHandedOver (state_after d token loaded fuel recorded) (state_after d token loaded fuel recorded).actions
-    replies_said loaded fuel recorded = (all_gone loaded fuel recorded).said
+    replies_said loaded fuel recorded = (all_gone loaded fuel recorded).handed_over

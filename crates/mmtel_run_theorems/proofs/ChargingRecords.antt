@@ -113,7 +113,7 @@ module _ (steps : CallsTakeTheirSteps) (exact : CallsOfTablesAreExact) (own : Ch
         calls = ap (filter is_call_row) (sym filed.all) ∙ (calls-alone filed.closed of-calls of-seats ∙ filed.calls);
         participants = seat-rows;
         book = k.book;
-        operations = k.of_deeds;
+        operations = k.of_operations;
         booked = subst (RunsOn [] k.book (running_meters (conferences_in d w).live)) (sym seat-rows) k.runs;
         once = λ p. all_once p k.book (running_meters (conferences_in d w).live) (rows_of_departed (conference_config d) w.conference_ops) k.runs;
         connected = λ newer older is. due (conference_config d) older;

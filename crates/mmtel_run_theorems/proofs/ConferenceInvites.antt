@@ -143,14 +143,14 @@ module _ (was : List ℕ → Peer → Type 0) (config : ConferenceConfigView) (t
 
   -- from an output to a later one
   pub record Goes (output later : StepOutput) : Type 0 where
-    pub asked : AllWereSent later.out → AllWereSent output.out
+    pub sent : AllWereSent later.out → AllWereSent output.out
     pub counted : Counted output → Counted later
 
   stays : (output : StepOutput) → Goes output output
-  stays output = record { asked = λ all. all; counted = λ had. had }
+  stays output = record { sent = λ all. all; counted = λ had. had }
 
   then_goes : (one two three : StepOutput) → Goes one two → Goes two three → Goes one three
-  then_goes one two three a b = record { asked = λ all. a.asked (b.asked all); counted = λ had. b.counted (a.counted had) }
+  then_goes one two three a b = record { sent = λ all. a.sent (b.sent all); counted = λ had. b.counted (a.counted had) }
 
   -- it draws nothing
   abbrev IsQuiet : Emit → Type 0
@@ -172,7 +172,7 @@ module _ (was : List ℕ → Peer → Type 0) (config : ConferenceConfigView) (t
 
   emit_goes : (e : Emit) (output : StepOutput) → IsQuiet e → Goes output (with_emit e output)
   emit_goes e output quiet = record {
-    asked = λ all. each_first AskWasSent output.out (e ∷ []) all;
+    sent = λ all. each_first AskWasSent output.out (e ∷ []) all;
     counted = λ had. record { same = had.same; out_in = λ less. quiet_last low output.tokens.drawn e output.out quiet (had.out_in less) };
   }
 
@@ -181,7 +181,7 @@ module _ (was : List ℕ → Peer → Type 0) (config : ConferenceConfigView) (t
 
   after_draw_goes : (output : StepOutput) → Goes output (after_draw output)
   after_draw_goes output = record {
-    asked = λ all. all;
+    sent = λ all. all;
     counted = λ had. record {
       same = had.same;
       out_in = λ less.
@@ -192,7 +192,7 @@ module _ (was : List ℕ → Peer → Type 0) (config : ConferenceConfigView) (t
 
   invite_goes : (peer : Peer) (m : Message Start) (output : StepOutput) → IsInvite config.sip (token output) m → Goes output (with_emit (emit.Ask peer m) (after_draw output))
   invite_goes peer m output is = record {
-    asked = λ all. each_first AskWasSent output.out (emit.Ask peer m ∷ []) all;
+    sent = λ all. each_first AskWasSent output.out (emit.Ask peer m ∷ []) all;
     counted = λ had. record {
       same = had.same;
       out_in = λ less.
@@ -244,7 +244,7 @@ module _ (was : List ℕ → Peer → Type 0) (config : ConferenceConfigView) (t
   -- the INVITE in a dialog, which was sent
   is_invite : (d : Dialogue) (named : List Line) (body : List ℕ) (output : StepOutput) →
       IsInvite config.sip (token output) (request_of d (codes "INVITE") (own_parts config.sip (token output) named body))
-  is_invite d named body output = record { dialogue = d; number = next_number d.local_cseq; given = own_parts config.sip (token output) named body; is = refl; from_there = refl; has_it = refl }
+  is_invite d named body output = record { dialogue = d; number = next_number d.local_cseq; parts = own_parts config.sip (token output) named body; is = refl; from_there = refl; has_it = refl }
 
   -- ---- steps
 
@@ -259,32 +259,32 @@ module _ (was : List ℕ → Peer → Type 0) (config : ConferenceConfigView) (t
 
   -- a step leaves INVITEs that were sent, where this holds before
   pub record Moves (P : Type 0) (s later : StepResult) : Type 0 where
-    pub desk_in : Goes s.effects.output later.effects.output
+    pub output_in : Goes s.effects.output later.effects.output
     pub room_in : AllWereSent later.effects.output.out → P → RoomIs s.conference → RoomIs later.conference
-    pub loose_in : AllWereSent later.effects.output.out → P → RoomIs s.conference → AllLoose s.effects.abandoned → AllLoose later.effects.abandoned
+    pub abandoned_in : AllWereSent later.effects.output.out → P → RoomIs s.conference → AllLoose s.effects.abandoned → AllLoose later.effects.abandoned
 
   same : (P : Type 0) (s : StepResult) → Moves P s s
-  same P s = record { desk_in = stays s.effects.output; room_in = λ all p room. room; loose_in = λ all p room abandoned. abandoned }
+  same P s = record { output_in = stays s.effects.output; room_in = λ all p room. room; abandoned_in = λ all p room abandoned. abandoned }
 
   then_moves : (P Q : Type 0) (s t u : StepResult) → Moves P s t → (P → Q) → Moves Q t u → Moves P s u
   then_moves P Q s t u a on b = record {
-    desk_in = then_goes s.effects.output t.effects.output u.effects.output a.desk_in b.desk_in;
-    room_in = λ all p room. b.room_in all (on p) (a.room_in (b.desk_in.asked all) p room);
-    loose_in = λ all p room abandoned. b.loose_in all (on p) (a.room_in (b.desk_in.asked all) p room) (a.loose_in (b.desk_in.asked all) p room abandoned);
+    output_in = then_goes s.effects.output t.effects.output u.effects.output a.output_in b.output_in;
+    room_in = λ all p room. b.room_in all (on p) (a.room_in (b.output_in.sent all) p room);
+    abandoned_in = λ all p room abandoned. b.abandoned_in all (on p) (a.room_in (b.output_in.sent all) p room) (a.abandoned_in (b.output_in.sent all) p room abandoned);
   }
 
   if_moves : (P : Type 0) (b : Bool) (s one two : StepResult) → Moves P s one → Moves P s two → Moves P s (if b then one else two)
   if_moves P true s one two e f = e
   if_moves P false s one two e f = f
 
-  desk_moves : (P : Type 0) (output : StepOutput) (s : StepResult) → Goes s.effects.output output → Moves P s (with_output output s)
-  desk_moves P output s goes = record { desk_in = goes; room_in = λ all p room. room; loose_in = λ all p room abandoned. abandoned }
+  output_moves : (P : Type 0) (output : StepOutput) (s : StepResult) → Goes s.effects.output output → Moves P s (with_output output s)
+  output_moves P output s goes = record { output_in = goes; room_in = λ all p room. room; abandoned_in = λ all p room abandoned. abandoned }
 
   emit_moves : (P : Type 0) (e : Emit) (s : StepResult) → IsQuiet e → Moves P s (with_output (with_emit e s.effects.output) s)
-  emit_moves P e s quiet = desk_moves P (with_emit e s.effects.output) s (emit_goes e s.effects.output quiet)
+  emit_moves P e s quiet = output_moves P (with_emit e s.effects.output) s (emit_goes e s.effects.output quiet)
 
   with_participant_moves : (seat new : ParticipantState) (place : ℕ) (s : StepResult) → (SeatIs seat → SeatIs new) → Moves (SeatIs seat) s (with_participant place new s)
-  with_participant_moves seat new place s on = record { desk_in = stays s.effects.output; room_in = λ all p room. each_set SeatIs s.conference.participants place new (on p) room; loose_in = λ all p room abandoned. abandoned }
+  with_participant_moves seat new place s on = record { output_in = stays s.effects.output; room_in = λ all p room. each_set SeatIs s.conference.participants place new (on p) room; abandoned_in = λ all p room abandoned. abandoned }
 
   abbrev SeatRow : Type 0
   SeatRow = (place : ℕ) → ParticipantState → StepResult → StepResult
@@ -297,9 +297,9 @@ module _ (was : List ℕ → Peer → Type 0) (config : ConferenceConfigView) (t
   by_moves P row good place s (Some seat) is =
       let m = good place seat s in
       record {
-        desk_in = m.desk_in;
+        output_in = m.output_in;
         room_in = λ all p room. m.room_in all (each_at SeatIs s.conference.participants place seat room is) room;
-        loose_in = λ all p room abandoned. m.loose_in all (each_at SeatIs s.conference.participants place seat room is) room abandoned;
+        abandoned_in = λ all p room abandoned. m.abandoned_in all (each_at SeatIs s.conference.participants place seat room is) room abandoned;
       }
 
   at_participant_moves : (P : Type 0) (row : SeatRow) → RowMoves row → (place : ℕ) (s : StepResult) → Moves P s (at_participant row place s)
@@ -325,7 +325,7 @@ module _ (was : List ℕ → Peer → Type 0) (config : ConferenceConfigView) (t
   told_moves goes_on line place seat s =
       then_moves (SeatIs seat) (Unit {0}) s (with_participant place (seats.participant_after_notify seat) s) _
       (with_participant_moves seat (seats.participant_after_notify seat) place s (told_sent seat.party seat.invite)) (λ p. tt)
-      (desk_moves (Unit {0}) (seats.with_notify_to_party config s.conference.number goes_on line seat.party s.effects.output) (with_participant place (seats.participant_after_notify seat) s) (notified_goes s.conference.number goes_on line seat.party s.effects.output))
+      (output_moves (Unit {0}) (seats.with_notify_to_party config s.conference.number goes_on line seat.party s.effects.output) (with_participant place (seats.participant_after_notify seat) s) (notified_goes s.conference.number goes_on line seat.party s.effects.output))
 
   told_to_moves : (P : Type 0) (goes_on : Bool) (line : List ℕ) (number : ℕ) (s : StepResult) → Moves P s (seats.after_notify_to config goes_on line number s)
   told_to_moves P goes_on line number s = at_place_moves P (seats.after_notify config goes_on line) (told_moves goes_on line) (seats.place_of number s.conference.participants) s
@@ -338,7 +338,7 @@ module _ (was : List ℕ → Peer → Type 0) (config : ConferenceConfigView) (t
 
   filed_goes : (now : ℕ) (meter : Option MeterView) (output : StepOutput) → Goes output (seats.with_row_of_meter now meter output)
   filed_goes now None output = stays output
-  filed_goes now (Some meter) output = record { asked = λ all. all; counted = λ had. record { same = had.same; out_in = had.out_in } }
+  filed_goes now (Some meter) output = record { sent = λ all. all; counted = λ had. record { same = had.same; out_in = had.out_in } }
 
   loosened_sent : (had_bye : Bool) (party : Party) (invite : Option Invite) → ParticipantInviteWasSent was (leg_of party).dialogue.peer invite → AllLoose (seats.abandoned_of_invite had_bye party invite)
   loosened_sent had_bye party None is = tt
@@ -349,9 +349,9 @@ module _ (was : List ℕ → Peer → Type 0) (config : ConferenceConfigView) (t
 
   left_moves : (now : ℕ) (had_bye : Bool) → RowMoves (seats.after_leave now had_bye)
   left_moves now had_bye place seat s = record {
-    desk_in = filed_goes now (leg_of seat.party).meter s.effects.output;
+    output_in = filed_goes now (leg_of seat.party).meter s.effects.output;
     room_in = λ all p room. each_removed SeatIs s.conference.participants place room;
-    loose_in = λ all p room abandoned. each_append (AbandonedWasSent was) s.effects.abandoned (seats.abandoned_of_invite had_bye seat.party seat.invite) abandoned (loosened_sent had_bye seat.party seat.invite p);
+    abandoned_in = λ all p room abandoned. each_append (AbandonedWasSent was) s.effects.abandoned (seats.abandoned_of_invite had_bye seat.party seat.invite) abandoned (loosened_sent had_bye seat.party seat.invite p);
   }
 
   with_bye_sent : (party : Party) (d : Dialogue) (invite : Option Invite) → d.peer ≡ (leg_of party).dialogue.peer → ParticipantInviteWasSent was (leg_of party).dialogue.peer invite → ParticipantInviteWasSent was (leg_of (seats.with_leg (record (leg_of party) { dialogue = d }) party)).dialogue.peer invite
@@ -361,48 +361,48 @@ module _ (was : List ℕ → Peer → Type 0) (config : ConferenceConfigView) (t
 
   -- the output for one that gets its BYE, or none
   record Departs (seat : ParticipantState) (e later : Effects) : Type 0 where
-    pub desk_in : Goes e.output later.output
-    pub loose_in : SeatIs seat → AllLoose e.abandoned → AllLoose later.abandoned
+    pub output_in : Goes e.output later.output
+    pub abandoned_in : SeatIs seat → AllLoose e.abandoned → AllLoose later.abandoned
 
   dismissed_by : (now : ℕ) (b : Bool) (seat : ParticipantState) (e : Effects) → Departs seat e
       (if b then seats.effects_of_leave now true (seats.participant_after_bye seat) (record e { output = with_bye config.sip (dialogue_of seat) e.output }) else seats.effects_of_leave now false seat e)
   dismissed_by now true seat e = record {
-    desk_in = then_goes e.output (with_bye config.sip (dialogue_of seat) e.output) _ (with_bye_goes (dialogue_of seat) e.output) (filed_goes now (leg_of (seats.participant_after_bye seat).party).meter (with_bye config.sip (dialogue_of seat) e.output));
-    loose_in = λ p abandoned. each_append (AbandonedWasSent was) e.abandoned (seats.abandoned_of_invite true (seats.participant_after_bye seat).party seat.invite) abandoned
+    output_in = then_goes e.output (with_bye config.sip (dialogue_of seat) e.output) _ (with_bye_goes (dialogue_of seat) e.output) (filed_goes now (leg_of (seats.participant_after_bye seat).party).meter (with_bye config.sip (dialogue_of seat) e.output));
+    abandoned_in = λ p abandoned. each_append (AbandonedWasSent was) e.abandoned (seats.abandoned_of_invite true (seats.participant_after_bye seat).party seat.invite) abandoned
         (loosened_sent true (seats.participant_after_bye seat).party seat.invite (with_bye_sent seat.party _ seat.invite refl p));
   }
   dismissed_by now false seat e = record {
-    desk_in = filed_goes now (leg_of seat.party).meter e.output;
-    loose_in = λ p abandoned. each_append (AbandonedWasSent was) e.abandoned (seats.abandoned_of_invite false seat.party seat.invite) abandoned (loosened_sent false seat.party seat.invite p);
+    output_in = filed_goes now (leg_of seat.party).meter e.output;
+    abandoned_in = λ p abandoned. each_append (AbandonedWasSent was) e.abandoned (seats.abandoned_of_invite false seat.party seat.invite) abandoned (loosened_sent false seat.party seat.invite p);
   }
 
   dismissed_moves : (now : ℕ) → RowMoves (seats.after_dismissal config now)
   dismissed_moves now place seat s =
       let m = dismissed_by now (is_connected seat) seat s.effects in
-      record { desk_in = m.desk_in; room_in = λ all p room. each_removed SeatIs s.conference.participants place room; loose_in = λ all p room abandoned. m.loose_in p abandoned }
+      record { output_in = m.output_in; room_in = λ all p room. each_removed SeatIs s.conference.participants place room; abandoned_in = λ all p room abandoned. m.abandoned_in p abandoned }
 
   closed_moves : (now : ℕ) (all : List ParticipantState) (s : StepResult) → Moves (Each SeatIs all) s (seats.after_close config now all s)
   unfolding seats.after_close
-  closed_moves now [] s = record { desk_in = stays s.effects.output; room_in = λ all p room. room; loose_in = λ all p room abandoned. abandoned }
+  closed_moves now [] s = record { output_in = stays s.effects.output; room_in = λ all p room. room; abandoned_in = λ all p room abandoned. abandoned }
   closed_moves now (seat ∷ others) s =
       let m = dismissed_moves now 0 seat s in
       then_moves (Each SeatIs (seat ∷ others)) (Each SeatIs others) s (seats.after_dismissal config now 0 seat s) (seats.after_close config now others (seats.after_dismissal config now 0 seat s))
-      (record { desk_in = m.desk_in; room_in = λ all p room. m.room_in all p.0 room; loose_in = λ all p room abandoned. m.loose_in all p.0 room abandoned }) (λ p. p.1) (closed_moves now others (seats.after_dismissal config now 0 seat s))
+      (record { output_in = m.output_in; room_in = λ all p room. m.room_in all p.0 room; abandoned_in = λ all p room abandoned. m.abandoned_in all p.0 room abandoned }) (λ p. p.1) (closed_moves now others (seats.after_dismissal config now 0 seat s))
 
   closed_with_moves : (P : Type 0) (now number : ℕ) (s : StepResult) → Moves P s (seats.after_close_with config now number s)
   closed_with_moves P now number s =
       let m = closed_moves now s.conference.participants s in
       if_moves P (is_creator number) s (seats.after_close config now s.conference.participants s) s
-      (record { desk_in = m.desk_in; room_in = λ all p room. m.room_in all room room; loose_in = λ all p room abandoned. m.loose_in all room room abandoned }) (same P s)
+      (record { output_in = m.output_in; room_in = λ all p room. m.room_in all room room; abandoned_in = λ all p room abandoned. m.abandoned_in all room room abandoned }) (same P s)
 
   -- ---- who joins, and who is invited
 
   with_new_in : (P : Type 0) (new : ParticipantState) (s later : StepResult) → later.conference ≡ joining.with_new_participant new s.conference → later.effects.abandoned ≡ s.effects.abandoned →
       Goes s.effects.output later.effects.output → (AllWereSent later.effects.output.out → SeatIs new) → Moves P s later
   with_new_in P new s later room_is loose_is goes is = record {
-    desk_in = goes;
+    output_in = goes;
     room_in = λ all p room. subst RoomIs (sym room_is) (each_append SeatIs s.conference.participants (new ∷ []) room (is all, tt));
-    loose_in = λ all p room abandoned. subst AllLoose (sym loose_is) abandoned;
+    abandoned_in = λ all p room abandoned. subst AllLoose (sym loose_is) abandoned;
   }
 
   agreed_goes : (now : ℕ) (room : RoomNo) (seat number : ℕ) (key : TKey) (m : MessageView) (tag : List ℕ) (output : StepOutput) → Goes output (joining.with_accepted_invite config now room seat number key m tag output)
@@ -469,9 +469,9 @@ module _ (was : List ℕ → Peer → Type 0) (config : ConferenceConfigView) (t
   agreed_again_moves now key m place seat s =
       let new : ParticipantState = requests.with_pending_ack (next_number s.conference.last_number) seat in
       record {
-        desk_in = agreed_goes now s.conference.number seat.number (next_number s.conference.last_number) key m (seats.tag_of seat) s.effects.output;
+        output_in = agreed_goes now s.conference.number seat.number (next_number s.conference.last_number) key m (seats.tag_of seat) s.effects.output;
         room_in = λ all p room. each_set SeatIs s.conference.participants place new p room;
-        loose_in = λ all p room abandoned. abandoned;
+        abandoned_in = λ all p room abandoned. abandoned;
       }
 
   on_invite_moves : (now : ℕ) (key : TKey) (m : MessageView) → RowMoves (requests.on_invite config now key m)
@@ -551,9 +551,9 @@ module _ (was : List ℕ → Peer → Type 0) (config : ConferenceConfigView) (t
 
   standing_moves : (now : ℕ) (remote : Remote) → RowMoves (answers.after_connect now remote)
   standing_moves now remote place seat s = record {
-    desk_in = stays s.effects.output;
+    output_in = stays s.effects.output;
     room_in = λ all p room. each_set SeatIs s.conference.participants place (answers.connected_participant s.conference.number now remote seat) (stood_sent s.conference.number now seat.account remote seat.party seat.invite p) room;
-    loose_in = λ all p room abandoned. abandoned;
+    abandoned_in = λ all p room abandoned. abandoned;
   }
 
   agreed_sent : (tag ack : List ℕ) (peer : Peer) (invite : Option Invite) → ParticipantInviteWasSent was peer invite → ParticipantInviteWasSent was peer (answers.accepted_invite tag ack invite)
@@ -566,7 +566,7 @@ module _ (was : List ℕ → Peer → Type 0) (config : ConferenceConfigView) (t
       let new : ParticipantState = record seat { invite = answers.accepted_invite tag (ack_text config.sip (dialogue_of seat) (token s.effects.output)) seat.invite } in
       then_moves (SeatIs seat) (Unit {0}) s (with_participant place new s) _
       (with_participant_moves seat new place s (agreed_sent tag (ack_text config.sip (dialogue_of seat) (token s.effects.output)) (dialogue_of seat).peer seat.invite)) (λ p. tt)
-      (desk_moves (Unit {0}) (with_ack config.sip (dialogue_of seat) s.effects.output) (with_participant place new s) (with_ack_goes (dialogue_of seat) s.effects.output))
+      (output_moves (Unit {0}) (with_ack config.sip (dialogue_of seat) s.effects.output) (with_participant place new s) (with_ack_goes (dialogue_of seat) s.effects.output))
 
   success_moves : (now : ℕ) (m : MessageView) → RowMoves (answers.on_success config now m)
   success_moves now m place seat s =
@@ -597,7 +597,7 @@ module _ (was : List ℕ → Peer → Type 0) (config : ConferenceConfigView) (t
   failure_moves now key m place seat s =
       let one : StepResult = with_output (answers.with_failure_ack config.sip key m seat.invite s.effects.output) s in
       then_moves (SeatIs seat) (SeatIs seat) s one (answers.on_failure config now key m place seat s)
-      (desk_moves (SeatIs seat) (answers.with_failure_ack config.sip key m seat.invite s.effects.output) s (failure_goes key m seat.invite s.effects.output)) (λ p. p)
+      (output_moves (SeatIs seat) (answers.with_failure_ack config.sip key m seat.invite s.effects.output) s (failure_goes key m seat.invite s.effects.output)) (λ p. p)
       (ended_unasked_moves now (status_line (status_of m.parsed.start) (phrase_in m.parsed.start)) place seat one)
 
   repeat_moves : (m : MessageView) (tag ack : List ℕ) → RowMoves (answers.on_retransmission m tag ack)
@@ -643,7 +643,7 @@ module _ (was : List ℕ → Peer → Type 0) (config : ConferenceConfigView) (t
       let one : StepResult = with_output (answers.with_invite_cancel config.sip seat.invite s.effects.output) s in
       let new : ParticipantState = record seat { invite = answers.invite_after_due_cancel seat.invite } in
       then_moves (SeatIs seat) (SeatIs seat) s one (answers.after_ringing_limit config now place seat s)
-      (desk_moves (SeatIs seat) (answers.with_invite_cancel config.sip seat.invite s.effects.output) s (with_due_cancel_in_goes seat.invite s.effects.output)) (λ p. p)
+      (output_moves (SeatIs seat) (answers.with_invite_cancel config.sip seat.invite s.effects.output) s (with_due_cancel_in_goes seat.invite s.effects.output)) (λ p. p)
       (then_moves (SeatIs seat) (Unit {0}) one (with_participant place new one) (answers.after_ringing_limit config now place seat s) (with_participant_moves seat new place one (once_cancelled_sent (dialogue_of seat).peer seat.invite)) (λ p. tt)
       (at_participant_moves (Unit {0}) (answers.after_end config now (own_status 408)) (ended_without_moves now (own_status 408)) place (with_participant place new one)))
 
@@ -677,12 +677,12 @@ module _ (was : List ℕ → Peer → Type 0) (config : ConferenceConfigView) (t
 
   -- conferences that change, where nothing was abandoned before
   pub record Steps (live : List Conference) (e : Effects) (later : List Conference) (f : Effects) : Type 0 where
-    pub desk_in : Goes e.output f.output
+    pub output_in : Goes e.output f.output
     pub live_in : AllWereSent f.output.out → LiveIs live → LiveIs later
-    pub loose_in : AllWereSent f.output.out → LiveIs live → AllLoose e.abandoned → AllLoose f.abandoned
+    pub abandoned_in : AllWereSent f.output.out → LiveIs live → AllLoose e.abandoned → AllLoose f.abandoned
 
   unmoved : (live : List Conference) (e : Effects) → Steps live e live e
-  unmoved live e = record { desk_in = stays e.output; live_in = λ all is. is; loose_in = λ all is abandoned. abandoned }
+  unmoved live e = record { output_in = stays e.output; live_in = λ all is. is; abandoned_in = λ all is abandoned. abandoned }
 
   abbrev StepMoves : (StepResult → StepResult) → Type 0
   StepMoves row = (s : StepResult) → Moves (Unit {0}) s (row s)
@@ -699,9 +699,9 @@ module _ (was : List ℕ → Peer → Type 0) (config : ConferenceConfigView) (t
       let s : StepResult = row (record { conference = room; effects = e }) in
       let m = good (record { conference = room; effects = e }) in
       record {
-        desk_in = m.desk_in;
+        output_in = m.output_in;
         live_in = λ all each. with_participant_at_sent s.effects.closes place s.conference live (m.room_in all tt (each_at RoomIs live place room each is)) each;
-        loose_in = λ all each abandoned. m.loose_in all tt (each_at RoomIs live place room each is) abandoned;
+        abandoned_in = λ all each abandoned. m.abandoned_in all tt (each_at RoomIs live place room each is) abandoned;
       }
 
   stepped_in : (row : StepResult → StepResult) → StepMoves row → (place : Option ℕ) (live : List Conference) (e : Effects) →
@@ -716,9 +716,9 @@ module _ (was : List ℕ → Peer → Type 0) (config : ConferenceConfigView) (t
       let s : StepResult = row (record { conference = room; effects = e }) in
       let m = good (record { conference = room; effects = e }) in
       record {
-        desk_in = m.desk_in;
+        output_in = m.output_in;
         live_in = λ all each. each_set RoomIs live place s.conference (m.room_in all tt (each_at RoomIs live place room each is)) each;
-        loose_in = λ all each abandoned. m.loose_in all tt (each_at RoomIs live place room each is) abandoned;
+        abandoned_in = λ all each abandoned. m.abandoned_in all tt (each_at RoomIs live place room each is) abandoned;
       }
 
   stays_in : (row : StepResult → StepResult) → StepMoves row → (place : Option ℕ) (live : List Conference) (e : Effects) →
@@ -734,29 +734,29 @@ module _ (was : List ℕ → Peer → Type 0) (config : ConferenceConfigView) (t
   -- ---- INVITEs that were abandoned
 
   pub record MovesTable (live : List Conference) (abandoned : List AbandonedInvite) (e : Effects) (later : TableStep) : Type 0 where
-    pub desk_in : Goes e.output later.effects.output
+    pub output_in : Goes e.output later.effects.output
     pub live_in : AllWereSent later.effects.output.out → LiveIs live → LiveIs later.live
-    pub loose_in : AllLoose abandoned → AllLoose later.abandoned
+    pub abandoned_in : AllLoose abandoned → AllLoose later.abandoned
     pub new_in : AllWereSent later.effects.output.out → LiveIs live → AllLoose e.abandoned → AllLoose later.effects.abandoned
 
   beside : (live : List Conference) (abandoned : List AbandonedInvite) (e : Effects) (s : ConferenceStep) → Steps live e s.live s.effects → MovesTable live abandoned e (tables.with_abandoned abandoned s)
-  beside live abandoned e s m = record { desk_in = m.desk_in; live_in = m.live_in; loose_in = λ is. is; new_in = m.loose_in }
+  beside live abandoned e s m = record { output_in = m.output_in; live_in = m.live_in; abandoned_in = λ is. is; new_in = m.abandoned_in }
 
   -- what remains of one
   record Rests (l : AbandonedInvite) (output : StepOutput) (rest : AfterResponse) : Type 0 where
-    pub desk_in : Goes output rest.output
-    pub left_in : AbandonedWasSent was l → AllLoose (option_to_list rest.remaining)
+    pub output_in : Goes output rest.output
+    pub remaining_in : AbandonedWasSent was l → AllLoose (option_to_list rest.remaining)
 
   rest_late : (b : Bool) (l : AbandonedInvite) (output : StepOutput) → Rests l output
       (if b then record { remaining = Some l; output = output } else record { remaining = Some (with_invite l (record l.invite { cancelled = true })); output = with_cancel config.sip l.invite output })
-  rest_late true l output = record { desk_in = stays output; left_in = λ is. (is, tt) }
-  rest_late false l output = record { desk_in = with_cancel_goes l.invite output; left_in = λ is. (is, tt) }
+  rest_late true l output = record { output_in = stays output; remaining_in = λ is. (is, tt) }
+  rest_late false l output = record { output_in = with_cancel_goes l.invite output; remaining_in = λ is. (is, tt) }
 
   rest_success : (l : AbandonedInvite) (remote : Remote) (o : Option Dialogue) (output : StepOutput) → Rests l output (on_success_in config.sip l remote o output)
-  rest_success l remote (Some d) output = record { desk_in = with_ack_goes d output; left_in = λ is. (is, tt) }
+  rest_success l remote (Some d) output = record { output_in = with_ack_goes d output; remaining_in = λ is. (is, tt) }
   rest_success l remote None output =
       let d : Dialogue = dialogue_of_success l.in_dialog l.invite.early l.invite.early_cseq l.invite.dialogue remote in
-      record { desk_in = then_goes output (with_ack config.sip d output) (with_bye config.sip d (with_ack config.sip d output)) (with_ack_goes d output) (with_bye_goes d (with_ack config.sip d output)); left_in = λ is. (is, tt) }
+      record { output_in = then_goes output (with_ack config.sip d output) (with_bye config.sip d (with_ack config.sip d output)) (with_ack_goes d output) (with_bye_goes d (with_ack config.sip d output)); remaining_in = λ is. (is, tt) }
 
   if_rest : (b : Bool) (l : AbandonedInvite) (output : StepOutput) (one two : AfterResponse) → Rests l output one → Rests l output two → Rests l output (if b then one else two)
   if_rest true l output one two e f = e
@@ -766,9 +766,9 @@ module _ (was : List ℕ → Peer → Type 0) (config : ConferenceConfigView) (t
   rest_of key m l output =
       let late = rest_late (after_provisional key m l).invite.cancelled (after_provisional key m l) output in
       let success = rest_success (with_invite l (with_key key l.invite)) (remote_of Callee m.lines) (ended_dialog (with_invite l (with_key key l.invite)) (remote_of Callee m.lines).tag) output in
-      if_rest (nat_lt (status_of m.start) 200) l output _ _ (record { desk_in = late.desk_in; left_in = late.left_in })
-      (if_rest (nat_lt (status_of m.start) 300) l output _ _ (record { desk_in = success.desk_in; left_in = success.left_in })
-      (record { desk_in = emit_goes _ output (λ n. refl); left_in = λ is. tt }))
+      if_rest (nat_lt (status_of m.start) 200) l output _ _ (record { output_in = late.output_in; remaining_in = late.remaining_in })
+      (if_rest (nat_lt (status_of m.start) 300) l output _ _ (record { output_in = success.output_in; remaining_in = success.remaining_in })
+      (record { output_in = emit_goes _ output (λ n. refl); remaining_in = λ is. tt }))
 
   answered_loose : (key : TKey) (m : MessageView) (place : ℕ) (o : Option AbandonedInvite) (live : List Conference) (abandoned : List AbandonedInvite) (e : Effects) → slice_get abandoned place ≡ o →
       MovesTable live abandoned e (tables.step_of_abandoned_response config.sip key m place o live abandoned e)
@@ -777,10 +777,10 @@ module _ (was : List ℕ → Peer → Type 0) (config : ConferenceConfigView) (t
       let rest : AfterResponse = left_ones.on_response config.sip key m.parsed l e.output in
       let r = rest_of key m.parsed l e.output in
       record {
-        desk_in = r.desk_in;
+        output_in = r.output_in;
         live_in = λ all each. each;
-        loose_in = λ each. each_append (AbandonedWasSent was) (tables.without_at place abandoned) (option_to_list rest.remaining) (each_without_at (AbandonedWasSent was) place abandoned each)
-            (r.left_in (each_at (AbandonedWasSent was) abandoned place l each is));
+        abandoned_in = λ each. each_append (AbandonedWasSent was) (tables.without_at place abandoned) (option_to_list rest.remaining) (each_without_at (AbandonedWasSent was) place abandoned each)
+            (r.remaining_in (each_at (AbandonedWasSent was) abandoned place l each is));
         new_in = λ all each new. new;
       }
 
@@ -807,7 +807,7 @@ module _ (was : List ℕ → Peer → Type 0) (config : ConferenceConfigView) (t
   silenced_at : (now : ℕ) (branch : List ℕ) (o : Option ℕ) (live : List Conference) (abandoned : List AbandonedInvite) (e : Effects) →
       MovesTable live abandoned e (tables.step_of_timeout_at config now branch o live abandoned e)
   silenced_at now branch None live abandoned e = heard_of now branch of_seat.Silent live abandoned e
-  silenced_at now branch (Some place) live abandoned e = record { desk_in = stays e.output; live_in = λ all each. each; loose_in = λ each. each_without_at (AbandonedWasSent was) place abandoned each; new_in = λ all each new. new }
+  silenced_at now branch (Some place) live abandoned e = record { output_in = stays e.output; live_in = λ all each. each; abandoned_in = λ each. each_without_at (AbandonedWasSent was) place abandoned each; new_in = λ all each new. new }
 
   silenced_by : (now : ℕ) (o : Option (List ℕ)) (live : List Conference) (abandoned : List AbandonedInvite) (e : Effects) → MovesTable live abandoned e (tables.step_of_timeout config now o live abandoned e)
   silenced_by now None live abandoned e = beside live abandoned e (tables.unchanged_step live e) (unmoved live e)
@@ -821,9 +821,9 @@ module _ (was : List ℕ → Peer → Type 0) (config : ConferenceConfigView) (t
   taken_moves now (signal.Silent branch method) live abandoned e = silenced_by now (timed_out_branch branch method) live abandoned e
   taken_moves now (signal.Due room seat what) live abandoned e = heard_in now room.0 seat (of_seat.Due what) live abandoned e
   taken_moves now (signal.Over key) live abandoned e = record {
-    desk_in = stays e.output;
+    output_in = stays e.output;
     live_in = λ all each. each;
-    loose_in = λ each. each_without (AbandonedWasSent was) (position (tables.is_abandoned_key key) abandoned) abandoned each;
+    abandoned_in = λ each. each_without (AbandonedWasSent was) (position (tables.is_abandoned_key key) abandoned) abandoned each;
     new_in = λ all each new. new;
   }
 
@@ -864,18 +864,18 @@ module _ (was : List ℕ → Peer → Type 0) (config : ConferenceConfigView) (t
   -- ---- operations
 
   pub record Does (op : TableOp) (table : Table) : Type 0 where
-    pub desk_in : Counted (empty_output (tokens_of_op op)) → Counted (histories.effects_of config op table).output
+    pub output_in : Counted (empty_output (tokens_of_op op)) → Counted (histories.effects_of config op table).output
     pub table_in : AllWereSent (histories.effects_of config op table).output.out → TableWasSent was table → TableWasSent was (histories.table_after_op config op table)
 
   moved_does : (op : TableOp) (table : Table) (moved : TableStep) → MovesTable table.live table.abandoned (no_effects (tokens_of_op op)) moved →
       histories.effects_of config op table ≡ moved.effects →
       histories.table_after_op config op table ≡ histories.with_step moved table → Does op table
   moved_does op table moved m effects_is did_is = record {
-    desk_in = λ had. subst (λ (e : Effects). Counted e.output) (sym effects_is) (m.desk_in.counted had);
+    output_in = λ had. subst (λ (e : Effects). Counted e.output) (sym effects_is) (m.output_in.counted had);
     table_in = λ all had.
         let each : AllWereSent moved.effects.output.out = subst (λ (e : Effects). AllWereSent e.output.out) effects_is all in
         subst (TableWasSent was) (sym did_is)
-        (record { live_in = m.live_in each had.live_in; abandoned_in = each_append (AbandonedWasSent was) moved.abandoned moved.effects.abandoned (m.loose_in had.abandoned_in) (m.new_in each had.live_in tt) });
+        (record { live_in = m.live_in each had.live_in; abandoned_in = each_append (AbandonedWasSent was) moved.abandoned moved.effects.abandoned (m.abandoned_in had.abandoned_in) (m.new_in each had.live_in tt) });
   }
 
   stepped_does : (op : TableOp) (table : Table) (s : ConferenceStep) → Steps table.live (no_effects (tokens_of_op op)) s.live s.effects → histories.effects_of config op table ≡ s.effects →
@@ -900,14 +900,14 @@ module _ (was : List ℕ → Peer → Type 0) (config : ConferenceConfigView) (t
 
   quiet_does : (op : TableOp) (table : Table) → histories.effects_of config op table ≡ no_effects (tokens_of_op op) →
       (TableWasSent was table → TableWasSent was (histories.table_after_op config op table)) → Does op table
-  quiet_does op table effects_is on = record { desk_in = λ had. subst (λ (e : Effects). Counted e.output) (sym effects_is) had; table_in = λ all had. on had }
+  quiet_does op table effects_is on = record { output_in = λ had. subst (λ (e : Effects). Counted e.output) (sym effects_is) had; table_in = λ all had. on had }
 
   pub does : (op : TableOp) (table : Table) → Does op table
   does (Opens c) table =
       let s : StepResult = record { conference = joining.new_conference (tables.next_room_number table); effects = no_effects c.tokens } in
       let m = come_moves (Unit {0}) c.at c.leg c.account c.key c.invite s in
       record {
-        desk_in = m.desk_in.counted;
+        output_in = m.output_in.counted;
         table_in = λ all had. record { live_in = each_append RoomIs table.live _ had.live_in (m.room_in all tt tt, tt); abandoned_in = had.abandoned_in };
       }
   does (Joins room c) table = stepped_does (Joins room c) table _ (joined_in c.at room c.leg c.account c.key c.invite table.live (no_effects c.tokens)) refl refl
@@ -970,7 +970,7 @@ conferences_send_once config ops op before had =
     let tokens : TokensView = tokens_of_op op in
     let now : List ℕ → Peer → Type 0 = SomeInviteWasSent config.sip (before ++ requests_in output.out) in
     let d = does now config tokens.token tokens.drawn op table in
-    let counted = d.desk_in (record { same = refl; out_in = λ less. omega arith }) in
+    let counted = d.output_in (record { same = refl; out_in = λ less. omega arith }) in
     record {
       conferences_in = d.table_in (each_asked now config output.out (λ branch peer is. sent_invite_behind config.sip before (requests_in output.out) branch peer is))
           (table_more (SomeInviteWasSent config.sip before) now (λ branch peer is. sent_invite_before config.sip before (requests_in output.out) branch peer is) table had);

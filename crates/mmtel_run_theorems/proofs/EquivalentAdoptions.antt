@@ -52,7 +52,7 @@ module _ (law : TextsDecideNothing) (tables : TablesStayEquivalent) (told : Call
   party_same number side v w a = laws.answers.sides records known number side (bare (calls_in d v)) (bare (calls_in e w)) (tables_equivalent law tables told laws records d e token keys sites K older knows v w a)
 
   pub access_same : (room : RoomNo) (v w : RunState) → Two v w → access room.0 (conferences_in d v).live ≡ access room.0 (conferences_in e w).live
-  access_same room v w a = laws.seats.takes known room.0 (conferences_in d v) (conferences_in e w) a.alike.conferences
+  access_same room v w a = laws.participants.takes known room.0 (conferences_in d v) (conferences_in e w) a.equivalent.conferences
 
   -- ---- a leg is taken out of its call
 

@@ -141,7 +141,7 @@ module _ (records : List Sheet) (d e : Directory) (keys : TKey → Bool) where
 
   -- two states that are indistinguishable; what each call stores was requested by its own peers, and the records in force are among these
   pub record Pair (v w : RunState) : Type 0 where
-    pub alike : EquivalentStates records d e v w
+    pub equivalent : EquivalentStates records d e v w
     pub one : CallsInvariant records T (calls_in d v).entries
     pub other : CallsInvariant records T (calls_in e w).entries
     pub among : AreAmong records w.texts
@@ -158,19 +158,19 @@ module _ (law : TextsDecideNothing) (records : List Sheet) (d e : Directory) (ke
 
   pub with_offers-equivalent : (os ps : List Offer) (v w : RunState) → ((p : Peer) → trusts d p ≡ false → view p os ≡ view p ps) → Two v w → Two (with_offers os v) (with_offers ps w)
   with_offers-equivalent os ps v w s a = record {
-    alike = record {
-      clock = a.alike.clock;
-      steps = a.alike.steps;
-      actions = a.alike.actions;
-      drawn = a.alike.drawn;
-      calls = a.alike.calls;
-      opened = a.alike.opened;
-      conferences = a.alike.conferences;
-      subscriptions = a.alike.subscriptions;
-      pending_timers = a.alike.pending_timers;
-      texts = a.alike.texts;
-      registrations = a.alike.registrations;
-      seen = λ p strange. observation_more p v.offers w.offers os ps (a.alike.seen p strange) (s p strange);
+    equivalent = record {
+      clock = a.equivalent.clock;
+      steps = a.equivalent.steps;
+      actions = a.equivalent.actions;
+      drawn = a.equivalent.drawn;
+      calls = a.equivalent.calls;
+      opened = a.equivalent.opened;
+      conferences = a.equivalent.conferences;
+      subscriptions = a.equivalent.subscriptions;
+      pending_timers = a.equivalent.pending_timers;
+      texts = a.equivalent.texts;
+      registrations = a.equivalent.registrations;
+      seen = λ p strange. observation_more p v.offers w.offers os ps (a.equivalent.seen p strange) (s p strange);
     };
     one = a.one;
     other = a.other;
@@ -179,19 +179,19 @@ module _ (law : TextsDecideNothing) (records : List Sheet) (d e : Directory) (ke
 
   pub acting-equivalent : (x y : List TransactionOp) (v w : RunState) → Equivalent (trusts d) x y → Two v w → Two (record v { actions = x }) (record w { actions = y })
   acting-equivalent x y v w s a = record {
-    alike = record {
-      clock = a.alike.clock;
-      steps = a.alike.steps;
+    equivalent = record {
+      clock = a.equivalent.clock;
+      steps = a.equivalent.steps;
       actions = s;
-      drawn = a.alike.drawn;
-      calls = a.alike.calls;
-      opened = a.alike.opened;
-      conferences = a.alike.conferences;
-      subscriptions = a.alike.subscriptions;
-      pending_timers = a.alike.pending_timers;
-      texts = a.alike.texts;
-      registrations = a.alike.registrations;
-      seen = a.alike.seen;
+      drawn = a.equivalent.drawn;
+      calls = a.equivalent.calls;
+      opened = a.equivalent.opened;
+      conferences = a.equivalent.conferences;
+      subscriptions = a.equivalent.subscriptions;
+      pending_timers = a.equivalent.pending_timers;
+      texts = a.equivalent.texts;
+      registrations = a.equivalent.registrations;
+      seen = a.equivalent.seen;
     };
     one = a.one;
     other = a.other;
@@ -200,19 +200,19 @@ module _ (law : TextsDecideNothing) (records : List Sheet) (d e : Directory) (ke
 
   pub with_draws-equivalent : (i j : ℕ) (v w : RunState) → i ≡ j → Two v w → Two (with_draws i v) (with_draws j w)
   with_draws-equivalent i j v w same a = record {
-    alike = record {
-      clock = a.alike.clock;
-      steps = a.alike.steps;
-      actions = a.alike.actions;
-      drawn = ap (λ (k : ℕ). k + i) a.alike.drawn ∙ ap (λ (k : ℕ). w.drawn + k) same;
-      calls = a.alike.calls;
-      opened = a.alike.opened;
-      conferences = a.alike.conferences;
-      subscriptions = a.alike.subscriptions;
-      pending_timers = a.alike.pending_timers;
-      texts = a.alike.texts;
-      registrations = a.alike.registrations;
-      seen = a.alike.seen;
+    equivalent = record {
+      clock = a.equivalent.clock;
+      steps = a.equivalent.steps;
+      actions = a.equivalent.actions;
+      drawn = ap (λ (k : ℕ). k + i) a.equivalent.drawn ∙ ap (λ (k : ℕ). w.drawn + k) same;
+      calls = a.equivalent.calls;
+      opened = a.equivalent.opened;
+      conferences = a.equivalent.conferences;
+      subscriptions = a.equivalent.subscriptions;
+      pending_timers = a.equivalent.pending_timers;
+      texts = a.equivalent.texts;
+      registrations = a.equivalent.registrations;
+      seen = a.equivalent.seen;
     };
     one = a.one;
     other = a.other;
@@ -224,47 +224,47 @@ module _ (law : TextsDecideNothing) (records : List Sheet) (d e : Directory) (ke
   pub reply-equivalent : (at : ℕ) (key : TKey) (m n : Message Start) (v w : RunState) → head_of m ≡ head_of n → reliable_number m ≡ reliable_number n
       → ((q : Peer) → peer_of key.0 (live w.actions) ≡ Some q → trusts d q ≡ false → message_text m ≡ message_text n) → Two v w → Two (with_emit at (emit.Reply key m) v) (with_emit at (emit.Reply key n) w)
   reply-equivalent at key m n v w head number text a =
-      let peers = ((law (trusts d) v.actions w.actions a.alike.actions).0).peer key.0 in
+      let peers = ((law (trusts d) v.actions w.actions a.equivalent.actions).0).peer key.0 in
       with_offers-equivalent (to_peer at (message_text m) (peer_of key.0 (live v.actions))) (to_peer at (message_text n) (peer_of key.0 (live w.actions))) _ _
       (λ p strange. ap (λ (o : Option Peer). view p (to_peer at (message_text m) o)) peers ∙ peer_offer d p at (message_text m) (message_text n) (peer_of key.0 (live w.actions)) strange text)
-      (acting-equivalent _ _ v w (((law (trusts d) v.actions w.actions a.alike.actions).1).replies key.0 m n at head number text) a)
+      (acting-equivalent _ _ v w (((law (trusts d) v.actions w.actions a.equivalent.actions).1).replies key.0 m n at head number text) a)
 
   pub ask-equivalent : (at : ℕ) (peer : Peer) (m n : Message Start) (v w : RunState) → head_of m ≡ head_of n → (trusts d peer ≡ false → message_text m ≡ message_text n) → Two v w →
       Two (with_emit at (emit.Ask peer m) v) (with_emit at (emit.Ask peer n) w)
   ask-equivalent at peer m n v w head text a =
       with_offers-equivalent (offer.To peer at (message_text m) ∷ []) (offer.To peer at (message_text n) ∷ []) _ _
       (λ p strange. one_offer d p peer at (message_text m) (message_text n) strange text)
-      (acting-equivalent _ _ v w (((law (trusts d) v.actions w.actions a.alike.actions).1).asks peer m n at head text) a)
+      (acting-equivalent _ _ v w (((law (trusts d) v.actions w.actions a.equivalent.actions).1).asks peer m n at head text) a)
 
   pub plain-equivalent : (at : ℕ) (peer : Peer) (s t : List ℕ) (v w : RunState) → (trusts d peer ≡ false → s ≡ t) → Two v w → Two (with_emit at (emit.Plain peer s) v) (with_emit at (emit.Plain peer t) w)
   plain-equivalent at peer s t v w text a = with_offers-equivalent (offer.To peer at s ∷ []) (offer.To peer at t ∷ []) v w (λ p strange. one_offer d p peer at s t strange text) a
 
   ack-equivalent : (at : ℕ) (key : TKey) (m n : Message Start) (v w : RunState) → ((q : Peer) → peer_of key.0 (live w.actions) ≡ Some q → trusts d q ≡ false → message_text m ≡ message_text n) → Two v w → Two (with_emit at (emit.Ack key m) v) (with_emit at (emit.Ack key n) w)
   ack-equivalent at key m n v w text a =
-      let peers = ((law (trusts d) v.actions w.actions a.alike.actions).0).peer key.0 in
+      let peers = ((law (trusts d) v.actions w.actions a.equivalent.actions).0).peer key.0 in
       with_offers-equivalent (to_peer at (message_text m) (peer_of key.0 (live v.actions))) (to_peer at (message_text n) (peer_of key.0 (live w.actions))) _ _
       (λ p strange. ap (λ (o : Option Peer). view p (to_peer at (message_text m) o)) peers ∙ peer_offer d p at (message_text m) (message_text n) (peer_of key.0 (live w.actions)) strange text)
-      (acting-equivalent _ _ v w (((law (trusts d) v.actions w.actions a.alike.actions).1).acks key.0 m n text) a)
+      (acting-equivalent _ _ v w (((law (trusts d) v.actions w.actions a.equivalent.actions).1).acks key.0 m n text) a)
 
   settle-equivalent : (at : ℕ) (key : TKey) (own : Option ℕ) (v w : RunState) → Two v w → Two (with_emit at (emit.Settled key own) v) (with_emit at (emit.Settled key own) w)
-  settle-equivalent at key own v w a = acting-equivalent _ _ v w (((law (trusts d) v.actions w.actions a.alike.actions).1).settles key.0 own) a
+  settle-equivalent at key own v w a = acting-equivalent _ _ v w (((law (trusts d) v.actions w.actions a.equivalent.actions).1).settles key.0 own) a
 
   pub arm-equivalent : (x : ServiceTimer) (when : ℕ) (v w : RunState) → Two v w
       → Two (with_timer (record { timer = x; at = when; step = v.steps - 1 }) v) (with_timer (record { timer = x; at = when; step = w.steps - 1 }) w)
   arm-equivalent x when v w a = record {
-    alike = record {
-      clock = a.alike.clock;
-      steps = a.alike.steps;
-      actions = a.alike.actions;
-      drawn = a.alike.drawn;
-      calls = a.alike.calls;
-      opened = a.alike.opened;
-      conferences = a.alike.conferences;
-      subscriptions = a.alike.subscriptions;
-      pending_timers = ap (λ (l : List Waiting). l ++ record { timer = x; at = when; step = v.steps - 1 } ∷ []) a.alike.pending_timers ∙ ap (λ (n : ℕ). w.pending_timers ++ record { timer = x; at = when; step = n - 1 } ∷ []) a.alike.steps;
-      texts = a.alike.texts;
-      registrations = a.alike.registrations;
-      seen = a.alike.seen;
+    equivalent = record {
+      clock = a.equivalent.clock;
+      steps = a.equivalent.steps;
+      actions = a.equivalent.actions;
+      drawn = a.equivalent.drawn;
+      calls = a.equivalent.calls;
+      opened = a.equivalent.opened;
+      conferences = a.equivalent.conferences;
+      subscriptions = a.equivalent.subscriptions;
+      pending_timers = ap (λ (l : List Waiting). l ++ record { timer = x; at = when; step = v.steps - 1 } ∷ []) a.equivalent.pending_timers ∙ ap (λ (n : ℕ). w.pending_timers ++ record { timer = x; at = when; step = n - 1 } ∷ []) a.equivalent.steps;
+      texts = a.equivalent.texts;
+      registrations = a.equivalent.registrations;
+      seen = a.equivalent.seen;
     };
     one = a.one;
     other = a.other;

@@ -79,19 +79,19 @@ module _ (law : TextsDecideNothing) (records : List Sheet) (d e : Directory) (to
 
   with_mailbox_op-equivalent : (op other : boxes.TableOp) (v w : RunState) → boxes.table_after_op op (subscriptions_in v) ≡ boxes.table_after_op other (subscriptions_in w) → Two v w → Two (with_mailbox_op op v) (with_mailbox_op other w)
   with_mailbox_op-equivalent op other v w after a = record {
-    alike = record {
-      clock = a.alike.clock;
-      steps = a.alike.steps;
-      actions = a.alike.actions;
-      drawn = a.alike.drawn;
-      calls = a.alike.calls;
-      opened = a.alike.opened;
-      conferences = a.alike.conferences;
+    equivalent = record {
+      clock = a.equivalent.clock;
+      steps = a.equivalent.steps;
+      actions = a.equivalent.actions;
+      drawn = a.equivalent.drawn;
+      calls = a.equivalent.calls;
+      opened = a.equivalent.opened;
+      conferences = a.equivalent.conferences;
       subscriptions = after;
-      pending_timers = a.alike.pending_timers;
-      texts = a.alike.texts;
-      registrations = a.alike.registrations;
-      seen = a.alike.seen;
+      pending_timers = a.equivalent.pending_timers;
+      texts = a.equivalent.texts;
+      registrations = a.equivalent.registrations;
+      seen = a.equivalent.seen;
     };
     one = a.one;
     other = a.other;
@@ -100,14 +100,14 @@ module _ (law : TextsDecideNothing) (records : List Sheet) (d e : Directory) (to
 
   -- the same operation
   same_noted : (op : boxes.TableOp) (v w : RunState) → Two v w → Two (with_mailbox_op op v) (with_mailbox_op op w)
-  same_noted op v w a = with_mailbox_op-equivalent op op v w (ap (boxes.table_after_op op) a.alike.subscriptions) a
+  same_noted op v w a = with_mailbox_op-equivalent op op v w (ap (boxes.table_after_op op) a.equivalent.subscriptions) a
 
   either-equivalent : (b : Bool) (t u v w : RunState) → Two t v → Two u w → Two (if b then t else u) (if b then v else w)
   either-equivalent true t u v w x y = x
   either-equivalent false t u v w x y = y
 
   tag_same : (v w : RunState) → Two v w → next_tag token v ≡ next_tag token w
-  tag_same v w a = ap (λ (n : ℕ). token_text token (n + 1)) a.alike.drawn
+  tag_same v w a = ap (λ (n : ℕ). token_text token (n + 1)) a.equivalent.drawn
 
   pub after_notify_response-equivalent : (branch : Option (List ℕ)) (code : ℕ) (v w : RunState) → Two v w → Two (after_notify_response branch code v) (after_notify_response branch code w)
   after_notify_response-equivalent None code v w a = a
@@ -130,13 +130,13 @@ module _ (law : TextsDecideNothing) (records : List Sheet) (d e : Directory) (to
         let tag : next_tag token v ≡ next_tag token w = tag_same v w a in
         notice_out peer (notify_request d.sip sub last (next_tag token v) at (subscriptions_in v)) (notify_request e.sip sub last (next_tag token w) at (subscriptions_in w))
         (with_mailbox_op (boxes.Notifies sub (next_tag token v)) (with_draws 1 v)) (with_mailbox_op (boxes.Notifies sub (next_tag token w)) (with_draws 1 w))
-        (λ i. notify_request (sites.equal.sip i) sub last (tag i) at (a.alike.subscriptions i))
-        (with_mailbox_op-equivalent (boxes.Notifies sub (next_tag token v)) (boxes.Notifies sub (next_tag token w)) (with_draws 1 v) (with_draws 1 w) (λ i. boxes.table_after_op (boxes.Notifies sub (tag i)) (a.alike.subscriptions i))
+        (λ i. notify_request (sites.equal.sip i) sub last (tag i) at (a.equivalent.subscriptions i))
+        (with_mailbox_op-equivalent (boxes.Notifies sub (next_tag token v)) (boxes.Notifies sub (next_tag token w)) (with_draws 1 v) (with_draws 1 w) (λ i. boxes.table_after_op (boxes.Notifies sub (tag i)) (a.equivalent.subscriptions i))
         (with_draws-equivalent law records d e keys K older knows 1 1 v w refl a))
 
     telling-alike : (sub : SubNo) (last : Bool) (v w : RunState) → Two v w → Two (after_notify d token at sub last v) (after_notify e token at sub last w)
     telling-alike sub last v w a =
-        subst (λ (o : Option Peer). Two (after_notify_to_peer d token at sub last o v) (after_notify e token at sub last w)) (ap (peer_of sub) (sym a.alike.subscriptions))
+        subst (λ (o : Option Peer). Two (after_notify_to_peer d token at sub last o v) (after_notify e token at sub last w)) (ap (peer_of sub) (sym a.equivalent.subscriptions))
         (telling_peer-alike sub last (peer_of sub (subscriptions_in w)) v w a)
 
     telling_last-alike : (sub : SubNo) (v w : RunState) → Two v w → Two (after_last_notify d token at sub v) (after_last_notify e token at sub w)
@@ -150,13 +150,13 @@ module _ (law : TextsDecideNothing) (records : List Sheet) (d e : Directory) (to
     pub putting-alike : (o : Option (Account × Counts)) (v w : RunState) → Two v w → Two (after_mailbox_upload d token at o v) (after_mailbox_upload e token at o w)
     putting-alike None v w a = a
     putting-alike (Some put) v w a =
-        subst (λ (subs : List SubNo). Two (after_notify_to_each d token at subs (with_mailbox_op (boxes.Puts put.0 put.1) v)) (after_mailbox_upload e token at (Some put) w)) (ap (subscribers_of put.0) (sym a.alike.subscriptions))
+        subst (λ (subs : List SubNo). Two (after_notify_to_each d token at subs (with_mailbox_op (boxes.Puts put.0 put.1) v)) (after_mailbox_upload e token at (Some put) w)) (ap (subscribers_of put.0) (sym a.equivalent.subscriptions))
         (telling_each-alike (subscribers_of put.0 (subscriptions_in w)) (with_mailbox_op (boxes.Puts put.0 put.1) v) (with_mailbox_op (boxes.Puts put.0 put.1) w) (same_noted (boxes.Puts put.0 put.1) v w a))
 
     -- a subscription expires
     pub box_due-alike : (sub : SubNo) (set : ℕ) (v w : RunState) → Two v w → Two (after_expiry d token at sub set v) (after_expiry e token at sub set w)
     box_due-alike sub set v w a =
-        subst (λ (o : Option ℕ). Two (if is_last_set set o then after_last_notify d token at sub v else v) (after_expiry e token at sub set w)) (ap (set_by sub) (sym a.alike.subscriptions))
+        subst (λ (o : Option ℕ). Two (if is_last_set set o then after_last_notify d token at sub v else v) (after_expiry e token at sub set w)) (ap (set_by sub) (sym a.equivalent.subscriptions))
         (either-equivalent (is_last_set set (set_by sub (subscriptions_in w))) (after_last_notify d token at sub v) v (after_last_notify e token at sub w) w (telling_last-alike sub v w a) a)
 
     -- the expiration of a subscription is set
@@ -170,7 +170,8 @@ module _ (law : TextsDecideNothing) (records : List Sheet) (d e : Directory) (to
         let ws : RunState = after_notify e token at sub false w in
         either-equivalent (seconds == 0) (after_last_notify d token at sub v) (with_expiry_timer sub (set_by sub (subscriptions_in v)) (until_of at seconds) vs)
         (after_last_notify e token at sub w) (with_expiry_timer sub (set_by sub (subscriptions_in w)) (until_of at seconds) ws) (telling_last-alike sub v w a)
-        (subst (λ (o : Option ℕ). Two (with_expiry_timer sub o (until_of at seconds) vs) (with_expiry_timer sub (set_by sub (subscriptions_in w)) (until_of at seconds) ws)) (ap (set_by sub) (sym a.alike.subscriptions))
+        (subst (λ (o : Option ℕ). Two (with_expiry_timer sub o (until_of at seconds) vs) (with_expiry_timer sub (set_by sub (subscriptions_in w)) (until_of at seconds) ws))
+        (ap (set_by sub) (sym a.equivalent.subscriptions))
         (arming_until-alike sub (set_by sub (subscriptions_in w)) (until_of at seconds) vs ws (telling-alike sub false v w a)))
 
     -- ---- for two requests, the responses to which leave states indistinguishable
@@ -194,9 +195,9 @@ module _ (law : TextsDecideNothing) (records : List Sheet) (d e : Directory) (to
           let ws : RunState = with_mailbox_op (boxes.Subscribes account (leg_by tag n) (until_of at seconds)) (with_draws 1 w) in
           let noted : Two vs ws =
           with_mailbox_op-equivalent (boxes.Subscribes account (leg_by tag m) (until_of at seconds)) (boxes.Subscribes account (leg_by tag n) (until_of at seconds)) (with_draws 1 v) (with_draws 1 w)
-          (λ i. boxes.table_after_op (boxes.Subscribes account (subscribes.leg tag i) (until_of at seconds)) (a.alike.subscriptions i)) (with_draws-equivalent law records d e keys K older knows 1 1 v w refl a) in
+          (λ i. boxes.table_after_op (boxes.Subscribes account (subscribes.leg tag i) (until_of at seconds)) (a.equivalent.subscriptions i)) (with_draws-equivalent law records d e keys K older knows 1 1 v w refl a) in
           subst (λ (t : List ℕ). Two (diversions_made_by t (next_sub (subscriptions_in v)) account seconds v) (after_subscription e token at key n account seconds w)) (sym (tag_same v w a))
-          (subst (λ (x : SubNo). Two (diversions_made_by tag x account seconds v) (after_subscription e token at key n account seconds w)) (ap (λ (t : Table). next_sub t) (sym a.alike.subscriptions))
+          (subst (λ (x : SubNo). Two (diversions_made_by tag x account seconds v) (after_subscription e token at key n account seconds w)) (ap (λ (t : Table). next_sub t) (sym a.equivalent.subscriptions))
           (standing-alike sub seconds (with_emit at (emit.Reply key (response_to d.sip tag m (grant_response seconds))) vs) (with_emit at (emit.Reply key (response_to e.sip tag n (grant_response seconds))) ws)
           (replies tag (grant_response seconds) vs ws its noted)))
 
@@ -206,7 +207,7 @@ module _ (law : TextsDecideNothing) (records : List Sheet) (d e : Directory) (to
       made_for-alike : SubscribeEqually d e m n → (o : Option Account) (v w : RunState) → IsOf key n.peer w → Two v w → Two (after_subscription_for d token at key m o v) (after_subscription_for e token at key n o w)
       made_for-alike subscribes None v w its a = answers (plain_response 403) v w its a
       made_for-alike subscribes (Some account) v w its a =
-          subst (λ (b : Bool). Two (made_if b account m.parsed.expires v) (after_subscription_for e token at key n (Some account) w)) (ap (λ (t : Table). is_full t) (sym a.alike.subscriptions))
+          subst (λ (b : Bool). Two (made_if b account m.parsed.expires v) (after_subscription_for e token at key n (Some account) w)) (ap (λ (t : Table). is_full t) (sym a.equivalent.subscriptions))
           (subst (λ (o : Option ℕ). Two (made_if (is_full (subscriptions_in w)) account o v) (after_subscription_for e token at key n (Some account) w)) (sym asks.expires)
           (either-equivalent (is_full (subscriptions_in w)) (with_response d token at key m (plain_response 503) v) (after_subscription d token at key m account (granted_seconds n.parsed.expires) v)
           (with_response e token at key n (plain_response 503) w) (after_subscription e token at key n account (granted_seconds n.parsed.expires) w)
@@ -268,11 +269,11 @@ module _ (law : TextsDecideNothing) (records : List Sheet) (d e : Directory) (to
         entering_by-alike sub (Err fault) v w its a = answers (plain_response 500) v w its a
         entering_by-alike sub (Ok done) v w its a =
             entered-alike sub (with_mailbox_op (boxes.Receives sub (message_in m.parsed)) v) (with_mailbox_op (boxes.Receives sub (message_in n.parsed)) w) its
-            (with_mailbox_op-equivalent (boxes.Receives sub (message_in m.parsed)) (boxes.Receives sub (message_in n.parsed)) v w (heard_same m n sub (subscriptions_in v) (subscriptions_in w) asks a.alike.subscriptions) a)
+            (with_mailbox_op-equivalent (boxes.Receives sub (message_in m.parsed)) (boxes.Receives sub (message_in n.parsed)) v w (heard_same m n sub (subscriptions_in v) (subscriptions_in w) asks a.equivalent.subscriptions) a)
 
         pub entering_box-alike : (sub : SubNo) (v w : RunState) → IsOf key n.peer w → Two v w → Two (after_subscription_request d token at key m sub v) (after_subscription_request e token at key n sub w)
         entering_box-alike sub v w its a =
             let same : request_check sub (message_in m.parsed) (subscriptions_in v) ≡ request_check sub (message_in n.parsed) (subscriptions_in w) =
-            ap (λ (t : Table). request_check sub (message_in m.parsed) t) a.alike.subscriptions ∙ request_check_same m n (subscription_numbered sub (subscriptions_in w)) asks in
+            ap (λ (t : Table). request_check sub (message_in m.parsed) t) a.equivalent.subscriptions ∙ request_check_same m n (subscription_numbered sub (subscriptions_in w)) asks in
             subst (λ (r : Result (Unit {0}) DialogueFault). Two (after_checked_request d token at key m sub r v) (after_subscription_request e token at key n sub w)) (sym same)
             (entering_by-alike sub (request_check sub (message_in n.parsed) (subscriptions_in w)) v w its a)

@@ -69,9 +69,9 @@ bare table = record table { rows = [] }
 -- what is proved of the tables, besides what they preserve
 pub record TableTheorems : Type 0 where
   pub answers : EquivalentTablesAnswerEqually
-  pub rooms : alike.TablesStayEquivalent
+  pub conferences : alike.TablesStayEquivalent
   pub seen : alike.OperationsAreSeenEqually
-  pub seats : EquivalentRoomsAnswerEqually
+  pub participants : EquivalentRoomsAnswerEqually
 
 -- ---- the records in force are among those of the run
 
@@ -102,19 +102,19 @@ module _ (law : TextsDecideNothing) (tables : TablesStayEquivalent) (told : Call
   -- ---- tables
 
   pub tables_equivalent : (v w : RunState) → Two v w → EquivalentTables records (trusts d) (bare (calls_in d v)) (bare (calls_in e w))
-  tables_equivalent v w a = record { entries = a.alike.calls; opened = a.alike.opened; rows = refl }
+  tables_equivalent v w a = record { entries = a.equivalent.calls; opened = a.equivalent.opened; rows = refl }
 
   stands_equivalent : (v w : RunState) → Two v w → TablesCorrespond records (call_config d) keys (bare (calls_in d v)) (bare (calls_in e w))
   stands_equivalent v w a = record { equivalent = tables_equivalent v w a; one = a.one; other = a.other }
 
   pub tokens_same : (v w : RunState) → Two v w → tokens_now token v ≡ tokens_now token w
-  tokens_same v w a = ap (λ (n : ℕ). record { token = token; drawn = n }) a.alike.drawn
+  tokens_same v w a = ap (λ (n : ℕ). record { token = token; drawn = n }) a.equivalent.drawn
 
   pub branches_equivalent : (invite branch : Option (List ℕ)) (v w : RunState) → Two v w →
       owner_of_branch invite branch (calls_in d v).entries (subscriptions_in v) ≡ owner_of_branch invite branch (calls_in e w).entries (subscriptions_in w)
   branches_equivalent invite branch v w a =
       ap (λ (o : Option ℕ). owner_of (is_some o) (is_of_subscriptions branch (subscriptions_in v))) (laws.answers.sent records (trusts d) invite (bare (calls_in d v)) (bare (calls_in e w)) (tables_equivalent v w a))
-      ∙ ap (λ (table : mailboxes.Table). owner_of (is_of_calls invite (calls_in e w).entries) (is_of_subscriptions branch table)) a.alike.subscriptions
+      ∙ ap (λ (table : mailboxes.Table). owner_of (is_of_calls invite (calls_in e w).entries) (is_of_subscriptions branch table)) a.equivalent.subscriptions
 
   key_same : (key : TKey) (v w : RunState) → Two v w → owner_of_key key (calls_in d v).entries ≡ owner_of_key key (calls_in e w).entries
   key_same key v w a = ap (λ (o : Option ℕ). calls_or_conferences (is_some o)) (laws.answers.answered records (trusts d) key (bare (calls_in d v)) (bare (calls_in e w)) (tables_equivalent v w a))
@@ -133,19 +133,19 @@ module _ (law : TextsDecideNothing) (tables : TablesStayEquivalent) (told : Call
       (record v { call_ops = Drops (length output.rows) ∷ x ∷ v.call_ops; drawn = output.tokens.drawn; waiting = v.waiting ++ output.rows })
       (record w { call_ops = Drops (length other.rows) ∷ y ∷ w.call_ops; drawn = other.tokens.drawn; waiting = w.waiting ++ other.rows }) k desks.out
       (record {
-        alike = record {
-          clock = a.alike.clock;
-          steps = a.alike.steps;
-          actions = a.alike.actions;
+        equivalent = record {
+          clock = a.equivalent.clock;
+          steps = a.equivalent.steps;
+          actions = a.equivalent.actions;
           drawn = ap (λ (t : TokensView). t.drawn) desks.tokens;
           calls = entries;
           opened = opened;
-          conferences = a.alike.conferences;
-          subscriptions = a.alike.subscriptions;
-          pending_timers = a.alike.pending_timers;
-          texts = a.alike.texts;
-          registrations = a.alike.registrations;
-          seen = a.alike.seen;
+          conferences = a.equivalent.conferences;
+          subscriptions = a.equivalent.subscriptions;
+          pending_timers = a.equivalent.pending_timers;
+          texts = a.equivalent.texts;
+          registrations = a.equivalent.registrations;
+          seen = a.equivalent.seen;
         };
         one = one;
         other = two;
@@ -156,19 +156,19 @@ module _ (law : TextsDecideNothing) (tables : TablesStayEquivalent) (told : Call
   with_call_op-equivalent : (x y : TableOp) (v w : RunState) → Two v w → EquivalentEntries records (trusts d) (after d x v).entries (after e y w).entries → (after d x v).opened ≡ (after e y w).opened →
       CallsInvariant records S (after d x v).entries → CallsInvariant records S (after e y w).entries → Two (with_call_op x v) (with_call_op y w)
   with_call_op-equivalent x y v w a entries opened one two = record {
-    alike = record {
-      clock = a.alike.clock;
-      steps = a.alike.steps;
-      actions = a.alike.actions;
-      drawn = a.alike.drawn;
+    equivalent = record {
+      clock = a.equivalent.clock;
+      steps = a.equivalent.steps;
+      actions = a.equivalent.actions;
+      drawn = a.equivalent.drawn;
       calls = entries;
       opened = opened;
-      conferences = a.alike.conferences;
-      subscriptions = a.alike.subscriptions;
-      pending_timers = a.alike.pending_timers;
-      texts = a.alike.texts;
-      registrations = a.alike.registrations;
-      seen = a.alike.seen;
+      conferences = a.equivalent.conferences;
+      subscriptions = a.equivalent.subscriptions;
+      pending_timers = a.equivalent.pending_timers;
+      texts = a.equivalent.texts;
+      registrations = a.equivalent.registrations;
+      seen = a.equivalent.seen;
     };
     one = one;
     other = two;
@@ -211,19 +211,19 @@ module _ (law : TextsDecideNothing) (tables : TablesStayEquivalent) (told : Call
 
   with_drawn : (i j : ℕ) (v w : RunState) → i ≡ j → Two v w → Two (record v { drawn = i }) (record w { drawn = j })
   with_drawn i j v w same a = record {
-    alike = record {
-      clock = a.alike.clock;
-      steps = a.alike.steps;
-      actions = a.alike.actions;
+    equivalent = record {
+      clock = a.equivalent.clock;
+      steps = a.equivalent.steps;
+      actions = a.equivalent.actions;
       drawn = same;
-      calls = a.alike.calls;
-      opened = a.alike.opened;
-      conferences = a.alike.conferences;
-      subscriptions = a.alike.subscriptions;
-      pending_timers = a.alike.pending_timers;
-      texts = a.alike.texts;
-      registrations = a.alike.registrations;
-      seen = a.alike.seen;
+      calls = a.equivalent.calls;
+      opened = a.equivalent.opened;
+      conferences = a.equivalent.conferences;
+      subscriptions = a.equivalent.subscriptions;
+      pending_timers = a.equivalent.pending_timers;
+      texts = a.equivalent.texts;
+      registrations = a.equivalent.registrations;
+      seen = a.equivalent.seen;
     };
     one = a.one;
     other = a.other;
@@ -235,15 +235,15 @@ module _ (law : TextsDecideNothing) (tables : TablesStayEquivalent) (told : Call
   Houses x v w = alike.AreEquivalentIn (conference_config d) (conference_config e) keys x (conferences_in d v) (conferences_in e w)
 
   desks_equivalent : (x : both.OpPair) (v w : RunState) → Two v w → Houses x v w → EquivalentOutputs S (output_of_conference_op d (both.one_op x) v) (output_of_conference_op e (both.other_op x) w)
-  desks_equivalent x v w a does = (laws.seen.operations (conference_config d) (conference_config e) keys x (conferences_in d v) (conferences_in e w) rooms_equal a.alike.conferences does).output
+  desks_equivalent x v w a does = (laws.seen.operations (conference_config d) (conference_config e) keys x (conferences_in d v) (conferences_in e w) rooms_equal a.equivalent.conferences does).output
 
   -- the CDRs are removed
   dropped_equivalent : (x : both.OpPair) (n m : ℕ) (v w : RunState) → Two v w → Houses x v w → n ≡ m →
       alike.EquivalentConferences (trusts d) (rooms.table_after (conference_config d) (rooms.Drops n ∷ both.one_op x ∷ v.conference_ops)) (rooms.table_after (conference_config e) (rooms.Drops m ∷ both.other_op x ∷ w.conference_ops))
   dropped_equivalent x n m v w a does same =
       subst (λ (i : ℕ). alike.EquivalentConferences (trusts d) (rooms.table_after (conference_config d) (rooms.Drops n ∷ both.one_op x ∷ v.conference_ops)) (rooms.table_after (conference_config e) (rooms.Drops i ∷ both.other_op x ∷ w.conference_ops))) same
-      (laws.rooms.operations (conference_config d) (conference_config e) keys (both.Drops n) (rooms.table_after (conference_config d) (both.one_op x ∷ v.conference_ops)) (rooms.table_after (conference_config e) (both.other_op x ∷ w.conference_ops)) rooms_equal
-      (laws.rooms.operations (conference_config d) (conference_config e) keys x (conferences_in d v) (conferences_in e w) rooms_equal a.alike.conferences does) (record { done = tt; lookups = tt }))
+      (laws.conferences.operations (conference_config d) (conference_config e) keys (both.Drops n) (rooms.table_after (conference_config d) (both.one_op x ∷ v.conference_ops)) (rooms.table_after (conference_config e) (both.other_op x ∷ w.conference_ops)) rooms_equal
+      (laws.conferences.operations (conference_config d) (conference_config e) keys x (conferences_in d v) (conferences_in e w) rooms_equal a.equivalent.conferences does) (record { done = tt; lookups = tt }))
 
   lodged : (at : ℕ) (x : both.OpPair) (output other : StepOutput) (v w : RunState) → Two v w → Houses x v w → EquivalentOutputs S output other → K (with_conference_output at (both.other_op x) other w).actions →
       Two (with_conference_output at (both.one_op x) output v) (with_conference_output at (both.other_op x) other w)
@@ -252,19 +252,19 @@ module _ (law : TextsDecideNothing) (tables : TablesStayEquivalent) (told : Call
       (record v { conference_ops = rooms.Drops (length output.rows) ∷ both.one_op x ∷ v.conference_ops; waiting = v.waiting ++ output.rows })
       (record w { conference_ops = rooms.Drops (length other.rows) ∷ both.other_op x ∷ w.conference_ops; waiting = w.waiting ++ other.rows }) k desks.out
       (record {
-        alike = record {
-          clock = a.alike.clock;
-          steps = a.alike.steps;
-          actions = a.alike.actions;
-          drawn = a.alike.drawn;
-          calls = a.alike.calls;
-          opened = a.alike.opened;
+        equivalent = record {
+          clock = a.equivalent.clock;
+          steps = a.equivalent.steps;
+          actions = a.equivalent.actions;
+          drawn = a.equivalent.drawn;
+          calls = a.equivalent.calls;
+          opened = a.equivalent.opened;
           conferences = dropped_equivalent x (length output.rows) (length other.rows) v w a does (ap (λ (rows : List Row). length rows) desks.rows);
-          subscriptions = a.alike.subscriptions;
-          pending_timers = a.alike.pending_timers;
-          texts = a.alike.texts;
-          registrations = a.alike.registrations;
-          seen = a.alike.seen;
+          subscriptions = a.equivalent.subscriptions;
+          pending_timers = a.equivalent.pending_timers;
+          texts = a.equivalent.texts;
+          registrations = a.equivalent.registrations;
+          seen = a.equivalent.seen;
         };
         one = a.one;
         other = a.other;
@@ -317,7 +317,7 @@ module _ (law : TextsDecideNothing) (tables : TablesStayEquivalent) (told : Call
 
   -- two signals that are the same but for private places, each with the role that it should have
   pub record Says (at : ℕ) (x y : Signal) (r s : Role) (v w : RunState) : Type 0 where
-    pub said : public_signal r x ≡ public_signal s y
+    pub public : public_signal r x ≡ public_signal s y
     pub callers : CallersDecidedEqually records x y
     pub looks : SignalLooksUpEqually (call_config d) (call_config e) s y
     pub first : TableMayReceive S (snapshot_at at (view_in v) []) r x (calls_in d v).entries
@@ -327,14 +327,14 @@ module _ (law : TextsDecideNothing) (tables : TablesStayEquivalent) (told : Call
 
   module _ (at : ℕ) (x y : Signal) (r s : Role) (v w : RunState) (a : Two v w) (says : Says at x y r s v w) where
     among_first : AreAmong records v.texts
-    among_first = subst (AreAmong records) (sym a.alike.texts) a.among
+    among_first = subst (AreAmong records) (sym a.equivalent.texts) a.among
 
     hear : ReceiveEquivalent records (call_config d) (call_config e) keys (record { received = received_now token at x v; role = r }) (record { received = received_now token at y w; role = s }) (bare (calls_in d v)) (bare (calls_in e w))
     hear = record {
       at = refl;
-      view = ap (λ (t : Texts). in_force t v.registrations) a.alike.texts ∙ ap (in_force w.texts) a.alike.registrations;
-      tokens = ap (λ (n : ℕ). record { token = token; drawn = n }) a.alike.drawn;
-      signals = says.said;
+      view = ap (λ (t : Texts). in_force t v.registrations) a.equivalent.texts ∙ ap (in_force w.texts) a.equivalent.registrations;
+      tokens = ap (λ (n : ℕ). record { token = token; drawn = n }) a.equivalent.drawn;
+      signals = says.public;
       callers = says.callers;
       lookups = says.looks;
       covered = λ busy. all_stand told records v.texts v.registrations at busy among_first;
@@ -363,7 +363,7 @@ module _ (law : TextsDecideNothing) (tables : TablesStayEquivalent) (told : Call
 
   silent_says : (at : ℕ) (branch method : List ℕ) (v w : RunState) → Says at (signal.Silent branch method) (signal.Silent branch method) Plain Plain v w
   silent_says at branch method v w = record {
-    said = refl;
+    public = refl;
     callers = λ who second x y. absurd (none_said who x);
     looks = tt;
     first = λ place i p g. tt;
@@ -374,7 +374,7 @@ module _ (law : TextsDecideNothing) (tables : TablesStayEquivalent) (told : Call
 
   over_says : (at : ℕ) (key : TKey) (v w : RunState) → Says at (signal.Over key) (signal.Over key) Plain Plain v w
   over_says at key v w = record {
-    said = refl;
+    public = refl;
     callers = λ who second x y. absurd (none_said who x);
     looks = tt;
     first = λ place i p g. tt;
@@ -385,7 +385,7 @@ module _ (law : TextsDecideNothing) (tables : TablesStayEquivalent) (told : Call
 
   due_says : (at : ℕ) (call : CallNo) (what : DueWord) (v w : RunState) → Says at (signal.Due call what) (signal.Due call what) Plain Plain v w
   due_says at call what v w = record {
-    said = refl;
+    public = refl;
     callers = λ who second x y. absurd (none_said who x);
     looks = tt;
     first = λ place i p g. tt;
@@ -507,19 +507,19 @@ module _ (law : TextsDecideNothing) (tables : TablesStayEquivalent) (told : Call
 
   pub with_next_step-equivalent : (v w : RunState) → Two v w → Two (with_next_step v) (with_next_step w)
   with_next_step-equivalent v w a = record {
-    alike = record {
-      clock = a.alike.clock;
-      steps = ap (λ (n : ℕ). n + 1) a.alike.steps;
-      actions = subst (λ (n : ℕ). Equivalent (trusts d) (DidBegin v.steps ∷ v.actions) (DidBegin n ∷ w.actions)) a.alike.steps (((law (trusts d) v.actions w.actions a.alike.actions).1).begins v.steps);
-      drawn = a.alike.drawn;
-      calls = a.alike.calls;
-      opened = a.alike.opened;
-      conferences = a.alike.conferences;
-      subscriptions = a.alike.subscriptions;
-      pending_timers = a.alike.pending_timers;
-      texts = a.alike.texts;
-      registrations = a.alike.registrations;
-      seen = a.alike.seen;
+    equivalent = record {
+      clock = a.equivalent.clock;
+      steps = ap (λ (n : ℕ). n + 1) a.equivalent.steps;
+      actions = subst (λ (n : ℕ). Equivalent (trusts d) (DidBegin v.steps ∷ v.actions) (DidBegin n ∷ w.actions)) a.equivalent.steps (((law (trusts d) v.actions w.actions a.equivalent.actions).1).begins v.steps);
+      drawn = a.equivalent.drawn;
+      calls = a.equivalent.calls;
+      opened = a.equivalent.opened;
+      conferences = a.equivalent.conferences;
+      subscriptions = a.equivalent.subscriptions;
+      pending_timers = a.equivalent.pending_timers;
+      texts = a.equivalent.texts;
+      registrations = a.equivalent.registrations;
+      seen = a.equivalent.seen;
     };
     one = a.one;
     other = a.other;
@@ -528,30 +528,30 @@ module _ (law : TextsDecideNothing) (tables : TablesStayEquivalent) (told : Call
 
   fired_in-alike : (now : ℕ) (v w : RunState) → K (after_transaction_timer e token now w).actions → Two v w → Two (after_transaction_timer d token now v) (after_transaction_timer e token now w)
   fired_in-alike now v w k a =
-      let decide = (law (trusts d) v.actions w.actions a.alike.actions).0 in
+      let decide = (law (trusts d) v.actions w.actions a.equivalent.actions).0 in
       after_due-equivalent (due_result (next_due now (live v.actions))) (due_result (next_due now (live w.actions)))
       (record v { actions = after_firing v.actions (next_due now (live v.actions)) }) (record w { actions = after_firing w.actions (next_due now (live w.actions)) }) (decide.due_results now) k
       (acting-equivalent law records d e keys K older knows (after_firing v.actions (next_due now (live v.actions))) (after_firing w.actions (next_due now (live w.actions))) v w
       (subst (λ (x : List TransactionOp). Equivalent (trusts d) x (after_firing w.actions (next_due now (live w.actions)))) (sym (after_firing_as (next_due now (live v.actions)) v.actions))
       (subst (λ (x : List TransactionOp). Equivalent (trusts d) (after_firing_key v.actions (next_key (next_due now (live v.actions)))) x) (sym (after_firing_as (next_due now (live w.actions)) w.actions))
       (subst (λ (n : Option ℕ). Equivalent (trusts d) (after_firing_key v.actions (next_key (next_due now (live v.actions)))) (after_firing_key w.actions n)) (decide.fires now)
-      (after_firing_equivalent (next_key (next_due now (live v.actions))) v.actions w.actions a.alike.actions)))) a)
+      (after_firing_equivalent (next_key (next_due now (live v.actions))) v.actions w.actions a.equivalent.actions)))) a)
 
   with_armed : (armed : List PendingTimer) (v w : RunState) → Two v w → Two (record v { pending_timers = armed }) (record w { pending_timers = armed })
   with_armed armed v w a = record {
-    alike = record {
-      clock = a.alike.clock;
-      steps = a.alike.steps;
-      actions = a.alike.actions;
-      drawn = a.alike.drawn;
-      calls = a.alike.calls;
-      opened = a.alike.opened;
-      conferences = a.alike.conferences;
-      subscriptions = a.alike.subscriptions;
+    equivalent = record {
+      clock = a.equivalent.clock;
+      steps = a.equivalent.steps;
+      actions = a.equivalent.actions;
+      drawn = a.equivalent.drawn;
+      calls = a.equivalent.calls;
+      opened = a.equivalent.opened;
+      conferences = a.equivalent.conferences;
+      subscriptions = a.equivalent.subscriptions;
       pending_timers = refl;
-      texts = a.alike.texts;
-      registrations = a.alike.registrations;
-      seen = a.alike.seen;
+      texts = a.equivalent.texts;
+      registrations = a.equivalent.registrations;
+      seen = a.equivalent.seen;
     };
     one = a.one;
     other = a.other;
@@ -587,8 +587,8 @@ module _ (law : TextsDecideNothing) (tables : TablesStayEquivalent) (told : Call
   due_same : (now : ℕ) (v w : RunState) → Two v w → first_due_deadline now v ≡ first_due_deadline now w
   due_same now v w a =
       first_as (next_due now (live v.actions)) (first_due_timer now v.pending_timers)
-      ∙ (ap (λ (u : Option (ℕ × ℕ)). first_by u (first_due_timer now v.pending_timers)) (((law (trusts d) v.actions w.actions a.alike.actions).0).due now)
-      ∙ (ap (λ (l : List PendingTimer). first_by (upcoming_of (next_due now (live w.actions))) (first_due_timer now l)) a.alike.pending_timers
+      ∙ (ap (λ (u : Option (ℕ × ℕ)). first_by u (first_due_timer now v.pending_timers)) (((law (trusts d) v.actions w.actions a.equivalent.actions).0).due now)
+      ∙ (ap (λ (l : List PendingTimer). first_by (upcoming_of (next_due now (live w.actions))) (first_due_timer now l)) a.equivalent.pending_timers
       ∙ sym (first_as (next_due now (live w.actions)) (first_due_timer now w.pending_timers))))
 
   if_fired : (now : ℕ) (o : Option Deadline) (v w : RunState) → K (after_deadline_if e token now o w).actions → Two v w → Two (after_deadline_if d token now o v) (after_deadline_if e token now o w)

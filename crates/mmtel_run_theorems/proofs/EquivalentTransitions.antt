@@ -94,11 +94,11 @@ pub record Below : Type 0 where
   pub new : NewPeers
   pub heads : EquivalentParsedHaveOneHead
   pub responses : EquivalentResponsesHaveOneHead
-  pub kin : EqualMasksAreEquivalent
+  pub masks : EqualMasksAreEquivalent
   pub wholes : MessagesHaveNothingPrivate
   pub tables : TablesStayEquivalent
   pub laws : TableTheorems
-  pub told : CallsSeeWhatIsInForce
+  pub records : CallsSeeWhatIsInForce
 
 some_same : (A : Type 0) (x y : A) → Some x ≡ Some y → x ≡ y
 some_same A x y e = cc
@@ -155,23 +155,23 @@ module _ (below : Below) (records : List Sheet) (d e : Directory) (token : List 
   trusts_same p = ap (λ (t : Peers). is_trusted p t.known) sites.equal.peers
 
   tables_both : (v w : RunState) → Two v w → EquivalentTables records (trusts d) (bare (calls_in d v)) (bare (calls_in e w))
-  tables_both v w a = tables_equivalent below.texts below.tables below.told below.laws records d e token keys sites K older knows v w a
+  tables_both v w a = tables_equivalent below.texts below.tables below.records below.laws records d e token keys sites K older knows v w a
 
   with_registration-equivalent : (account : Account) (until : ℕ) (v w : RunState) → Two v w → Two (with_registration account until v) (with_registration account until w)
   with_registration-equivalent account until v w a = record {
-    alike = record {
-      clock = a.alike.clock;
-      steps = a.alike.steps;
-      actions = a.alike.actions;
-      drawn = a.alike.drawn;
-      calls = a.alike.calls;
-      opened = a.alike.opened;
-      conferences = a.alike.conferences;
-      subscriptions = a.alike.subscriptions;
-      pending_timers = a.alike.pending_timers;
-      texts = a.alike.texts;
-      registrations = ap (λ (l : List (Account × ℕ)). (account, until) ∷ l) a.alike.registrations;
-      seen = a.alike.seen;
+    equivalent = record {
+      clock = a.equivalent.clock;
+      steps = a.equivalent.steps;
+      actions = a.equivalent.actions;
+      drawn = a.equivalent.drawn;
+      calls = a.equivalent.calls;
+      opened = a.equivalent.opened;
+      conferences = a.equivalent.conferences;
+      subscriptions = a.equivalent.subscriptions;
+      pending_timers = a.equivalent.pending_timers;
+      texts = a.equivalent.texts;
+      registrations = ap (λ (l : List (Account × ℕ)). (account, until) ∷ l) a.equivalent.registrations;
+      seen = a.equivalent.seen;
     };
     one = a.one;
     other = a.other;
@@ -222,23 +222,23 @@ module _ (below : Below) (records : List Sheet) (d e : Directory) (token : List 
     N = message_in n.parsed
 
     peers : m.peer ≡ n.peer
-    peers = peer_same below.heads below.responses below.kin d e sites.equal m n r s same
+    peers = peer_same below.heads below.responses below.masks d e sites.equal m n r s same
 
     one_head : head_of M ≡ head_of N
-    one_head = head_same below.heads below.responses below.kin d e sites.equal m n r s same
+    one_head = head_same below.heads below.responses below.masks d e sites.equal m n r s same
 
     tags : m.parsed.to_tag ≡ n.parsed.to_tag
-    tags = tag_same below.heads below.responses below.kin d e sites.equal m n r s same
+    tags = tag_same below.heads below.responses below.masks d e sites.equal m n r s same
 
     knows_one : Knows d keys v.actions
-    knows_one key q is = knows w.actions kw key q (sym (((below.texts (trusts d) v.actions w.actions a.alike.actions).0).peer key) ∙ is)
+    knows_one key q is = knows w.actions kw key q (sym (((below.texts (trusts d) v.actions w.actions a.equivalent.actions).0).peer key) ∙ is)
 
     -- ---- what was received
 
     heard_alike : (t : MessageClass) → Two (record v { actions = DidHear m.peer M at t ∷ v.actions }) (record w { actions = DidHear n.peer N at t ∷ w.actions })
     heard_alike t =
         acting-equivalent below.texts records d e keys K older knows _ _ v w
-        (subst (λ (p : Peer). Equivalent (trusts d) (DidHear m.peer M at t ∷ v.actions) (DidHear p N at t ∷ w.actions)) peers (((below.texts (trusts d) v.actions w.actions a.alike.actions).1).hears m.peer M N at t one_head)) a
+        (subst (λ (p : Peer). Equivalent (trusts d) (DidHear m.peer M at t ∷ v.actions) (DidHear p N at t ∷ w.actions)) peers (((below.texts (trusts d) v.actions w.actions a.equivalent.actions).1).hears m.peer M N at t one_head)) a
 
     -- ---- responses
 
@@ -248,21 +248,21 @@ module _ (below : Below) (records : List Sheet) (d e : Directory) (token : List 
     replying-alike : (key : TKey) (answer : StatusResponse) (x y : RunState) → is_request m.parsed.start ≡ true → ((q : Peer) → peer_of key.0 (live y.actions) ≡ Some q → q ≡ n.peer) → Two x y
         → Two (with_response d token at key m answer x) (with_response e token at key n answer y)
     replying-alike key answer x y request of_peer b =
-        let tag = tag_equivalent x.drawn y.drawn m.parsed.to_tag n.parsed.to_tag b.alike.drawn tags in
+        let tag = tag_equivalent x.drawn y.drawn m.parsed.to_tag n.parsed.to_tag b.equivalent.drawn tags in
         let t : List ℕ = tag_for token x.drawn m.parsed.to_tag in
         reply-equivalent below.texts records d e keys K older knows at key (response_to d.sip t m answer) (response_to e.sip (tag_for token y.drawn n.parsed.to_tag) n answer) _ _
-        (reply_head below.heads below.responses below.kin d e sites.equal m n r s same t answer request ∙ ap (λ (z : List ℕ). head_of (response_to e.sip z n answer)) tag)
-        (reply_number below.heads below.responses below.kin d e sites.equal m n r s same t answer ∙ ap (λ (z : List ℕ). reliable_number (response_to e.sip z n answer)) tag)
-        (λ q is strange. ap message_text (reply_whole below.heads below.responses below.kin d e sites.equal m n r s same t answer (strange_one q (of_peer q is) strange) ∙ ap (λ (z : List ℕ). response_to e.sip z n answer) tag))
+        (reply_head below.heads below.responses below.masks d e sites.equal m n r s same t answer request ∙ ap (λ (z : List ℕ). head_of (response_to e.sip z n answer)) tag)
+        (reply_number below.heads below.responses below.masks d e sites.equal m n r s same t answer ∙ ap (λ (z : List ℕ). reliable_number (response_to e.sip z n answer)) tag)
+        (λ q is strange. ap message_text (reply_whole below.heads below.responses below.masks d e sites.equal m n r s same t answer (strange_one q (of_peer q is) strange) ∙ ap (λ (z : List ℕ). response_to e.sip z n answer) tag))
         (with_draws-equivalent below.texts records d e keys K older knows (tags_due m.parsed.to_tag) (tags_due n.parsed.to_tag) x y (ap tags_due tags) b)
 
     replying_plainly-alike : (answer : StatusResponse) (x y : RunState) → Two x y → Two (with_stateless_response d token at m answer x) (with_stateless_response e token at n answer y)
     replying_plainly-alike answer x y b =
-        let tag = tag_equivalent x.drawn y.drawn m.parsed.to_tag n.parsed.to_tag b.alike.drawn tags in
+        let tag = tag_equivalent x.drawn y.drawn m.parsed.to_tag n.parsed.to_tag b.equivalent.drawn tags in
         let t : List ℕ = tag_for token x.drawn m.parsed.to_tag in
         subst (λ (p : Peer). Two (with_emit at (emit.Plain p (message_text (response_to d.sip t m answer))) (with_draws (tags_due m.parsed.to_tag) x)) (with_stateless_response e token at n answer y)) (sym peers)
         (plain-equivalent below.texts records d e keys K older knows at n.peer (message_text (response_to d.sip t m answer)) (message_text (response_to e.sip (tag_for token y.drawn n.parsed.to_tag) n answer)) _ _
-        (λ strange. ap message_text (reply_whole below.heads below.responses below.kin d e sites.equal m n r s same t answer (strange_one n.peer refl strange) ∙ ap (λ (z : List ℕ). response_to e.sip z n answer) tag))
+        (λ strange. ap message_text (reply_whole below.heads below.responses below.masks d e sites.equal m n r s same t answer (strange_one n.peer refl strange) ∙ ap (λ (z : List ℕ). response_to e.sip z n answer) tag))
         (with_draws-equivalent below.texts records d e keys K older knows (tags_due m.parsed.to_tag) (tags_due n.parsed.to_tag) x y (ap tags_due tags) b))
 
     -- ---- tables
@@ -271,17 +271,17 @@ module _ (below : Below) (records : List Sheet) (d e : Directory) (token : List 
     full_same = below.laws.answers.full records (trusts d) Plain Plain (arrival_signal d.names.accounts (tkey 0) m) (arrival_signal d.names.accounts (tkey 0) m) (bare (calls_in d v)) (bare (calls_in e w)) (tables_both v w a) refl
 
     names_same : named_by m.parsed (calls_in d v).entries ≡ named_by n.parsed (calls_in e w).entries
-    names_same = find_same below.texts below.tables below.told below.laws records d e token keys sites K older knows (dialog_name m.parsed) v w a ∙ named_same below.heads below.responses below.kin d e sites.equal m n r s same (calls_in e w).entries
+    names_same = find_same below.texts below.tables below.records below.laws records d e token keys sites K older knows (dialog_name m.parsed) v w a ∙ named_same below.heads below.responses below.masks d e sites.equal m n r s same (calls_in e w).entries
 
     seat_same : (o : Option DialogName) → find_participant o (conferences_in d v).live ≡ find_participant o (conferences_in e w).live
     seat_same None = refl
-    seat_same (Some name) = below.laws.seats.named (trusts d) name.call_id name.local name.remote (conferences_in d v) (conferences_in e w) a.alike.conferences
+    seat_same (Some name) = below.laws.participants.named (trusts d) name.call_id name.local name.remote (conferences_in d v) (conferences_in e w) a.equivalent.conferences
 
     seats_same : participant_named_by m.parsed (conferences_in d v).live ≡ participant_named_by n.parsed (conferences_in e w).live
-    seats_same = seat_same (dialog_name m.parsed) ∙ seated_same below.heads below.responses below.kin d e sites.equal m n r s same (conferences_in e w).live
+    seats_same = seat_same (dialog_name m.parsed) ∙ seated_same below.heads below.responses below.masks d e sites.equal m n r s same (conferences_in e w).live
 
     boxes_same : subscription_named_by m.parsed (subscriptions_in v) ≡ subscription_named_by n.parsed (subscriptions_in w)
-    boxes_same = ap (subscription_named_by m.parsed) a.alike.subscriptions ∙ boxed_same below.heads below.responses below.kin d e sites.equal m n r s same (subscriptions_in w)
+    boxes_same = ap (subscription_named_by m.parsed) a.equivalent.subscriptions ∙ boxed_same below.heads below.responses below.masks d e sites.equal m n r s same (subscriptions_in w)
 
     holders_same : dialog_owner_in d m.parsed v ≡ dialog_owner_in e n.parsed w
     holders_same =
@@ -298,9 +298,9 @@ module _ (below : Below) (records : List Sheet) (d e : Directory) (token : List 
         class_of (head_of N) (live w.actions) ≡ part.Fresh
         → is_cancel (head_of M) ≡ false → is_cancel (head_of N) ≡ false → named_by m.parsed (calls_in d v).entries ≡ Some c → named_by n.parsed (calls_in e w).entries ≡ Some c
         → (d.reliable ≡ false → goes_across c.1 m ≡ false) → (e.reliable ≡ false → goes_across c.1 n ≡ false)
-        → Says below.texts below.tables below.told below.laws records d e token keys sites K older knows at (signal.Request c.0 c.1 key m) (signal.Request c.0 c.1 key n) r s (record v { actions = x.actions }) (record w { actions = y.actions })
+        → Says below.texts below.tables below.records below.laws records d e token keys sites K older knows at (signal.Request c.0 c.1 key m) (signal.Request c.0 c.1 key n) r s (record v { actions = x.actions }) (record w { actions = y.actions })
     request_says c key x y asked asked_too p q i j one two off off_too = record {
-      said = ap (λ (z : MessageView). signal.Request c.0 c.1 key z) same;
+      public = ap (λ (z : MessageView). signal.Request c.0 c.1 key z) same;
       callers = λ who second f g. absurd (none_said who f);
       looks = tt;
       first = request_hears below.wholes d keys d (λ peer. refl) v knows_one m told_one tied c key p i one off asked;
@@ -314,7 +314,7 @@ module _ (below : Below) (records : List Sheet) (d e : Directory) (token : List 
     openings_same i j = tests_same d e (asked_in records) m n r s same tests caller_looks i j
 
     registered : registrant d.names.accounts m.parsed ≡ registrant e.names.accounts n.parsed
-    registered = registered_same below.heads below.responses below.kin d e sites.equal m n r s same looks.registrant
+    registered = registered_same below.heads below.responses below.masks d e sites.equal m n r s same looks.registrant
 
     arrived_said : (key : TKey) → parties_of d.names.accounts m.parsed ≡ parties_of e.names.accounts n.parsed →
         public_signal r (arrival_signal d.names.accounts key m) ≡ public_signal s (arrival_signal e.names.accounts key n)
@@ -324,12 +324,12 @@ module _ (below : Below) (records : List Sheet) (d e : Directory) (token : List 
 
     arrived_says : (key : TKey) (x y : RunState) → IsFromOwnPeer S key m → IsFromOwnPeer S key n → class_of (head_of M) (live v.actions) ≡ part.Fresh →
         class_of (head_of N) (live w.actions) ≡ part.Fresh → is_opening m.parsed ≡ true → is_opening n.parsed ≡ true
-        → Says below.texts below.tables below.told below.laws records d e token keys sites K older knows at (arrival_signal d.names.accounts key m) (arrival_signal e.names.accounts key n) r s (record v { actions = x.actions }) (record w { actions = y.actions })
+        → Says below.texts below.tables below.records below.laws records d e token keys sites K older knows at (arrival_signal d.names.accounts key m) (arrival_signal e.names.accounts key n) r s (record v { actions = x.actions }) (record w { actions = y.actions })
     arrived_says key x y asked asked_too p q i j =
         let t = openings_same i j in
         let decided : AreDecidedEqually records (caller_of m.parsed) (caller_of n.parsed) = decide-equivalent records (caller_of m.parsed) (caller_of n.parsed) (ap (λ (z : Tests). z.somebody) t) (ap (λ (z : Tests). z.matches) t) in
         record {
-          said = arrived_said key (parties_same below.heads below.responses below.kin d e sites.equal m n r s same (ap (λ (z : Tests). z.caller) t) (looks.target j));
+          public = arrived_said key (parties_same below.heads below.responses below.masks d e sites.equal m n r s same (ap (λ (z : Tests). z.caller) t) (looks.target j));
           callers = λ who second f g.
               subst (λ (z : Identities2). AreDecidedEqually records z second) (some_same Identities2 (caller_of m.parsed) who f)
               (subst (λ (z : Identities2). AreDecidedEqually records (caller_of m.parsed) z) (some_same Identities2 (caller_of n.parsed) second g) decided);
@@ -341,9 +341,9 @@ module _ (below : Below) (records : List Sheet) (d e : Directory) (token : List 
         }
 
     cancel_says : (call : CallNo) (key invite : TKey) (x y : RunState) → IsFromOwnPeer S key m → IsFromOwnPeer S key n
-        → Says below.texts below.tables below.told below.laws records d e token keys sites K older knows at (signal.Cancel call key m invite) (signal.Cancel call key n invite) r s (record v { actions = x.actions }) (record w { actions = y.actions })
+        → Says below.texts below.tables below.records below.laws records d e token keys sites K older knows at (signal.Cancel call key m invite) (signal.Cancel call key n invite) r s (record v { actions = x.actions }) (record w { actions = y.actions })
     cancel_says call key invite x y asked asked_too = record {
-      said = ap (λ (z : MessageView). signal.Cancel call key z invite) same;
+      public = ap (λ (z : MessageView). signal.Cancel call key z invite) same;
       callers = λ who second f g. absurd (none_said who f);
       looks = tt;
       first = λ place i o p. asked;
@@ -354,9 +354,9 @@ module _ (below : Below) (records : List Sheet) (d e : Directory) (token : List 
 
     ack_says : (c : CallNo × Side) (x y : RunState) → class_of (head_of M) (live v.actions) ≡ part.AckOf2xx → class_of (head_of N) (live w.actions) ≡ part.AckOf2xx
         → named_by m.parsed (calls_in d v).entries ≡ Some c → named_by n.parsed (calls_in e w).entries ≡ Some c
-        → Says below.texts below.tables below.told below.laws records d e token keys sites K older knows at (signal.Ack c.0 c.1 m) (signal.Ack c.0 c.1 n) r s (record v { actions = x.actions }) (record w { actions = y.actions })
+        → Says below.texts below.tables below.records below.laws records d e token keys sites K older knows at (signal.Ack c.0 c.1 m) (signal.Ack c.0 c.1 n) r s (record v { actions = x.actions }) (record w { actions = y.actions })
     ack_says c x y p q one two = record {
-      said = ap (λ (z : MessageView). signal.Ack c.0 c.1 z) same;
+      public = ap (λ (z : MessageView). signal.Ack c.0 c.1 z) same;
       callers = λ who second f g. absurd (none_said who f);
       looks = tt;
       first = ack_hears below.wholes d keys d (λ peer. refl) v knows_one m told_one tied c p one;
@@ -366,9 +366,9 @@ module _ (below : Below) (records : List Sheet) (d e : Directory) (token : List 
     }
 
     answer_says : (key : ℕ) (x y : RunState) → class_of (head_of M) (live v.actions) ≡ part.Answer key → class_of (head_of N) (live w.actions) ≡ part.Answer key
-        → Says below.texts below.tables below.told below.laws records d e token keys sites K older knows at (signal.Answer (tkey key) m) (signal.Answer (tkey key) n) r s (record v { actions = x.actions }) (record w { actions = y.actions })
+        → Says below.texts below.tables below.records below.laws records d e token keys sites K older knows at (signal.Answer (tkey key) m) (signal.Answer (tkey key) n) r s (record v { actions = x.actions }) (record w { actions = y.actions })
     answer_says key x y p q = record {
-      said = ap (λ (z : MessageView). signal.Answer (tkey key) z) same;
+      public = ap (λ (z : MessageView). signal.Answer (tkey key) z) same;
       callers = λ who second f g. absurd (none_said who f);
       looks = looks.redirect;
       first = answer_hears below.wholes d keys d (λ peer. refl) v knows_one m told_one tied key p;
@@ -384,17 +384,17 @@ module _ (below : Below) (records : List Sheet) (d e : Directory) (token : List 
 
     -- what a request asks of a mailbox
     asked_alike : ReadEquallyInDialog m n
-    asked_alike = asked_same below.heads below.responses below.kin d e sites.equal m n r s same
+    asked_alike = asked_same below.heads below.responses below.masks d e sites.equal m n r s same
 
     -- what follows from a request that was accepted
     start_is : m.parsed.start ≡ n.parsed.start
-    start_is = start_same below.heads below.responses below.kin d e sites.equal m n r s same
+    start_is = start_same below.heads below.responses below.masks d e sites.equal m n r s same
 
     replaces_same : (xs ys : List Emit) → observations S xs ≡ observations S ys → replacement_in m.parsed xs ≡ replacement_in n.parsed ys
     replaces_same xs ys seen =
         ap (λ (x : Start). if is_method (codes "REFER") x && is_accepted xs then replaces_by (referral_in m.parsed.refer_to) else None) start_is
         ∙ (ap (λ (c : Bool). if is_method (codes "REFER") n.parsed.start && c then replaces_by (referral_in m.parsed.refer_to) else None) (accepted_same S xs ys seen)
-        ∙ ap (λ (vs : List (List ℕ)). if is_method (codes "REFER") n.parsed.start && is_accepted ys then replaces_by (referral_in vs) else None) (refer_same below.heads below.responses below.kin d e sites.equal m n r s same))
+        ∙ ap (λ (vs : List (List ℕ)). if is_method (codes "REFER") n.parsed.start && is_accepted ys then replaces_by (referral_in vs) else None) (refer_same below.heads below.responses below.masks d e sites.equal m n r s same))
 
     -- ---- a request that opened a transaction
 
@@ -423,9 +423,9 @@ module _ (below : Below) (records : List Sheet) (d e : Directory) (token : List 
           Two (with_emit at (emit.Reply key (response_to d.sip tag m answer)) u) (with_emit at (emit.Reply key (response_to e.sip tag n answer)) z)
       tagged-alike tag answer u z its c =
           reply-equivalent below.texts records d e keys K older knows at key (response_to d.sip tag m answer) (response_to e.sip tag n answer) u z
-          (reply_head below.heads below.responses below.kin d e sites.equal m n r s same tag answer request)
-          (reply_number below.heads below.responses below.kin d e sites.equal m n r s same tag answer)
-          (λ q is strange. ap message_text (reply_whole below.heads below.responses below.kin d e sites.equal m n r s same tag answer (strange_one q (its q is) strange))) c
+          (reply_head below.heads below.responses below.masks d e sites.equal m n r s same tag answer request)
+          (reply_number below.heads below.responses below.masks d e sites.equal m n r s same tag answer)
+          (λ q is strange. ap message_text (reply_whole below.heads below.responses below.masks d e sites.equal m n r s same tag answer (strange_one q (its q is) strange))) c
 
       turned_away-alike : (tag : List ℕ) (code : ℕ) (u z : RunState) → ((q : Peer) → peer_of key.0 (live z.actions) ≡ Some q → q ≡ n.peer) → Two u z →
           Two (after_newcomer_refusal d at key m tag code u) (after_newcomer_refusal e at key n tag code z)
@@ -443,7 +443,7 @@ module _ (below : Below) (records : List Sheet) (d e : Directory) (token : List 
 
       come : (tag : List ℕ) (account : Option Account) (tokens : TokensView) → both.AreEquivalentJoins S (comings tag account tokens)
       come tag account tokens = record {
-        legs = ap (λ (l : Leg). released.Caller l) (leg_same below.heads below.responses below.kin d e sites.equal m n r s same tag told_one told_two request request_too);
+        legs = ap (λ (l : Leg). released.Caller l) (leg_same below.heads below.responses below.masks d e sites.equal m n r s same tag told_one told_two request request_too);
         invites = record { equivalent = same; one = asked; other = asked_too };
       }
 
@@ -460,14 +460,14 @@ module _ (below : Below) (records : List Sheet) (d e : Directory) (token : List 
       room_opened-alike tag false u z caller its c k =
           let account : Option Account = caller_account e.names.accounts n.parsed in
           subst (λ (o : Option Account). Two (opened_by tag o u) (after_opening_if e at key n tag false z)) (sym caller)
-          (lodging-alike below.texts below.tables below.told below.laws records d e token keys sites K older knows at (both.Opens (comings tag account rooms.no_tokens)) u z c
+          (lodging-alike below.texts below.tables below.records below.laws records d e token keys sites K older knows at (both.Opens (comings tag account rooms.no_tokens)) u z c
           (record { done = come tag account rooms.no_tokens; lookups = tt }) k)
 
       opening_room-alike : is_opening m.parsed ≡ true → is_opening n.parsed ≡ true → K (after_factory_invite e token at key n w1).actions →
           Two (after_factory_invite d token at key m v1) (after_factory_invite e token at key n w1)
       opening_room-alike i j k =
-          subst (λ (tag : List ℕ). Two (after_opening_if d at key m tag (is_table_full (conferences_in d v1).live) (with_draws 1 v1)) (after_factory_invite e token at key n w1)) (sym (tag_next v1 w1 b.alike.drawn))
-          (subst (λ (c : Bool). Two (after_opening_if d at key m (next_tag token w1) c (with_draws 1 v1)) (after_factory_invite e token at key n w1)) (sym (below.laws.seats.full (trusts d) (conferences_in d v1) (conferences_in e w1) b.alike.conferences))
+          subst (λ (tag : List ℕ). Two (after_opening_if d at key m tag (is_table_full (conferences_in d v1).live) (with_draws 1 v1)) (after_factory_invite e token at key n w1)) (sym (tag_next v1 w1 b.equivalent.drawn))
+          (subst (λ (c : Bool). Two (after_opening_if d at key m (next_tag token w1) c (with_draws 1 v1)) (after_factory_invite e token at key n w1)) (sym (below.laws.participants.full (trusts d) (conferences_in d v1) (conferences_in e w1) b.equivalent.conferences))
           (room_opened-alike (next_tag token w1) (is_table_full (conferences_in e w1).live) (with_draws 1 v1) (with_draws 1 w1) (caller_same i j) of_peer
           (with_draws-equivalent below.texts records d e keys K older knows 1 1 v1 w1 refl b) k))
 
@@ -482,17 +482,17 @@ module _ (below : Below) (records : List Sheet) (d e : Directory) (token : List 
       room_joined-alike room tag (Ok place) u z caller its c k =
           let account : Option Account = caller_account e.names.accounts n.parsed in
           let tokens : TokensView = tokens_now token z in
-          subst (λ (t : TokensView). Two (joined_by room tag (caller_account d.names.accounts m.parsed) t u) (after_join_if e token at key n room tag (Ok place) z)) (sym (tokens_same below.texts below.tables below.told below.laws records d e token keys sites K older knows u z c))
+          subst (λ (t : TokensView). Two (joined_by room tag (caller_account d.names.accounts m.parsed) t u) (after_join_if e token at key n room tag (Ok place) z)) (sym (tokens_same below.texts below.tables below.records below.laws records d e token keys sites K older knows u z c))
           (subst (λ (o : Option Account). Two (joined_by room tag o tokens u) (after_join_if e token at key n room tag (Ok place) z)) (sym caller)
-          (after_conference_op-equivalent below.texts below.tables below.told below.laws records d e token keys sites K older knows at (both.Joins room.0 (comings tag account tokens)) u z c
+          (after_conference_op-equivalent below.texts below.tables below.records below.laws records d e token keys sites K older knows at (both.Joins room.0 (comings tag account tokens)) u z c
           (record { done = come tag account tokens; lookups = tt }) k))
 
       joining_room-alike : (room : RoomNo) → is_opening m.parsed ≡ true → is_opening n.parsed ≡ true → K (after_conference_invite e token at key n room w1).actions →
           Two (after_conference_invite d token at key m room v1) (after_conference_invite e token at key n room w1)
       joining_room-alike room i j k =
-          subst (λ (tag : List ℕ). Two (after_join_if d token at key m room tag (access room.0 (conferences_in d v1).live) (with_draws 1 v1)) (after_conference_invite e token at key n room w1)) (sym (tag_next v1 w1 b.alike.drawn))
+          subst (λ (tag : List ℕ). Two (after_join_if d token at key m room tag (access room.0 (conferences_in d v1).live) (with_draws 1 v1)) (after_conference_invite e token at key n room w1)) (sym (tag_next v1 w1 b.equivalent.drawn))
           (subst (λ (o : Result ℕ RoomFault). Two (after_join_if d token at key m room (next_tag token w1) o (with_draws 1 v1)) (after_conference_invite e token at key n room w1))
-          (sym (access_same below.texts below.tables below.told below.laws records d e token keys sites K older knows room v1 w1 b))
+          (sym (access_same below.texts below.tables below.records below.laws records d e token keys sites K older knows room v1 w1 b))
           (room_joined-alike room (next_tag token w1) (access room.0 (conferences_in e w1).live) (with_draws 1 v1) (with_draws 1 w1) (caller_same i j) of_peer
           (with_draws-equivalent below.texts records d e keys K older knows 1 1 v1 w1 refl b) k))
 
@@ -507,11 +507,11 @@ module _ (below : Below) (records : List Sheet) (d e : Directory) (token : List 
           let xs : List Emit = (output_of_conference_op d (conference_signal_op token at (of_room.Request room seat key m) v1) v1).out in
           let ys : List Emit = (output_of_conference_op e (conference_signal_op token at (of_room.Request room seat key n) w1) w1).out in
           let kw2 : K ws.actions = replacing_before K older e token at n.peer room seat (replacement_in n.parsed ys) ws k in
-          let c : Two vs ws = seated-alike below.texts below.tables below.told below.laws records d e token keys sites K older knows at x v1 w1 b received looks.refer kw2 in
+          let c : Two vs ws = seated-alike below.texts below.tables below.records below.laws records d e token keys sites K older knows at x v1 w1 b received looks.refer kw2 in
           subst (λ (p : Peer). Two (after_replaces d token at p room seat (replacement_in m.parsed xs) vs) (after_participant_request e token at key n room seat w1)) (sym peers)
           (subst (λ (o : Option Replaces). Two (after_replaces d token at n.peer room seat o vs) (after_participant_request e token at key n room seat w1))
-          (sym (replaces_same xs ys (seen-equivalent below.texts below.tables below.told below.laws records d e token keys sites K older knows at x v1 w1 b received looks.refer)))
-          (replacing-alike below.texts below.tables below.told below.laws records d e token keys sites K older knows at room seat n.peer (replacement_in n.parsed ys) vs ws c k))
+          (sym (replaces_same xs ys (seen-equivalent below.texts below.tables below.records below.laws records d e token keys sites K older knows at x v1 w1 b received looks.refer)))
+          (replacing-alike below.texts below.tables below.records below.laws records d e token keys sites K older knows at room seat n.peer (replacement_in n.parsed ys) vs ws c k))
 
       -- ---- by what is decided of it
 
@@ -530,7 +530,7 @@ module _ (below : Below) (records : List Sheet) (d e : Directory) (token : List 
           let may : may_subscribe d m.parsed ≡ true = subscribe_waits d merged full hold_one m.parsed f is_too in
           let may_too : may_subscribe e n.parsed ≡ true = subscribe_waits e other some hold_two n.parsed g is in
           let here : may_subscribe d n.parsed ≡ true = sym (ap (λ (x : Start). is_method (codes "SUBSCRIBE") x && d.names.mwi) start_is) ∙ may in
-          subscribed_same below.heads below.responses below.kin d e sites.equal m n r s same
+          subscribed_same below.heads below.responses below.masks d e sites.equal m n r s same
           (subscriber_is below.wholes d keys d (λ peer. refl) v knows_one m told_one tied p i may none) (subscriber_is below.wholes d keys e trusts_same w (knows w.actions kw) n told_two tied_too q j may_too none_too)
           (looks.subscriber here) (looks.mailbox here)
 
@@ -539,14 +539,14 @@ module _ (below : Below) (records : List Sheet) (d e : Directory) (token : List 
           → K (after_disposition e token at key n c w1).actions → Two (after_disposition d token at key m c v1) (after_disposition e token at key n c w1)
       taking-alike (Respond answer) merged other full some i j f g k = replying-alike key answer v1 w1 request of_peer b
       taking-alike (Enter call side) merged other full some i j f g k =
-          signalled-alike below.texts below.tables below.told below.laws records d e token keys sites K older knows at (signal.Request call side key m) (signal.Request call side key n) r s v1 w1 b
+          signalled-alike below.texts below.tables below.records below.laws records d e token keys sites K older knows at (signal.Request call side key m) (signal.Request call side key n) r s v1 w1 b
           (request_says (call, side) key x y asked asked_too p q i j
           (of_call (subscription_named_by m.parsed (subscriptions_in v)) (participant_named_by m.parsed (conferences_in d v).live) (named_by m.parsed (calls_in d v).entries) (call, side) (enters_named d merged full hold_one m.parsed (InCall call side) f))
           (of_call (subscription_named_by n.parsed (subscriptions_in w)) (participant_named_by n.parsed (conferences_in e w).live) (named_by n.parsed (calls_in e w).entries) (call, side) (enters_named e other some hold_two n.parsed (InCall call side) g))
           (known_across d merged full hold_one side m (InCall call side) f) (known_across e other some hold_two side n (InCall call side) g)) k
       taking-alike (EnterConference room seat) merged other full some i j f g k = entering_room-alike room seat k
       taking-alike OpenCall merged other full some i j f g k =
-          signalled-alike below.texts below.tables below.told below.laws records d e token keys sites K older knows at (arrival_signal d.names.accounts key m) (arrival_signal e.names.accounts key n) r s v1 w1 b
+          signalled-alike below.texts below.tables below.records below.laws records d e token keys sites K older knows at (arrival_signal d.names.accounts key m) (arrival_signal e.names.accounts key n) r s v1 w1 b
           (arrived_says key x y asked asked_too p q (opens_opening d merged full hold_one m.parsed (ap opens f)) (opens_opening e other some hold_two n.parsed (ap opens g))) k
       taking-alike OpenConference merged other full some i j f g k =
           opening_room-alike (opens_opening d merged full hold_one m.parsed (ap opens f)) (opens_opening e other some hold_two n.parsed (ap opens g)) k
@@ -570,10 +570,10 @@ module _ (below : Below) (records : List Sheet) (d e : Directory) (token : List 
       course_alike : disposition d (is_merged key.0 (live x.actions)) (are_full (calls_in d v).entries) hold_one m.parsed
           ≡ disposition e (is_merged key.0 (live y.actions)) (are_full (calls_in e w).entries) hold_two n.parsed
       course_alike =
-          ap (λ (c : Bool). disposition d c (are_full (calls_in d v).entries) hold_one m.parsed) (((below.texts (trusts d) x.actions y.actions b.alike.actions).0).merged key.0)
+          ap (λ (c : Bool). disposition d c (are_full (calls_in d v).entries) hold_one m.parsed) (((below.texts (trusts d) x.actions y.actions b.equivalent.actions).0).merged key.0)
           ∙ (ap (λ (c : Bool). disposition d (is_merged key.0 (live y.actions)) c hold_one m.parsed) full_same
           ∙ (ap (λ (o : Option DialogOwner). disposition d (is_merged key.0 (live y.actions)) (are_full (calls_in e w).entries) o m.parsed) holders_same
-          ∙ decided_same below.heads below.responses below.kin d e sites.equal m n r s same registered (is_merged key.0 (live y.actions)) (are_full (calls_in e w).entries) hold_two))
+          ∙ decided_same below.heads below.responses below.masks d e sites.equal m n r s same registered (is_merged key.0 (live y.actions)) (are_full (calls_in e w).entries) hold_two))
 
       taking_fresh-alike : is_cancel (head_of M) ≡ false → is_cancel (head_of N) ≡ false → K (after_new_request e token at key n w1).actions →
           Two (after_new_request d token at key m v1) (after_new_request e token at key n w1)
@@ -586,7 +586,7 @@ module _ (below : Below) (records : List Sheet) (d e : Directory) (token : List 
           Two (after_cancel_of d token at key m invite o v1) (after_cancel_of e token at key n invite o w1)
       cancelling_call-alike invite None k = replying-alike key (plain_response 200) v1 w1 request of_peer b
       cancelling_call-alike invite (Some c) k =
-          signalled-alike below.texts below.tables below.told below.laws records d e token keys sites K older knows at (signal.Cancel c.0 key m invite) (signal.Cancel c.0 key n invite) r s v1 w1 b (cancel_says c.0 key invite x y asked asked_too) k
+          signalled-alike below.texts below.tables below.records below.laws records d e token keys sites K older knows at (signal.Cancel c.0 key m invite) (signal.Cancel c.0 key n invite) r s v1 w1 b (cancel_says c.0 key invite x y asked asked_too) k
 
       cancelling-alike : (invite : Option TKey) → K (after_cancel e token at key n invite w1).actions → Two (after_cancel d token at key m invite v1) (after_cancel e token at key n invite w1)
       cancelling-alike None k = replying-alike key (plain_response 481) v1 w1 request of_peer b
@@ -602,12 +602,12 @@ module _ (below : Below) (records : List Sheet) (d e : Directory) (token : List 
         → Two (after_ack_by d token at m o (record v { actions = x.actions })) (after_ack_by e token at n o (record w { actions = y.actions }))
     acknowledging_by-alike None x y b p q one two k = b
     acknowledging_by-alike (Some (InCall call side)) x y b p q one two k =
-        signalled-alike below.texts below.tables below.told below.laws records d e token keys sites K older knows at (signal.Ack call side m) (signal.Ack call side n) r s (record v { actions = x.actions }) (record w { actions = y.actions }) b
+        signalled-alike below.texts below.tables below.records below.laws records d e token keys sites K older knows at (signal.Ack call side m) (signal.Ack call side n) r s (record v { actions = x.actions }) (record w { actions = y.actions }) b
         (ack_says (call, side) x y p q
         (of_call (subscription_named_by m.parsed (subscriptions_in v)) (participant_named_by m.parsed (conferences_in d v).live) (named_by m.parsed (calls_in d v).entries) (call, side) one)
         (of_call (subscription_named_by n.parsed (subscriptions_in w)) (participant_named_by n.parsed (conferences_in e w).live) (named_by n.parsed (calls_in e w).entries) (call, side) two)) k
     acknowledging_by-alike (Some (InConference room seat)) x y b p q one two k =
-        seated-alike below.texts below.tables below.told below.laws records d e token keys sites K older knows at (both.Ack room seat pair) (record v { actions = x.actions }) (record w { actions = y.actions }) b same tt k
+        seated-alike below.texts below.tables below.records below.laws records d e token keys sites K older knows at (both.Ack room seat pair) (record v { actions = x.actions }) (record w { actions = y.actions }) b same tt k
     acknowledging_by-alike (Some (InSubscription sub)) x y b p q one two k = b
 
     acknowledging-alike : (x y : RunState) → Two (record v { actions = x.actions }) (record w { actions = y.actions }) → class_of (head_of M) (live v.actions) ≡ part.AckOf2xx → class_of (head_of N) (live w.actions) ≡ part.AckOf2xx
@@ -641,10 +641,10 @@ module _ (below : Below) (records : List Sheet) (d e : Directory) (token : List 
         → owner_of_branch (awaited_request_branch n) (branch_in n.parsed.vias) (calls_in e w).entries (subscriptions_in w) ≡ whose → K (after_response_to e token at (tkey key) n whose (record w { actions = y.actions })).actions
         → Two (after_response_to d token at (tkey key) m whose (record v { actions = x.actions })) (after_response_to e token at (tkey key) n whose (record w { actions = y.actions }))
     responding_to-alike key OfCalls x y b p q one two k =
-        signalled-alike below.texts below.tables below.told below.laws records d e token keys sites K older knows at (signal.Answer (tkey key) m) (signal.Answer (tkey key) n) r s (record v { actions = x.actions }) (record w { actions = y.actions }) b (answer_says key x y p q) k
+        signalled-alike below.texts below.tables below.records below.laws records d e token keys sites K older knows at (signal.Answer (tkey key) m) (signal.Answer (tkey key) n) r s (record v { actions = x.actions }) (record w { actions = y.actions }) b (answer_says key x y p q) k
     responding_to-alike key OfSubscriptions x y b p q one two k = responded x y b
     responding_to-alike key OfConferences x y b p q one two k =
-        seated-alike below.texts below.tables below.told below.laws records d e token keys sites K older knows at (both.Answer (tkey key) pair) (record v { actions = x.actions }) (record w { actions = y.actions }) b
+        seated-alike below.texts below.tables below.records below.laws records d e token keys sites K older knows at (both.Answer (tkey key) pair) (record v { actions = x.actions }) (record w { actions = y.actions }) b
         (same, seat_hears below.wholes d keys d (λ peer. refl) v knows_one m told_one tied key p one, seat_hears below.wholes d keys e trusts_same w (knows w.actions kw) n told_two tied_too key q two) tt k
 
     responding-alike : (key : ℕ) (x y : RunState) → Two (record v { actions = x.actions }) (record w { actions = y.actions }) → class_of (head_of M) (live v.actions) ≡ part.Answer key → class_of (head_of N) (live w.actions) ≡ part.Answer key
@@ -652,7 +652,7 @@ module _ (below : Below) (records : List Sheet) (d e : Directory) (token : List 
     responding-alike key x y b p q k =
         let of_two : Owner = owner_of_branch (awaited_request_branch n) (branch_in n.parsed.vias) (calls_in e w).entries (subscriptions_in w) in
         let whose_same : owner_of_branch (awaited_request_branch m) (branch_in m.parsed.vias) (calls_in d v).entries (subscriptions_in v) ≡ of_two =
-        branches_equivalent below.texts below.tables below.told below.laws records d e token keys sites K older knows (awaited_request_branch m) (branch_in m.parsed.vias) v w a
+        branches_equivalent below.texts below.tables below.records below.laws records d e token keys sites K older knows (awaited_request_branch m) (branch_in m.parsed.vias) v w a
         ∙ (λ i. owner_of_branch (branch_same i) (vias_same i) (calls_in e w).entries (subscriptions_in w)) in
         subst (λ (whose : Owner). Two (after_response_to d token at (tkey key) m whose (record v { actions = x.actions })) (after_response e token at (tkey key) n (record w { actions = y.actions }))) (sym whose_same)
         (responding_to-alike key of_two x y b p q whose_same refl k)
@@ -682,7 +682,7 @@ module _ (below : Below) (records : List Sheet) (d e : Directory) (token : List 
     invite_same : option_map key_of (find (is_invite_of (head_of M)) (live v.actions)) ≡ option_map key_of (find (is_invite_of (head_of N)) (live w.actions))
     invite_same =
         ap (λ (x : Head). option_map key_of (find (is_invite_of x) (live v.actions))) one_head
-        ∙ ((below.texts (trusts d) v.actions w.actions a.alike.actions).0).invite (head_of N)
+        ∙ ((below.texts (trusts d) v.actions w.actions a.equivalent.actions).0).invite (head_of N)
 
     abbrev v_heard : MessageClass → RunState
     v_heard t = record v { actions = DidHear m.peer M at t ∷ v.actions }
@@ -715,13 +715,13 @@ module _ (below : Below) (records : List Sheet) (d e : Directory) (token : List 
 
     told_by-alike : (t : MessageClass) → class_of (head_of M) (live v.actions) ≡ t → class_of (head_of N) (live w.actions) ≡ t → K (told_by e n t w).actions → Two (told_by d m t v) (told_by e n t w)
     told_by-alike part.Fresh p q k =
-        fresh_by (is_cancel (head_of M)) (is_cancel (head_of N)) (length (openings v.actions)) (length (openings w.actions)) _ _ refl refl (ap is_cancel one_head) a.alike.actions.next refl invite_same p q
+        fresh_by (is_cancel (head_of M)) (is_cancel (head_of N)) (length (openings v.actions)) (length (openings w.actions)) _ _ refl refl (ap is_cancel one_head) a.equivalent.actions.next refl invite_same p q
         (answering_before K older e token at n (said_for n part.Fresh w) (w_heard part.Fresh) k) k
     told_by-alike part.Full p q k = replying_plainly-alike (plain_response 503) v w a
     told_by-alike (part.Repeat i) p q k =
         with_retransmission-equivalent at _ _ (v_heard (part.Repeat i)) (w_heard (part.Repeat i))
-        (subst (λ (z : Peer). option_map (blank_sent (trusts d)) (again_of m.peer i v) ≡ option_map (blank_sent (trusts d)) (again_of z i w)) peers (((below.texts (trusts d) v.actions w.actions a.alike.actions).0).retransmission m.peer i)) (heard_alike (part.Repeat i))
-    told_by-alike (part.RepeatedFinal i) p q k = with_retransmission-equivalent at _ _ (v_heard (part.RepeatedFinal i)) (w_heard (part.RepeatedFinal i)) (((below.texts (trusts d) v.actions w.actions a.alike.actions).0).same i) (heard_alike (part.RepeatedFinal i))
+        (subst (λ (z : Peer). option_map (blank_sent (trusts d)) (again_of m.peer i v) ≡ option_map (blank_sent (trusts d)) (again_of z i w)) peers (((below.texts (trusts d) v.actions w.actions a.equivalent.actions).0).retransmission m.peer i)) (heard_alike (part.Repeat i))
+    told_by-alike (part.RepeatedFinal i) p q k = with_retransmission-equivalent at _ _ (v_heard (part.RepeatedFinal i)) (w_heard (part.RepeatedFinal i)) (((below.texts (trusts d) v.actions w.actions a.equivalent.actions).0).same i) (heard_alike (part.RepeatedFinal i))
     told_by-alike (part.Answer i) p q k = responding-alike i (v_heard (part.Answer i)) (w_heard (part.Answer i)) (heard_alike (part.Answer i)) p q k
     told_by-alike (part.Acked i) p q k = heard_alike (part.Acked i)
     told_by-alike part.AckOf2xx p q k = acknowledging-alike (v_heard part.AckOf2xx) (w_heard part.AckOf2xx) (heard_alike part.AckOf2xx) p q k
@@ -729,7 +729,7 @@ module _ (below : Below) (records : List Sheet) (d e : Directory) (token : List 
 
     pub told-alike : K (after_message e token at n w).actions → Two (after_message d token at m v) (after_message e token at n w)
     told-alike k =
-        let taken : class_of (head_of M) (live v.actions) ≡ class_of (head_of N) (live w.actions) = ap (λ (x : Head). class_of x (live v.actions)) one_head ∙ ((below.texts (trusts d) v.actions w.actions a.alike.actions).0).classes (head_of N) in
+        let taken : class_of (head_of M) (live v.actions) ≡ class_of (head_of N) (live w.actions) = ap (λ (x : Head). class_of x (live v.actions)) one_head ∙ ((below.texts (trusts d) v.actions w.actions a.equivalent.actions).0).classes (head_of N) in
         subst (λ (u : RunState). Two u (after_message e token at n w)) (sym (told_same_by d m v ∙ ap (λ (t : MessageClass). told_by d m t v) taken))
         (subst (λ (u : RunState). Two (told_by d m (class_of (head_of N) (live w.actions)) v) u) (sym (told_same_by e n w))
         (told_by-alike (class_of (head_of N) (live w.actions)) taken refl (subst (λ (u : RunState). K u.actions) (told_same_by e n w) k)))

@@ -341,7 +341,7 @@ module _ (d : Directory) (asked : List Who) (w : RunState) where
 
   answers_as : (m : PersonMessage) (e : Entry) (branch : List ℕ) (key place : ℕ) → IsAwaited d w m e branch key place → (p : Person) →
       role_of d w (m p) ≡ awaited_role e.call.phase e.call.opening (m p)
-  answers_as m e branch key place of p = awaited_as d w (m p) e branch key place (of.taken p) (of.responds p) of.sent of.entry of.current
+  answers_as m e branch key place of p = awaited_as d w (m p) e branch key place (of.classified p) (of.responds p) of.sent of.entry of.current
 
   -- from the target of an attempt, with Privacy
   target_as : (m : PersonMessage) (e : Entry) (x : OfferedAttempt) (branch : List ℕ) (key place : ℕ) → IsTargets d w m e x branch key place → (p : Person) →
@@ -352,7 +352,7 @@ module _ (d : Directory) (asked : List Who) (w : RunState) where
       ∙ (ap (λ (q : Peer). if comes_from q (m p) then side_role e.call.opening x.attempt.service x.attempt.invite.dialogue.peer Callee (m p) else Plain) of.leg
       ∙ (ap (λ (b : Bool). if b then side_role e.call.opening x.attempt.service x.attempt.invite.dialogue.peer Callee (m p) else Plain) mine
       ∙ says_own (facing e.call.opening x.attempt.service Callee (m p)).restricted x.attempt.invite.dialogue.peer Callee (m p)
-      (callee_restricted (m p).parsed.wants (service_sheet x.attempt.service) private) of.asked mine)))
+      (callee_restricted (m p).parsed.wants (service_sheet x.attempt.service) private) of.peer mine)))
 
   pub restricted : RestrictedMaskEqually d asked w
   restricted = record {

@@ -181,7 +181,7 @@ module _ (d : Directory) where
     branch = n.branch;
     done = ap (λ (l : List boxes.TableOp). op ∷ l) n.done;
     subscription = n.subscription;
-    lives = n.lives;
+    active = n.active;
     to = n.to;
     trusted = n.trusted;
     last = n.last;
@@ -356,7 +356,7 @@ module _ (d : Directory) where
             branch = next_tag token w;
             done = refl;
             subscription = s;
-            lives = e;
+            active = e;
             to = sym its;
             trusted = (each_found (IsOfTrusted d) (is_numbered sub) (subscriptions_in w).live s (all_trusted w.mailbox_ops by) e).0;
             last = last;

@@ -577,7 +577,7 @@ module _ (config : CallConfigView) where
 
     record IsFound (k : ℕ) (m : Message StartLine) (ops : List TableOp) : Type 0 where
       n : ℕ
-      lives : HasLife n ops
+      trace : HasLife n ops
       has : HasReply k m (emits_of config n ops)
 
     found : (k : ℕ) (m : Message StartLine) (ops : List TableOp) → HasNumbers config ops → IsCallReply config k m ops → IsFound k m ops
@@ -591,14 +591,14 @@ module _ (config : CallConfigView) where
             let its : is_number n (call_of config op (table_after config older)) ≡ true = ap (is_number n) is ∙ eq-eqb n n refl in
             record {
               n = n;
-              lives = lives-by op older n (few-before op older few) is;
+              trace = lives-by op older n (few-before op older few) is;
               has =
                   has-right k m (emits_of config n older) _
                   (subst (λ b. HasReply k m (if b then out_by config op (table_after config older) else [])) (sym its) has);
             }
     found k m (op ∷ older) few (inr brought) =
         let f : IsFound k m older = found k m older (few-before op older few) brought in
-        record { n = f.n; lives = lives-on op older f.n f.lives; has = has-left k m (emits_of config f.n older) _ f.has }
+        record { n = f.n; trace = lives-on op older f.n f.trace; has = has-left k m (emits_of config f.n older) _ f.has }
 
     -- ---- each reply is in a transaction that was opened before it
 
@@ -613,8 +613,8 @@ module _ (config : CallConfigView) where
     brought-below : CallsReplyInTheirOwn → (n k : ℕ) (m : Message StartLine) (ops : List TableOp) → HasNumbers config ops → Each (IsBelow n) ops → IsCallReply config k m ops → k < n
     brought-below own_law n k m ops few below brought =
         let f : IsFound k m ops = found k m ops few brought in
-        let of : TraceIsOf (own_below n) f.lives.0.start f.lives.0.events = below-of n f.n ops f.lives.0 below f.lives.1 in
-        let in_own : own_below n k ≡ true = has-own (own_below n) k m (emits_of config f.n ops) f.has (own_law (own_below n) config ops f.n f.lives.0 few f.lives.1 of) in
+        let of : TraceIsOf (own_below n) f.trace.0.start f.trace.0.events = below-of n f.n ops f.trace.0 below f.trace.1 in
+        let in_own : own_below n k ≡ true = has-own (own_below n) k m (emits_of config f.n ops) f.has (own_law (own_below n) config ops f.n f.trace.0 few f.trace.1 of) in
         grind (arith, nat_tests, in_own)
 
     may-below : CallsReplyInTheirOwn → (n k : ℕ) (m : Message StartLine) (ops : List TableOp) → HasNumbers config ops → MayReply config n ops k m → k < n
@@ -642,10 +642,10 @@ module _ (config : CallConfigView) where
           go : (f : IsFound key_in m ops) (b : Bool) → (f.n == number) ≡ b → HasReply key_in m (emits_of config number ops)
           go f true same = subst (λ n. HasReply key_in m (emits_of config n ops)) (eqb-true f.n number same) f.has
           go f false other =
-              let of : TraceIsOf (own_but key_in) f.lives.0.start f.lives.0.events =
-              other-of key_in number f.n ops f.lives.0 other (apart number ops trace rises is) f.lives.1 in
+              let of : TraceIsOf (own_but key_in) f.trace.0.start f.trace.0.events =
+              other-of key_in number f.n ops f.trace.0 other (apart number ops trace rises is) f.trace.1 in
               let in_own : own_but key_in key_in ≡ true =
-              has-own (own_but key_in) key_in m (emits_of config f.n ops) f.has (own_law (own_but key_in) config ops f.n f.lives.0 few f.lives.1 of) in
+              has-own (own_but key_in) key_in m (emits_of config f.n ops) f.has (own_law (own_but key_in) config ops f.n f.trace.0 few f.trace.1 of) in
               both-ways (own_but key_in key_in) in_own (ap not (eq-eqb key_in key_in refl))
 
       -- and none is elsewhere

@@ -106,7 +106,7 @@ module _ (d : Directory) (whole : List EventRecord) where
   record Good (w : RunState) : Type 0 where
     ops : Each OpAndLegHaveNoInjection w.call_ops
     acked : AreHeard d whole (acked_after (call_config d) w.call_ops)
-    rooms : Each heads.OpHasNoInjection w.conference_ops
+    conferences : Each heads.OpHasNoInjection w.conference_ops
     boxes : Each IsCleanBoxDeed w.mailbox_ops
     acts : AreGoodActions w.actions
     offers : Each (IsOwnOffer d whole w.actions w.call_ops) w.offers
@@ -137,7 +137,7 @@ module _ (d : Directory) (whole : List EventRecord) where
   with_action_good c w offers good own g = record {
     ops = g.ops;
     acked = g.acked;
-    rooms = g.rooms;
+    conferences = g.conferences;
     boxes = g.boxes;
     acts = (good, g.acts);
     offers = each_append (IsOwnOffer d whole (c ∷ w.actions) w.call_ops) w.offers offers (offers_still c w.actions w.call_ops w.offers g.offers) own;
@@ -148,7 +148,7 @@ module _ (d : Directory) (whole : List EventRecord) where
   alike w v ops seats mailboxes acts offers g = record {
     ops = subst (Each OpAndLegHaveNoInjection) (sym ops) g.ops;
     acked = subst (λ (h : List TableOp). AreHeard d whole (acked_after (call_config d) h)) (sym ops) g.acked;
-    rooms = subst (Each heads.OpHasNoInjection) (sym seats) g.rooms;
+    conferences = subst (Each heads.OpHasNoInjection) (sym seats) g.conferences;
     boxes = subst (Each IsCleanBoxDeed) (sym mailboxes) g.boxes;
     acts = subst AreGoodActions (sym acts) g.acts;
     offers =
@@ -160,7 +160,7 @@ module _ (d : Directory) (whole : List EventRecord) where
   silent_good : (c : TransactionOp) (w v : RunState) → IsGoodAction c w.actions → v.call_ops ≡ w.call_ops → v.conference_ops ≡ w.conference_ops → v.mailbox_ops ≡ w.mailbox_ops → v.actions ≡ c ∷ w.actions → v.offers ≡ w.offers → Good w → Good v
   silent_good c w v good ops seats mailboxes acts offers g =
       alike (with_action c w) v ops seats mailboxes acts offers
-      (record { ops = g.ops; acked = g.acked; rooms = g.rooms; boxes = g.boxes; acts = (good, g.acts); offers = offers_still c w.actions w.call_ops w.offers g.offers })
+      (record { ops = g.ops; acked = g.acked; conferences = g.conferences; boxes = g.boxes; acts = (good, g.acts); offers = offers_still c w.actions w.call_ops w.offers g.offers })
 
   -- a text is sent to a peer by no transaction
   abbrev IsOwnText : List TransactionOp → List TableOp → List ℕ → Type 0
@@ -170,7 +170,7 @@ module _ (d : Directory) (whole : List EventRecord) where
   plain_good at peer text w t g = record {
     ops = g.ops;
     acked = g.acked;
-    rooms = g.rooms;
+    conferences = g.conferences;
     boxes = g.boxes;
     acts = g.acts;
     offers = each_append (IsOwnOffer d whole w.actions w.call_ops) w.offers (offer.To peer at text ∷ []) g.offers (t, tt);
@@ -198,8 +198,8 @@ module _ (d : Directory) (whole : List EventRecord) (own_law : (m : Message Star
       with_action_good d whole (DidAck key.0 message) w (to_peer at (message_text message) (peer_of key.0 (live w.actions))) c
       (peer_own (DidAck key.0 message) w.actions w.call_ops message at (peer_of key.0 (live w.actions)) refl) g
   emit_good at (emit.Settled key own) w c g = silent_good d whole (DidSettle key.0 own) w (with_emit at (emit.Settled key own) w) tt refl refl refl refl refl g
-  emit_good at (emit.Arm call what when) w c g = record { ops = g.ops; acked = g.acked; rooms = g.rooms; boxes = g.boxes; acts = g.acts; offers = g.offers }
-  emit_good at (emit.ArmSeat room seat what when) w c g = record { ops = g.ops; acked = g.acked; rooms = g.rooms; boxes = g.boxes; acts = g.acts; offers = g.offers }
+  emit_good at (emit.Arm call what when) w c g = record { ops = g.ops; acked = g.acked; conferences = g.conferences; boxes = g.boxes; acts = g.acts; offers = g.offers }
+  emit_good at (emit.ArmSeat room seat what when) w c g = record { ops = g.ops; acked = g.acked; conferences = g.conferences; boxes = g.boxes; acts = g.acts; offers = g.offers }
 
   same_deeds : (at : ℕ) (x : Emit) (w : RunState) → (with_emit at x w).call_ops ≡ w.call_ops
   same_deeds at (emit.Ask peer message) w = refl
@@ -241,7 +241,7 @@ module _ (d : Directory) (whole : List EventRecord) (own_law : (m : Message Star
         (record {
           ops = (tt, (c, g.ops));
           acked = each_append (λ (x : ReceivedAck). IsAckOfEvent d whole x.ack) (acks_of op w) (acked_after (call_config d) w.call_ops) acked g.acked;
-          rooms = g.rooms;
+          conferences = g.conferences;
           boxes = g.boxes;
           acts = g.acts;
           offers = offers_kept d whole (Drops (length output.rows)) w.actions (op ∷ w.call_ops) w.offers (offers_kept d whole op w.actions w.call_ops w.offers g.offers);
@@ -266,7 +266,7 @@ module _ (d : Directory) (whole : List EventRecord) (own_law : (m : Message Star
     lending_good op w c acked g = record {
       ops = (c, g.ops);
       acked = each_append (λ (x : ReceivedAck). IsAckOfEvent d whole x.ack) (acks_of op w) (acked_after (call_config d) w.call_ops) acked g.acked;
-      rooms = g.rooms;
+      conferences = g.conferences;
       boxes = g.boxes;
       acts = g.acts;
       offers = offers_kept d whole op w.actions w.call_ops w.offers g.offers;
@@ -277,12 +277,12 @@ module _ (d : Directory) (whole : List EventRecord) (own_law : (m : Message Star
     lodging_good : (at : ℕ) (op : rooms.TableOp) (output : StepOutput) (w : RunState) → Each (EmitHasNoInjection []) output.out → heads.OpHasNoInjection op → Good d whole w → Good d whole (with_conference_output at op output w)
     lodging_good at op output w out c g =
         with_emits_good at output.out (record w { conference_ops = rooms.Drops (length output.rows) ∷ op ∷ w.conference_ops; waiting = w.waiting ++ output.rows })
-        (emits_more (acked_after (call_config d) w.call_ops) output.out out) (record { ops = g.ops; acked = g.acked; rooms = (tt, (c, g.rooms)); boxes = g.boxes; acts = g.acts; offers = g.offers })
+        (emits_more (acked_after (call_config d) w.call_ops) output.out out) (record { ops = g.ops; acked = g.acked; conferences = (tt, (c, g.conferences)); boxes = g.boxes; acts = g.acts; offers = g.offers })
 
     housed_good : (at : ℕ) (op : rooms.TableOp) (w : RunState) → heads.OpHasNoInjection op → Good d whole w → Good d whole (after_conference_op d at op w)
     housed_good at op w c g =
         let v : RunState = record w { drawn = (output_of_conference_op d op w).tokens.drawn } in
-        lodging_good at op (output_of_conference_op d op w) v (seats_send (conference_config d) w.conference_ops op (c, g.rooms)) c (alike d whole w v refl refl refl refl refl g)
+        lodging_good at op (output_of_conference_op d op w) v (seats_send (conference_config d) w.conference_ops op (c, g.conferences)) c (alike d whole w v refl refl refl refl refl g)
 
     seated_good : (at : ℕ) (x : RoomSignal) (w : RunState) → heads.SignalHasNoInjection x → Good d whole w → Good d whole (after_conference_signal d token at x w)
     seated_good at x w c g = housed_good at (conference_signal_op token at x w) w (record { token = clean_token; signal = c }) g
@@ -293,7 +293,7 @@ module _ (d : Directory) (whole : List EventRecord) (own_law : (m : Message Star
     -- ---- an operation on mailboxes, and a NOTIFY
 
     noted_good : (op : boxes.TableOp) (w : RunState) → IsCleanBoxDeed op → Good d whole w → Good d whole (with_mailbox_op op w)
-    noted_good op w c g = record { ops = g.ops; acked = g.acked; rooms = g.rooms; boxes = (c, g.boxes); acts = g.acts; offers = g.offers }
+    noted_good op w c g = record { ops = g.ops; acked = g.acked; conferences = g.conferences; boxes = (c, g.boxes); acts = g.acts; offers = g.offers }
 
     abbrev StaysGood : RunState → RunState → Type 0
     StaysGood w v = Good d whole w → Good d whole v
@@ -397,7 +397,7 @@ module _ (d : Directory) (whole : List EventRecord) (own_law : (m : Message Star
       room_opened_good key tag true w t g = tagged_good key tag (plain_response 503) w t refl g
       room_opened_good key tag false w t g =
           let c : heads.OpHasNoInjection (opening_op d at key s tag) = record { leg = leg_clean tag t; invite = well.of; token = refl } in
-          lodging_good at (opening_op d at key s tag) (output_of_conference_op d (opening_op d at key s tag) w) w (seats_send (conference_config d) w.conference_ops (opening_op d at key s tag) (c, g.rooms)) c g
+          lodging_good at (opening_op d at key s tag) (output_of_conference_op d (opening_op d at key s tag) w) w (seats_send (conference_config d) w.conference_ops (opening_op d at key s tag) (c, g.conferences)) c g
 
       room_joined_good : (key : TKey) (room : RoomNo) (tag : List ℕ) (r : Result ℕ RoomFault) (w : RunState) → HasNoInjection tag → Good d whole w → Good d whole (after_join_if d token at key s room tag r w)
       room_joined_good key room tag (Err fault) w t g = tagged_good key tag (plain_response (status_of_fault fault)) w t refl g
@@ -484,7 +484,7 @@ module _ (d : Directory) (whole : List EventRecord) (own_law : (m : Message Star
       acknowledging_good None w ack g = g
       acknowledging_good (Some (InCall call side)) w ack g =
           signalled_good at (signal.Ack call side s) w well.of
-          (acked_heard d whole (call_config d) side s (entry_of call.0 (calls_in d w).entries) (record { heard = met.received s refl; is_ack = ack })) g
+          (acked_heard d whole (call_config d) side s (entry_of call.0 (calls_in d w).entries) (record { received = met.received s refl; is_ack = ack })) g
       acknowledging_good (Some (InConference room seat)) w ack g = seated_good at (of_room.Ack room seat s) w well.of g
       acknowledging_good (Some (InSubscription sub)) w ack g = g
 
@@ -573,7 +573,7 @@ module _ (d : Directory) (whole : List EventRecord) (own_law : (m : Message Star
         steps.puts d token at StaysGood (steps_good at) (λ account counts v. noted_good (boxes.Puts account counts) v tt) (counts_put_in d.names request kept) replied (record {
           ops = g.ops;
           acked = g.acked;
-          rooms = g.rooms;
+          conferences = g.conferences;
           boxes = g.boxes;
           acts = g.acts;
           offers = each_append (IsOwnOffer d whole w.actions w.call_ops) w.offers (offer.Web at _ ∷ []) g.offers (tt, tt);
@@ -650,5 +650,5 @@ module _ (d : Directory) (whole : List EventRecord) (own_law : (m : Message Star
     all_own loaded fuel =
         let good : Good d whole (after_all loaded fuel) =
         after_good fuel (timed_events d whole) (initial_state loaded) (notices_good [] whole refl)
-        (record { ops = tt; acked = tt; rooms = tt; boxes = tt; acts = tt; offers = tt }) in
+        (record { ops = tt; acked = tt; conferences = tt; boxes = tt; acts = tt; offers = tt }) in
         record { built = own_acts (after_all loaded fuel).actions good.acts; offered = good.offers }

@@ -254,24 +254,24 @@ module _ (below : Below) (its : PutIts) (others : PutOthers) (records : List She
   with_refusal_of_bytes-equivalent : (at : ℕ) (peer : Peer) (source : Addr) (reply : Message Start) (v w : RunState) → Two v w → Two (with_refusal_of_bytes token at peer source reply v) (with_refusal_of_bytes token at peer source reply w)
   with_refusal_of_bytes-equivalent at peer source reply v w a =
       plain-equivalent below.texts records d e keys K before kn at peer (message_text (completed_reply (tag_for token v.drawn (to_tag_in reply.lines)) source reply)) (message_text (completed_reply (tag_for token w.drawn (to_tag_in reply.lines)) source reply)) _ _
-      (λ s. ap (λ (k : ℕ). message_text (completed_reply (tag_for token k (to_tag_in reply.lines)) source reply)) a.alike.drawn)
+      (λ s. ap (λ (k : ℕ). message_text (completed_reply (tag_for token k (to_tag_in reply.lines)) source reply)) a.equivalent.drawn)
       (with_draws-equivalent below.texts records d e keys K before kn (tags_due (to_tag_in reply.lines)) (tags_due (to_tag_in reply.lines)) v w refl a)
 
   with_upload-equivalent : (u t : Option (Account × List ℕ)) (v w : RunState) → u ≡ t → PutIsAmong records t → Two v w → Two (with_upload u v) (with_upload t w)
   with_upload-equivalent u t v w same among a = record {
-    alike = record {
-      clock = a.alike.clock;
-      steps = a.alike.steps;
-      actions = a.alike.actions;
-      drawn = a.alike.drawn;
-      calls = a.alike.calls;
-      opened = a.alike.opened;
-      conferences = a.alike.conferences;
-      subscriptions = a.alike.subscriptions;
-      pending_timers = a.alike.pending_timers;
-      texts = ap (λ (x : Option (Account × List ℕ)). put_stored x v.texts) same ∙ ap (put_stored t) a.alike.texts;
-      registrations = a.alike.registrations;
-      seen = a.alike.seen;
+    equivalent = record {
+      clock = a.equivalent.clock;
+      steps = a.equivalent.steps;
+      actions = a.equivalent.actions;
+      drawn = a.equivalent.drawn;
+      calls = a.equivalent.calls;
+      opened = a.equivalent.opened;
+      conferences = a.equivalent.conferences;
+      subscriptions = a.equivalent.subscriptions;
+      pending_timers = a.equivalent.pending_timers;
+      texts = ap (λ (x : Option (Account × List ℕ)). put_stored x v.texts) same ∙ ap (put_stored t) a.equivalent.texts;
+      registrations = a.equivalent.registrations;
+      seen = a.equivalent.seen;
     };
     one = a.one;
     other = a.other;
@@ -332,19 +332,19 @@ module _ (below : Below) (its : PutIts) (others : PutOthers) (records : List She
 
   with_filed_rows_one : (rows : List Row) (v w : RunState) → Two v w → Two (with_filed_rows rows v) w
   with_filed_rows_one rows v w a = record {
-    alike = record {
-      clock = a.alike.clock;
-      steps = a.alike.steps;
-      actions = a.alike.actions;
-      drawn = a.alike.drawn;
-      calls = a.alike.calls;
-      opened = a.alike.opened;
-      conferences = a.alike.conferences;
-      subscriptions = a.alike.subscriptions;
-      pending_timers = a.alike.pending_timers;
-      texts = a.alike.texts;
-      registrations = a.alike.registrations;
-      seen = a.alike.seen;
+    equivalent = record {
+      clock = a.equivalent.clock;
+      steps = a.equivalent.steps;
+      actions = a.equivalent.actions;
+      drawn = a.equivalent.drawn;
+      calls = a.equivalent.calls;
+      opened = a.equivalent.opened;
+      conferences = a.equivalent.conferences;
+      subscriptions = a.equivalent.subscriptions;
+      pending_timers = a.equivalent.pending_timers;
+      texts = a.equivalent.texts;
+      registrations = a.equivalent.registrations;
+      seen = a.equivalent.seen;
     };
     one = a.one;
     other = a.other;
@@ -353,19 +353,19 @@ module _ (below : Below) (its : PutIts) (others : PutOthers) (records : List She
 
   with_filed_rows_other : (rows : List Row) (v w : RunState) → Two v w → Two v (with_filed_rows rows w)
   with_filed_rows_other rows v w a = record {
-    alike = record {
-      clock = a.alike.clock;
-      steps = a.alike.steps;
-      actions = a.alike.actions;
-      drawn = a.alike.drawn;
-      calls = a.alike.calls;
-      opened = a.alike.opened;
-      conferences = a.alike.conferences;
-      subscriptions = a.alike.subscriptions;
-      pending_timers = a.alike.pending_timers;
-      texts = a.alike.texts;
-      registrations = a.alike.registrations;
-      seen = a.alike.seen;
+    equivalent = record {
+      clock = a.equivalent.clock;
+      steps = a.equivalent.steps;
+      actions = a.equivalent.actions;
+      drawn = a.equivalent.drawn;
+      calls = a.equivalent.calls;
+      opened = a.equivalent.opened;
+      conferences = a.equivalent.conferences;
+      subscriptions = a.equivalent.subscriptions;
+      pending_timers = a.equivalent.pending_timers;
+      texts = a.equivalent.texts;
+      registrations = a.equivalent.registrations;
+      seen = a.equivalent.seen;
     };
     one = a.one;
     other = a.other;
@@ -389,19 +389,19 @@ module _ (below : Below) (its : PutIts) (others : PutOthers) (records : List She
 
   at_clock : (at : ℕ) (v w : RunState) → Two v w → Two (record v { clock = at }) (record w { clock = at })
   at_clock at v w a = record {
-    alike = record {
+    equivalent = record {
       clock = refl;
-      steps = a.alike.steps;
-      actions = a.alike.actions;
-      drawn = a.alike.drawn;
-      calls = a.alike.calls;
-      opened = a.alike.opened;
-      conferences = a.alike.conferences;
-      subscriptions = a.alike.subscriptions;
-      pending_timers = a.alike.pending_timers;
-      texts = a.alike.texts;
-      registrations = a.alike.registrations;
-      seen = a.alike.seen;
+      steps = a.equivalent.steps;
+      actions = a.equivalent.actions;
+      drawn = a.equivalent.drawn;
+      calls = a.equivalent.calls;
+      opened = a.equivalent.opened;
+      conferences = a.equivalent.conferences;
+      subscriptions = a.equivalent.subscriptions;
+      pending_timers = a.equivalent.pending_timers;
+      texts = a.equivalent.texts;
+      registrations = a.equivalent.registrations;
+      seen = a.equivalent.seen;
     };
     one = a.one;
     other = a.other;
@@ -425,17 +425,17 @@ module _ (below : Below) (its : PutIts) (others : PutOthers) (records : List She
       let ks : K (after_due_deadlines e token fuel at w).actions = with_next_step_before K before (after_due_deadlines e token fuel at w) kc in
       let z : Two (state_at_event_at d fuel at v) (state_at_event_at e fuel at w) =
       at_clock at (with_next_step (after_due_deadlines d token fuel at v)) (with_next_step (after_due_deadlines e token fuel at w))
-      (with_next_step-equivalent below.texts below.tables below.told below.laws records d e token keys sites K before kn (after_due_deadlines d token fuel at v) (after_due_deadlines e token fuel at w)
-      (after_due_deadlines-equivalent below.texts below.tables below.told below.laws records d e token keys sites K before kn fuel at v w ks a)) in
+      (with_next_step-equivalent below.texts below.tables below.records below.laws records d e token keys sites K before kn (after_due_deadlines d token fuel at v) (after_due_deadlines e token fuel at w)
+      (after_due_deadlines-equivalent below.texts below.tables below.records below.laws records d e token keys sites K before kn fuel at v w ks a)) in
       after_event_end-equivalent x.accepted y.accepted (after_parsed_event d token at x.parsed (state_at_event_at d fuel at v)) left
-      (after_parsed_event-equivalent at x.parsed y.parsed (state_at_event_at d fuel at v) (state_at_event_at e fuel at w) same trusted too among looks (tied early) (tied_too (subst (λ (n : ℕ). n < 2 ^ 60) z.alike.drawn early)) kc km z)
+      (after_parsed_event-equivalent at x.parsed y.parsed (state_at_event_at d fuel at v) (state_at_event_at e fuel at w) same trusted too among looks (tied early) (tied_too (subst (λ (n : ℕ). n < 2 ^ 60) z.equivalent.drawn early)) kc km z)
 
   after_event_in_order-equivalent : (fuel : ℕ) (x y : TimedEvent) (v w : RunState) → x.at ≡ y.at → mask_event d whos (state_at_event d token fuel x v) x.parsed ≡ mask_event e whos (state_at_event e token fuel y w) y.parsed
       → TrustedAs d x.parsed → TrustedAs e y.parsed → EventIsAmong records d x.parsed → EventLooksUpEqually d e (mask_event e whos (state_at_event e token fuel y w) y.parsed)
       → (IsEarly (state_at_event d token fuel x v) → EventIsTied d (state_at_event d token fuel x v) x.parsed) → (IsEarly (state_at_event e token fuel y w) → EventIsTied e (state_at_event e token fuel y w) y.parsed)
       → IsEarly (state_at_event d token fuel x v) → K (after_event_in_order e token fuel y w).actions → Two v w → Two (after_event_in_order d token fuel x v) (after_event_in_order e token fuel y w)
   after_event_in_order-equivalent fuel x y v w moment same trusted too among looks tied tied_too early k a =
-      let clock : clock_at v x.at ≡ clock_at w y.at = ap (λ (n : ℕ). max n x.at) a.alike.clock ∙ ap (λ (n : ℕ). max w.clock n) moment in
+      let clock : clock_at v x.at ≡ clock_at w y.at = ap (λ (n : ℕ). max n x.at) a.equivalent.clock ∙ ap (λ (n : ℕ). max w.clock n) moment in
       subst (λ (n : ℕ). Comes fuel n (clock_at w y.at) x y v w) (sym clock) (after_event-equivalent fuel (clock_at w y.at) x y v w trusted too among a) same looks tied tied_too early k
 
   after_events-equivalent : (fuel : ℕ) (xs ys : List TimedEvent) (v w : RunState) → mask_all d token fuel whos xs v ≡ mask_all e token fuel whos ys w → AllTrusted d xs → AllTrusted e ys → AllAmong records d xs → AllLookUpEqually d e (mask_all e token fuel whos ys w)
@@ -452,7 +452,7 @@ module _ (below : Below) (its : PutIts) (others : PutOthers) (records : List She
 
   initial_state-equivalent : (loaded : Texts) → AreAmong records (initial_state loaded).texts → Two (initial_state loaded) (initial_state loaded)
   initial_state-equivalent loaded among = record {
-    alike = record {
+    equivalent = record {
       clock = refl;
       steps = refl;
       actions = record { step = refl; send_count = refl; next = refl; live = refl };
@@ -488,7 +488,7 @@ module _ (below : Below) (keeps : KeepsPeers) (its : PutIts) (others : PutOthers
       (subst (λ (z : List Who). AllLookUpEqually d e (mask_all e token fuel z (timed_events e run) (initial_state loaded))) (sym asked) looks)
       (tied d token loaded fuel recorded read)
       (tied e token loaded fuel run (record { text = read.text; source = subst IsSource sites.equal.sip read.source; port = subst (λ (a : Addr). 0 < a.port) sites.equal.sip read.port })) early ([], refl)
-      (initial_state-equivalent below its others records d e token keys sites (IsLast final) (older final) (knows keeps d final) loaded among)).alike.seen seer strange
+      (initial_state-equivalent below its others records d e token keys sites (IsLast final) (older final) (knows keeps d final) loaded among)).equivalent.seen seer strange
     where
       no_text : (text : List ℕ) → None ≡ Some text → ⊥
       no_text text x = cc

@@ -42,7 +42,7 @@ module _ (d : Directory) (token : List ℕ) (loaded : Texts) (fuel : ℕ) (whole
     pub before : List TableOp
     pub newer : List TableOp
     pub is : older ≡ before ++ operations_after (inputs_of d token loaded) fuel earlier
-    pub deeds : operations_after (inputs_of d token loaded) fuel (earlier ++ event ∷ []) ≡ newer ++ Receives x ∷ older
+    pub operations : operations_after (inputs_of d token loaded) fuel (earlier ++ event ∷ []) ≡ newer ++ Receives x ∷ older
     pub view : x.view ≡ in_force_in (at_end_of earlier)
     pub by_then : x.at ≤ clock_at (at_end_of earlier) (moment_of event.event)
 
@@ -59,10 +59,10 @@ module _ (d : Directory) (token : List ℕ) (loaded : Texts) (fuel : ℕ) (whole
 
   -- the run of these events, up to that point
   pub record WellTold (recorded : List EventRecord) : Type 0 where
-    pub deeds : AllTold (operations_after (inputs_of d token loaded) fuel recorded)
+    pub operations : AllTold (operations_after (inputs_of d token loaded) fuel recorded)
     pub keyed : IsKeyed d (at_end_of recorded)
-    pub lent : IsWhole (call_config d) None (operations_after (inputs_of d token loaded) fuel recorded)
-    pub rooms : Each IsOfRun (at_end_of recorded).conference_ops
+    pub detached : IsWhole (call_config d) None (operations_after (inputs_of d token loaded) fuel recorded)
+    pub conferences : Each IsOfRun (at_end_of recorded).conference_ops
     pub awaited : AreAwaited d (at_end_of recorded)
 
   -- ---- those of one event
@@ -72,7 +72,7 @@ module _ (d : Directory) (token : List ℕ) (loaded : Texts) (fuel : ℕ) (whole
         operations_after (inputs_of d token loaded) fuel (earlier ++ event ∷ []) ≡ newer ++ op ∷ (older ++ operations_after (inputs_of d token loaded) fuel earlier) →
         Sees (in_force_in (at_end_of earlier)) (clock_at (at_end_of earlier) (moment_of event.event)) op → IsTold op (older ++ operations_after (inputs_of d token loaded) fuel earlier)
     one-told newer (Receives x) older is sees =
-        record { earlier = earlier; event = event; later = later; in_order = in_order; before = older; newer = newer; is = refl; deeds = is; view = sees.0; by_then = sees.1 }
+        record { earlier = earlier; event = event; later = later; in_order = in_order; before = older; newer = newer; is = refl; operations = is; view = sees.0; by_then = sees.1 }
     one-told newer (Releases number side) older is sees = tt
     one-told newer (Restores number away) older is sees = tt
     one-told newer (Finishes number at tokens) older is sees = tt
@@ -90,13 +90,13 @@ module _ (d : Directory) (token : List ℕ) (loaded : Texts) (fuel : ℕ) (whole
     more-told back own_law told =
         let w : RunState = at_end_of earlier in
         let next : at_end_of (earlier ++ event ∷ []) ≡ after_event_in_order d token fuel (timed_event_of d event) w = one-event earlier event in
-        let a : Adds d (clock_at w (moment_of event.event)) w None (after_event_in_order d token fuel (timed_event_of d event) w) = event_adds d token back own_law fuel (timed_event_of d event) w told.keyed told.lent told.rooms told.awaited in
+        let a : Adds d (clock_at w (moment_of event.event)) w None (after_event_in_order d token fuel (timed_event_of d event) w) = event_adds d token back own_law fuel (timed_event_of d event) w told.keyed told.detached told.conferences told.awaited in
         let is : operations_after (inputs_of d token loaded) fuel (earlier ++ event ∷ []) ≡ a.added ++ operations_after (inputs_of d token loaded) fuel earlier = ap (λ (w : RunState). w.call_ops) next ∙ a.is in
         record {
-          deeds = subst AllTold (sym is) (event-told [] a.added is a.sees told.deeds);
+          operations = subst AllTold (sym is) (event-told [] a.added is a.sees told.operations);
           keyed = subst (IsKeyed d) (sym next) a.keyed;
-          lent = subst (λ (w : RunState). IsWhole (call_config d) None w.call_ops) (sym next) a.whole;
-          rooms = subst (λ (w : RunState). Each IsOfRun w.conference_ops) (sym next) a.rooms;
+          detached = subst (λ (w : RunState). IsWhole (call_config d) None w.call_ops) (sym next) a.whole;
+          conferences = subst (λ (w : RunState). Each IsOfRun w.conference_ops) (sym next) a.conferences;
           awaited = subst (AreAwaited d) (sym next) a.awaited;
         }
 
@@ -109,4 +109,4 @@ module _ (d : Directory) (token : List ℕ) (loaded : Texts) (fuel : ℕ) (whole
       subst WellTold join (rest-told back own_law (earlier ++ event ∷ []) rest (is ∙ sym join) (more-told earlier event rest is back own_law told))
 
   pub all_told : LegsGoBack → ConferencesReplyInTheirOwn → WellTold whole
-  all_told back own_law = rest-told back own_law [] whole refl (record { deeds = tt; keyed = record { opened = le_refl 0; below = tt; rises = tt; own = tt }; lent = tt; rooms = tt; awaited = record { run = tt; asked = tt; answered = tt } })
+  all_told back own_law = rest-told back own_law [] whole refl (record { operations = tt; keyed = record { opened = le_refl 0; below = tt; rises = tt; own = tt }; detached = tt; conferences = tt; awaited = record { run = tt; requested = tt; answered = tt } })

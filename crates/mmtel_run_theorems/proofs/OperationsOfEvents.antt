@@ -194,7 +194,7 @@ no-opening h (signal.Over key) none = tt
 -- and in a transaction by which a call was opened only the calls reply
 pub record AreAwaited (d : Directory) (w : RunState) : Type 0 where
   pub run : IsRun w.actions
-  pub asked : Each (HasOpenedRequest w.actions) w.call_ops
+  pub requested : Each (HasOpenedRequest w.actions) w.call_ops
   pub answered : AllRepliesAllowed (call_config d) w.call_ops w.actions
 
 -- ---- what one event adds to what was done before it
@@ -211,7 +211,7 @@ pub record Adds (d : Directory) (now : ℕ) (w0 : RunState) (away : Option ℕ) 
   pub sees : Each (Sees (in_force_in w0) now) added
   pub keyed : IsKeyed d w
   pub whole : IsWhole (call_config d) away w.call_ops
-  pub rooms : Each IsOfRun w.conference_ops
+  pub conferences : Each IsOfRun w.conference_ops
   pub awaited : AreAwaited d w
 
 -- and the records and registrations are unchanged
@@ -329,10 +329,10 @@ module _ (d : Directory) (token : List ℕ) (back : LegsGoBack) (own_law : Confe
     sees = t.sees;
     keyed = keyed-same d w v ops more.le t.keyed;
     whole = subst (IsWhole (call_config d) away) (sym ops) t.whole;
-    rooms = subst (Each IsOfRun) (sym seats) t.rooms;
+    conferences = subst (Each IsOfRun) (sym seats) t.conferences;
     awaited = record {
       run = more.run t.awaited.run;
-      asked = subst (Each (HasOpenedRequest v.actions)) (sym ops) (all-asked-later w.actions v.actions w.call_ops more t.awaited.asked);
+      requested = subst (Each (HasOpenedRequest v.actions)) (sym ops) (all-asked-later w.actions v.actions w.call_ops more t.awaited.requested);
       answered = subst (λ (ops : List TableOp). AllRepliesAllowed (call_config d) ops v.actions) (sym ops) (more.answered t.awaited.answered);
     };
   }
@@ -402,8 +402,8 @@ module _ (d : Directory) (token : List ℕ) (back : LegsGoBack) (own_law : Confe
       sees = (sees, t.adds.sees);
       keyed = keyed;
       whole = whole;
-      rooms = t.adds.rooms;
-      awaited = record { run = t.adds.awaited.run; asked = (asked, t.adds.awaited.asked); answered = answered };
+      conferences = t.adds.conferences;
+      awaited = record { run = t.adds.awaited.run; requested = (asked, t.adds.awaited.requested); answered = answered };
     };
     texts = t.texts;
     registrations = t.registrations;
@@ -457,8 +457,8 @@ module _ (d : Directory) (token : List ℕ) (back : LegsGoBack) (own_law : Confe
           sees = t.adds.sees;
           keyed = t.adds.keyed;
           whole = t.adds.whole;
-          rooms = (tt, (of_run, t.adds.rooms));
-          awaited = record { run = t.adds.awaited.run; asked = t.adds.awaited.asked; answered = t.adds.awaited.answered };
+          conferences = (tt, (of_run, t.adds.conferences));
+          awaited = record { run = t.adds.awaited.run; requested = t.adds.awaited.requested; answered = t.adds.awaited.answered };
         };
         texts = t.texts;
         registrations = t.registrations;
@@ -736,7 +736,7 @@ module _ (d : Directory) (token : List ℕ) (back : LegsGoBack) (own_law : Confe
 
     said_adds : (p : MessageClass) (w : RunState) → p ≡ class_of (head_of (message_in s.parsed)) (live w.actions) → StillSo w → AddsSo (after_classified_message d token now s (said_of p w) (hearing_as p (said_of p w) w))
     said_adds part.Fresh w taken t =
-        requested_adds (keys w.actions) (heard_as part.Fresh w) (omega (arith, keys_fresh s.peer (message_in s.parsed) now w.actions)) t.adds.keyed (_, get-next (openings w.actions) _, record { server = refl; peer = refl; plan = refl; done = refl; refused = refl; over = refl }) (λ op from. (tt, acts_later (call_config d) (keys w.actions) op w.call_ops w.actions (le_refl (keys w.actions)) from t.adds.awaited.answered))
+        requested_adds (keys w.actions) (heard_as part.Fresh w) (omega (arith, keys_fresh s.peer (message_in s.parsed) now w.actions)) t.adds.keyed (_, get-next (openings w.actions) _, record { server = refl; peer = refl; state = refl; done = refl; refused = refl; over = refl }) (λ op from. (tt, acts_later (call_config d) (keys w.actions) op w.call_ops w.actions (le_refl (keys w.actions)) from t.adds.awaited.answered))
         (heard_still part.Fresh w taken t)
         (is_cancel (head_of (message_in s.parsed))) (option_map key_of (find (is_invite_of (head_of (message_in s.parsed))) (live w.actions)))
     said_adds part.Full w taken t = alone w _ refl refl (grows_refl w.actions) t.adds
@@ -786,4 +786,4 @@ pub event_adds : (d : Directory) (token : List ℕ) → LegsGoBack → Conferenc
 event_adds d token back own_law fuel x w keyed whole of_run awaited =
     after_event_adds d token back own_law w (clock_at w x.at) x.parsed x.accepted (after_due_deadlines d token fuel (clock_at w x.at) w)
     (after_due_deadlines_still d token back own_law w (clock_at w x.at) fuel w
-    (record { adds = record { added = []; is = refl; sees = tt; keyed = keyed; whole = whole; rooms = of_run; awaited = awaited }; texts = refl; registrations = refl }))
+    (record { adds = record { added = []; is = refl; sees = tt; keyed = keyed; whole = whole; conferences = of_run; awaited = awaited }; texts = refl; registrations = refl }))

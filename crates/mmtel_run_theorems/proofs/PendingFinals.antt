@@ -32,7 +32,7 @@ use Rattle.mmtel_run_theorems.specs.PendingFinals.{is_final_in}
 pub record IsWaiting (p : Peer) (x : Entry) : Type 0 where
   pub server : x.is_server ≡ true
   pub peer : x.peer ≡ p
-  pub plan : x.state ≡ Proceeding
+  pub state : x.state ≡ Proceeding
   pub done : x.final_status ≡ 0
   pub refused : x.is_refused ≡ false
   pub over : x.is_terminated ≡ false
@@ -303,15 +303,15 @@ answers-wait p (Some answer) e w = go (not e.is_server || not (e.final_status ==
   where
     go : (b : Bool) → IsWaiting p (if b then e else record e { reliable = e.reliable ++ answer ∷ [] })
     go true = w
-    go false = record { server = w.server; peer = w.peer; plan = w.plan; done = w.done; refused = w.refused; over = w.over }
+    go false = record { server = w.server; peer = w.peer; state = w.state; done = w.done; refused = w.refused; over = w.over }
 
 after_timer-waits : (p : Peer) (step : ℕ) (e : Entry) → IsWaiting p e → (first : Option (ℕ × TransactionTimer)) → (first ≡ None → ⊥) → IsWaiting p (after_timer_by first step e)
 after_timer-waits p step e w None some = absurd (some refl)
-after_timer-waits p step e w (Some first) some = record { server = w.server; peer = w.peer; plan = w.plan; done = w.done; refused = w.refused; over = w.over }
+after_timer-waits p step e w (Some first) some = record { server = w.server; peer = w.peer; state = w.state; done = w.done; refused = w.refused; over = w.over }
 
 after_settling-waits : (p : Peer) (own : Option ℕ) (e : Entry) → IsWaiting p e → IsWaiting p (after_settling own e)
-after_settling-waits p None e w = record { server = w.server; peer = w.peer; plan = w.plan; done = w.done; refused = w.refused; over = w.over }
-after_settling-waits p (Some own) e w = record { server = w.server; peer = w.peer; plan = w.plan; done = w.done; refused = w.refused; over = w.over }
+after_settling-waits p None e w = record { server = w.server; peer = w.peer; state = w.state; done = w.done; refused = w.refused; over = w.over }
+after_settling-waits p (Some own) e w = record { server = w.server; peer = w.peer; state = w.state; done = w.done; refused = w.refused; over = w.over }
 
 module _ (p : Peer) (h : List TransactionOp) (x : Entry) (n : ℕ) (key : x.key ≡ n) (at : slice_get (now_all h) n ≡ Some x) (w : IsWaiting p x) where
   -- an operation on another transaction, or none of this kind
@@ -355,7 +355,7 @@ module _ (p : Peer) (h : List TransactionOp) (x : Entry) (n : ℕ) (key : x.key 
       let e : Entry = with_reliable_if (reliable_response_of step order m (message_text m) now) x in
       let v : IsWaiting p e = answers-wait p (reliable_response_of step order m (message_text m) now) x w in
       provisional-waits (is_provisional (head_of m).status) e.is_server (e.final_status == 0) p e _ _ v.server (ap (λ done. done == 0) v.done) provisional
-      (record { server = v.server; peer = v.peer; plan = v.plan; done = v.done; refused = v.refused; over = v.over }))
+      (record { server = v.server; peer = v.peer; state = v.state; done = v.done; refused = v.refused; over = v.over }))
     where
       not-final : (b c : Bool) → b ≡ true → (b && not c) ≡ false → c ≡ true
       not-final true true e f = refl
@@ -371,7 +371,7 @@ module _ (p : Peer) (h : List TransactionOp) (x : Entry) (n : ℕ) (key : x.key 
       let one : first.next.entry ≡ x = one-at (now_all h) n first.next.entry x known.0 (first.same ∙ same) at in
       let due : deadline x ≡ Some first.next.at = ap deadline (sym one) ∙ known.1 in
       let none_due : deadline x ≡ None = ap (λ (o : Option (ℕ × TransactionTimer)). option_or (option_or (option_map (λ (f : ℕ × TransactionTimer). f.1.at) o) (state_retransmission_at x)) (last_deadline x)) none
-      ∙ ap (λ (plan : State). option_or (retransmission_by plan x.start x.at x.retransmissions) (last_deadline_by plan x.start x.at)) w.plan in
+      ∙ ap (λ (plan : State). option_or (retransmission_by plan x.start x.at x.retransmissions) (last_deadline_by plan x.start x.at)) w.state in
       none-some first.next.at (sym none_due ∙ due)))
 
   change-waits : (c : TransactionOp) → IsRun (c ∷ h) → is_final_in n c ≡ false → IsWaiting p (change (step_of h) (send_count h) c x)

@@ -198,8 +198,8 @@ module _ (wholes : MessagesHaveNothingPrivate) (config : CallConfigView) (keys :
     -- the client transaction is of such a peer, where it is known whether the server trusts its peer
     pub record KeyIsTied (key : TKey) (branch : List ℕ) (c : Call) : Type 0 where
       pub awaited : (i : SentInvite) → is_current branch c ≡ true → current_invite c.phase ≡ Some i → keys key ≡ trusts config i.dialogue.peer
-      pub loose : (at : ℕ) (l : AbandonedInvite) → position (is_of_branch branch) c.abandoned ≡ Some at → slice_get c.abandoned at ≡ Some l → keys key ≡ trusts config l.invite.dialogue.peer
-      pub taken : (at : ℕ) (x : AnsweredInvite) → position (is_answered_invite branch) c.answered_invites ≡ Some at → slice_get c.answered_invites at ≡ Some x → keys key ≡ trusts config x.invite.dialogue.peer
+      pub abandoned : (at : ℕ) (l : AbandonedInvite) → position (is_of_branch branch) c.abandoned ≡ Some at → slice_get c.abandoned at ≡ Some l → keys key ≡ trusts config l.invite.dialogue.peer
+      pub answered : (at : ℕ) (x : AnsweredInvite) → position (is_answered_invite branch) c.answered_invites ≡ Some at → slice_get c.answered_invites at ≡ Some x → keys key ≡ trusts config x.invite.dialogue.peer
 
     one_fits : (key : TKey) (branch : List ℕ) (c : Call) → KeyIsTied key branch c → RespondsToOne (Some branch) T key (response_role_of branch m c) m c
     one_fits key branch c tie = (
@@ -208,7 +208,7 @@ module _ (wholes : MessagesHaveNothingPrivate) (config : CallConfigView) (keys :
           (awaited c.phase key c (λ i e. tie.awaited i is e)),
       λ is. subst (λ (b : Bool). MayReceiveOther T key branch
           (if b then awaited_role c.phase c.opening m else role_of_other branch c) m c) (sym is)
-          (others key branch c tie.loose tie.taken),
+          (others key branch c tie.abandoned tie.answered),
     )
 
     -- by the INVITE to which it belongs

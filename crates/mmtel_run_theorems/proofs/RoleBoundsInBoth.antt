@@ -153,8 +153,8 @@ module _ (wholes : MessagesHaveNothingPrivate) (d : Directory) (keys : TKey → 
       let t = tied.response key branch place i p is (sent_with branch is ∙ q) g in
       record {
         awaited = λ j c e. known key j.dialogue.peer (t.awaited j c e);
-        loose = λ at l a b. known key l.invite.dialogue.peer (t.abandoned at l a b);
-        taken = λ at l a b. known key l.invite.dialogue.peer (t.answered at l a b);
+        abandoned = λ at l a b. known key l.invite.dialogue.peer (t.abandoned at l a b);
+        answered = λ at l a b. known key l.invite.dialogue.peer (t.answered at l a b);
       })
 
   -- ---- a response for a participant: no INVITE of a call has its branch

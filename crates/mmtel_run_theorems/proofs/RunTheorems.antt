@@ -107,7 +107,7 @@ module _ (back : LegsGoBack) (room_replies : ConferencesReplyInTheirOwn) (steps 
   charged due metered named d token loaded fuel recorded short =
       let w : RunState = state_after d token loaded fuel recorded in
       let told : WellTold d token loaded fuel recorded recorded = all_told d token loaded fuel recorded back room_replies in
-      rows_charged steps exact_law rows_law seats d w (filed d token loaded fuel recorded) (has_numbers d w told.keyed short) (put_back (call_config d) None w.call_ops told.lent) told.rooms due metered named
+      rows_charged steps exact_law rows_law seats d w (filed d token loaded fuel recorded) (has_numbers d w told.keyed short) (put_back (call_config d) None w.call_ops told.detached) told.conferences due metered named
 
   pub seats_charged : ParticipantsAreAccountedFor → ParticipantsAreMetered → RowsAreAccountedFor → RowsAreInOrder → BeginsChangeNothing → RunParticipantsChargedOnce
   seats_charged due metered named order begins d token loaded recorded short fuel enough = record {
@@ -124,14 +124,14 @@ module _ (back : LegsGoBack) (room_replies : ConferencesReplyInTheirOwn) (steps 
         let w : RunState = state_after d token loaded fuel recorded in
         let told : WellTold d token loaded fuel recorded recorded = all_told d token loaded fuel recorded back room_replies in
         let few : HasNumbers (call_config d) w.call_ops = has_numbers d w told.keyed short in
-        let put : ArePutBack (call_config d) w.call_ops = put_back (call_config d) None w.call_ops told.lent in
+        let put : ArePutBack (call_config d) w.call_ops = put_back (call_config d) None w.call_ops told.detached in
         let exact : CallIsExact (call_config d) w.call_ops number trace = exact_law (call_config d) w.call_ops number trace few is in
         let own : OutputsAreOfTheTrace (call_config d) w.call_ops number trace = own_law (call_config d) w.call_ops number trace few is in
-        let lived : LifeStood texts last views d token loaded fuel recorded number trace = life_stood texts last views d token loaded fuel recorded number w.call_ops trace told.deeds is in
-        let rows : rows_of_call w number ≡ charging_records_of (call_config d) number w.call_ops = of_call steps exact_law rows_law seats d w (filed d token loaded fuel recorded) few put told.rooms number in
+        let lived : LifeStood texts last views d token loaded fuel recorded number trace = life_stood texts last views d token loaded fuel recorded number w.call_ops trace told.operations is in
+        let rows : rows_of_call w number ≡ charging_records_of (call_config d) number w.call_ops = of_call steps exact_law rows_law seats d w (filed d token loaded fuel recorded) few put told.conferences number in
         let shown : ShowsOutcome trace = exact.shown told.keyed.own in
         let awaited : AwaitsItsFinal w trace.start =
-        (λ none. let (e, is, waits) = life_opened (call_config d) w.actions number w.call_ops trace told.awaited.asked is in
+        (λ none. let (e, is, waits) = life_opened (call_config d) w.actions number w.call_ops trace told.awaited.requested is in
         still_awaited trace.start.arrival.invite.peer w.actions trace.start.arrival.key.0 e told.awaited.run is waits none) in
         record {
           exact = exact;
@@ -147,7 +147,7 @@ module _ (back : LegsGoBack) (room_replies : ConferencesReplyInTheirOwn) (steps 
               w.actions told.awaited.answered);
           sent = calls_go_out d token begins loaded fuel recorded number;
           answered =
-              let (e, opens, waits) = life_opened (call_config d) w.actions number w.call_ops trace told.awaited.asked is in
+              let (e, opens, waits) = life_opened (call_config d) w.actions number w.call_ops trace told.awaited.requested is in
               finals_come w trace.start trace.events (emits_of (call_config d) number w.call_ops) exact.emits (opening_in trace.start) (outcome_after trace.start trace.events).targets
               (outcome_after trace.start trace.events).result (exact.throughout told.keyed.own) (calls_go_out d token begins loaded fuel recorded number)
               (replies_said d token begins loaded fuel recorded) told.awaited.run e opens waits
@@ -159,7 +159,7 @@ module _ (back : LegsGoBack) (room_replies : ConferencesReplyInTheirOwn) (steps 
           watched = exact.watched;
           session = exact.session;
           expires = exact.expires;
-          restored = lent_at_once back (call_config d) number w.call_ops trace told.lent is;
+          restored = lent_at_once back (call_config d) number w.call_ops trace told.detached is;
           notified =
               lives_told goes charging told_law silent ends trace.start trace.events
               ∙ ap (λ (config : CallConfigView). notifications_due config (opening_in trace.start) (received_history trace.start.arrival.invite) (outcome_after trace.start trace.events).targets) own.opening.0;

@@ -98,8 +98,8 @@ pub record Once : Type 0 where
   pub steps : StepsSendOnce
   pub openings : OpeningsSendOnce
   pub ends : EndsSendOnce
-  pub lent : DetachedCallsWereSent
-  pub returned : RestoredCallsWereSent
+  pub detached : DetachedCallsWereSent
+  pub restored : RestoredCallsWereSent
   pub conferences : ConferencesSendOnce
 
 -- ---- positions in a list
@@ -215,7 +215,7 @@ module _ (steps : StepsSendOnce) (openings : OpeningsSendOnce) (config : CallCon
   module _ (others : Once) where
     lent_at_sent : (side : Side) (place : ℕ) (o : Option Entry) (es : List Entry) → slice_get es place ≡ o → Each (Sent before) es → Each (Sent before) (released_at side place o es)
     lent_at_sent side place None es is had = had
-    lent_at_sent side place (Some e) es is had = each_set (Sent before) es place (entry_after_release side e) (others.lent config.sip side e.call before (each_at (Sent before) es place e had is)) had
+    lent_at_sent side place (Some e) es is had = each_set (Sent before) es place (entry_after_release side e) (others.detached config.sip side e.call before (each_at (Sent before) es place e had is)) had
 
     lent_by_sent : (side : Side) (o : Option ℕ) (es : List Entry) → Each (Sent before) es → Each (Sent before) (released_where side o es)
     lent_by_sent side None es had = had
@@ -227,7 +227,7 @@ module _ (steps : StepsSendOnce) (openings : OpeningsSendOnce) (config : CallCon
 
     back_at_sent : (away : Released) (place : ℕ) (o : Option Entry) (es : List Entry) → slice_get es place ≡ o → Each (Sent before) es → Each (Sent before) (restored_at away place o es)
     back_at_sent away place None es is had = had
-    back_at_sent away place (Some e) es is had = each_set (Sent before) es place (entry_after_restore away e) (others.returned config.sip away e.call before (each_at (Sent before) es place e had is)) had
+    back_at_sent away place (Some e) es is had = each_set (Sent before) es place (entry_after_restore away e) (others.restored config.sip away e.call before (each_at (Sent before) es place e had is)) had
 
     back_by_sent : (away : Released) (o : Option ℕ) (es : List Entry) → Each (Sent before) es → Each (Sent before) (restored_where away o es)
     back_by_sent away None es had = had
@@ -306,7 +306,7 @@ module _ (d : Directory) (token : List ℕ) where
   -- each INVITE of a call and of a conference was sent to its peer; and INVITEs have numbers of their own
   pub record AreSent (asks : SentRequests) (drawn : ℕ) (ops : List TableOp) (houses : List rooms.TableOp) : Type 0 where
     pub calls_sent : Each (EntryWasSent d.sip asks) (table_after (call_config d) ops).entries
-    pub rooms_sent : TableWasSent (SomeInviteWasSent d.sip asks) (rooms.table_after (conference_config d) houses)
+    pub conferences_sent : TableWasSent (SomeInviteWasSent d.sip asks) (rooms.table_after (conference_config d) houses)
     pub numbered : drawn < 2 ^ 60 → Falls d.sip token (suc drawn) asks
 
   abbrev pub Holds : RunState → Type 0
@@ -334,7 +334,7 @@ module _ (d : Directory) (token : List ℕ) where
     holds = λ had. same_sent (asks_of w.actions) (asks_of v.actions) v.drawn v.drawn w.call_ops v.call_ops w.conference_ops v.conference_ops (sym asks) refl (sym ops) (sym houses)
         (record {
           calls_sent = had.calls_sent;
-          rooms_sent = had.rooms_sent;
+          conferences_sent = had.conferences_sent;
           numbered = λ less. falls_more d.sip token (suc w.drawn) (suc v.drawn) (asks_of w.actions) (omega (arith, drawn)) (had.numbered (omega (arith, less, drawn)));
         });
   }
@@ -367,8 +367,8 @@ module _ (d : Directory) (token : List ℕ) where
         calls_sent = each_same (EntryWasSent d.sip (asks ++ requests_in output.out)) (EntryWasSent d.sip (asks_after output.out asks))
             (λ e is. call_more (RequestWasSent d.sip (asks ++ requests_in output.out)) (RequestWasSent d.sip (asks_after output.out asks)) (sent_now asks output.out) e.call is)
             (table_after (call_config d) (op ∷ w.call_ops)).entries (well had).calls_in;
-        rooms_sent = table_more (SomeInviteWasSent d.sip asks) (SomeInviteWasSent d.sip (asks_after output.out asks))
-            (λ branch peer was. sent_now asks output.out (codes "INVITE") branch peer (sent_before d.sip asks (requests_in output.out) (codes "INVITE") branch peer was)) (rooms.table_after (conference_config d) w.conference_ops) had.rooms_sent;
+        conferences_sent = table_more (SomeInviteWasSent d.sip asks) (SomeInviteWasSent d.sip (asks_after output.out asks))
+            (λ branch peer was. sent_now asks output.out (codes "INVITE") branch peer (sent_before d.sip asks (requests_in output.out) (codes "INVITE") branch peer was)) (rooms.table_after (conference_config d) w.conference_ops) had.conferences_sent;
         numbered = λ less.
             let are = (well had).out_in less in
             let on : w.drawn ≤ output.tokens.drawn = numbers_on d.sip token w.drawn output.tokens.drawn output.out are in
@@ -400,7 +400,7 @@ module _ (d : Directory) (token : List ℕ) where
 
     -- a leg is taken out, or put back
     lending_goes : (op : TableOp) (w : RunState) → (Holds w → Each (EntryWasSent d.sip (asks_of w.actions)) (table_after (call_config d) (op ∷ w.call_ops)).entries) → Goes w (with_call_op op w)
-    lending_goes op w on = record { early = λ had less. less; holds = λ had. record { calls_sent = on had; rooms_sent = had.rooms_sent; numbered = had.numbered } }
+    lending_goes op w on = record { early = λ had less. less; holds = λ had. record { calls_sent = on had; conferences_sent = had.conferences_sent; numbered = had.numbered } }
 
     releasing_goes : (number : ℕ) (side : Side) (w : RunState) → Goes w (with_call_op (Releases number side) w)
     releasing_goes number side w =
@@ -422,7 +422,7 @@ module _ (d : Directory) (token : List ℕ) where
       room_mid = record w { drawn = out_desk.tokens.drawn; conference_ops = rooms.Drops (length out_desk.rows) ∷ op ∷ w.conference_ops; waiting = w.waiting ++ out_desk.rows }
 
       sends : Holds w → OpSendsOnce d.sip room_asks (tokens_now token w) out_desk (rooms.table_after (conference_config d) (op ∷ w.conference_ops))
-      sends had = subst (λ (t : TokensView). OpSendsOnce d.sip room_asks t out_desk (rooms.table_after (conference_config d) (op ∷ w.conference_ops))) text (once.conferences (conference_config d) w.conference_ops op room_asks had.rooms_sent)
+      sends had = subst (λ (t : TokensView). OpSendsOnce d.sip room_asks t out_desk (rooms.table_after (conference_config d) (op ∷ w.conference_ops))) text (once.conferences (conference_config d) w.conference_ops op room_asks had.conferences_sent)
 
       room_early : Holds w → IsEarly (after_conference_op d at op w) → IsEarly w
       room_early had less =
@@ -436,7 +436,7 @@ module _ (d : Directory) (token : List ℕ) where
             (λ e is. call_more (RequestWasSent d.sip room_asks) (RequestWasSent d.sip (asks_after out_desk.out room_asks))
             (λ method branch peer was. sent_now room_asks out_desk.out method branch peer (sent_before d.sip room_asks (requests_in out_desk.out) method branch peer was)) e.call is)
             (calls_in d w).entries had.calls_sent;
-        rooms_sent =
+        conferences_sent =
             let all = table_more (SomeInviteWasSent d.sip (room_asks ++ requests_in out_desk.out)) (SomeInviteWasSent d.sip (asks_after out_desk.out room_asks)) (sent_now room_asks out_desk.out (codes "INVITE"))
             (rooms.table_after (conference_config d) (op ∷ w.conference_ops)) (sends had).conferences_in in
             record { live_in = all.live_in; abandoned_in = all.abandoned_in };
@@ -484,7 +484,7 @@ module _ (d : Directory) (token : List ℕ) where
       opens_goes = record {
         early = λ had less. subst (λ (n : ℕ). n < 2 ^ 60) opens_drawn less;
         holds = λ had. same_sent (asks_of w.actions) _ w.drawn _ w.call_ops _ _ _ (sym opens_quiet) (sym opens_drawn) (sym opens_deeds) refl
-            (record { calls_sent = had.calls_sent; rooms_sent = opens_sent had.rooms_sent; numbered = had.numbered });
+            (record { calls_sent = had.calls_sent; conferences_sent = opens_sent had.conferences_sent; numbered = had.numbered });
       }
 
     pub begun_goes : (w : RunState) → Goes w (with_next_step w)
@@ -496,7 +496,7 @@ module _ (d : Directory) (token : List ℕ) where
     handing_goes : (took : Bool) (rows : List Row) (w : RunState) → Goes w (after_handover took rows w)
     handing_goes took [] w = same w
     handing_goes false (row ∷ rows) w = same w
-    handing_goes true (row ∷ rows) w = record { early = λ had less. less; holds = λ had. record { calls_sent = had.calls_sent; rooms_sent = had.rooms_sent; numbered = had.numbered } }
+    handing_goes true (row ∷ rows) w = record { early = λ had less. less; holds = λ had. record { calls_sent = had.calls_sent; conferences_sent = had.conferences_sent; numbered = had.numbered } }
 
     -- ---- mailboxes: the response to a NOTIFY is not awaited as that to an INVITE is
 
@@ -515,8 +515,8 @@ module _ (d : Directory) (token : List ℕ) where
                 calls_sent = each_same (EntryWasSent d.sip known) (EntryWasSent d.sip (asks_after out known))
                     (λ e is. call_more (RequestWasSent d.sip known) (RequestWasSent d.sip (asks_after out known)) (λ method branch peer was. sent_after d.sip method branch peer out known (inl was)) e.call is)
                     (table_after (call_config d) w.call_ops).entries had.calls_sent;
-                rooms_sent = table_more (SomeInviteWasSent d.sip known) (SomeInviteWasSent d.sip (asks_after out known))
-                    (λ branch peer was. sent_after d.sip (codes "INVITE") branch peer out known (inl was)) (rooms.table_after (conference_config d) w.conference_ops) had.rooms_sent;
+                conferences_sent = table_more (SomeInviteWasSent d.sip known) (SomeInviteWasSent d.sip (asks_after out known))
+                    (λ branch peer was. sent_after d.sip (codes "INVITE") branch peer out known (inl was)) (rooms.table_after (conference_config d) w.conference_ops) had.conferences_sent;
                 numbered = λ less. falls_after d.sip token w.drawn w.drawn out known are (had.numbered less);
               });
         }
@@ -764,4 +764,4 @@ module _ (d : Directory) (token : List ℕ) where
         ((comes_goes fuel x w).early held ((after_goes fuel xs u).early last less), early_in fuel xs u last less)
 
   pub begins : (loaded : Texts) → Holds (initial_state loaded)
-  begins loaded = record { calls_sent = tt; rooms_sent = record { live_in = tt; abandoned_in = tt }; numbered = λ less. tt }
+  begins loaded = record { calls_sent = tt; conferences_sent = record { live_in = tt; abandoned_in = tt }; numbered = λ less. tt }

@@ -105,7 +105,7 @@ module _ (texts_law : TextsAreThoseKept) (last_law : LastIsInForce) (told_law : 
         received = x;
         before = t.before;
         after = t.newer;
-        operations = t.deeds ∙ ap (λ (ops : List TableOp). t.newer ++ Receives x ∷ ops) t.is;
+        operations = t.operations ∙ ap (λ (ops : List TableOp). t.newer ++ Receives x ∷ ops) t.is;
         mine = ap (λ (ops : List TableOp). is_number number (call_of (call_config d) (Receives x) (table_after (call_config d) ops))) (sym t.is) ∙ by.mine;
         comes = ap (λ (ops : List TableOp). trace_of (call_config d) number (Receives x ∷ ops)) (sym t.is) ∙ by.comes;
         moment = refl;

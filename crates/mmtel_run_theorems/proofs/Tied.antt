@@ -198,9 +198,9 @@ module _ (differ : TokensDiffer) (owners : OwnersAreLive)
           let tied : (peer : Peer) → Was branch peer → HasSameTrust d w (record { 0 = key }) peer = λ peer too. tie key was.0 was.1 branch was.2 peer (went branch peer too) in
           record {
             abandoned = λ place l there at_it. tied l.invite.dialogue.peer
-                (with_branch Was l.invite.branch branch l.invite.dialogue.peer (passes (is_of_branch branch) table.abandoned place l there at_it) (each_at (AbandonedWasSent Was) table.abandoned place l had.rooms_sent.abandoned_in at_it));
+                (with_branch Was l.invite.branch branch l.invite.dialogue.peer (passes (is_of_branch branch) table.abandoned place l there at_it) (each_at (AbandonedWasSent Was) table.abandoned place l had.conferences_sent.abandoned_in at_it));
             participant = λ at place room seat there at_it its of_it.
-                let sent : ParticipantWasSent Was seat = each_at (ParticipantWasSent Was) room.participants place seat (each_at (ConferenceWasSent Was) table.live at room had.rooms_sent.live_in at_it) of_it in
+                let sent : ParticipantWasSent Was seat = each_at (ParticipantWasSent Was) room.participants place seat (each_at (ConferenceWasSent Was) table.live at room had.conferences_sent.live_in at_it) of_it in
                 let both = tied_by key branch (dialogue_of seat).peer seat.invite tied (passes (participant_has_branch branch) room.participants place seat its of_it) sent in
                 record { invite = both.0; leg = both.1 };
           }

@@ -200,7 +200,7 @@ pub record IsOfEstablished (directory : Directory) (state : RunState) (m : Perso
 
 -- it is a response to the INVITE whose response the call awaits
 pub record IsAwaited (directory : Directory) (state : RunState) (m : PersonMessage) (e : Entry) (branch : List ℕ) (key place : ℕ) : Type 0 where
-  pub taken : IsClassified state m (part.Answer key)
+  pub classified : IsClassified state m (part.Answer key)
   pub responds : (p : Person) → awaited_request_branch (m p) ≡ Some branch
   pub sent : position (has_sent_branch (Some branch)) (calls_in directory state).entries ≡ Some place
   pub entry : slice_get (calls_in directory state).entries place ≡ Some e
@@ -211,7 +211,7 @@ pub record IsTargets (directory : Directory) (state : RunState) (m : PersonMessa
   pub awaited : IsAwaited directory state m e branch key place
   pub offered : e.call.phase ≡ Offered x
   pub leg : x.callee.leg.dialogue.peer ≡ phone
-  pub asked : x.attempt.invite.dialogue.peer ≡ phone
+  pub peer : x.attempt.invite.dialogue.peer ≡ phone
 
 -- ---- what masking leaves of them
 

@@ -79,7 +79,7 @@ pub record IsNotify (directory : Directory) (ops : List TableOp) (peer : Peer) (
   pub done : ops ≡ newer ++ Notifies sub branch ∷ older
   -- the subscription is live then, and the peer is that of the subscriber, and is trusted
   pub subscription : Subscription
-  pub lives : subscription_numbered sub (table_after older) ≡ Some subscription
+  pub active : subscription_numbered sub (table_after older) ≡ Some subscription
   pub to : peer ≡ subscription.leg.dialogue.peer
   pub trusted : IsOfTrusted directory subscription
   -- it is in the subscription's dialog, with the summary of the last counts of its mailbox before

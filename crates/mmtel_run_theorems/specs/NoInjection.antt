@@ -86,10 +86,10 @@ pub record IsRelayedInCall (directory : Directory) (recorded : List EventRecord)
 -- passed, or relays an ACK
 pub record IsOwnAck (directory : Directory) (recorded : List EventRecord) (ops : List TableOp) (text : List ℕ) : Type 0 where
   pub dialogue : Dialogue
-  pub given : RequestPartsView
-  pub passes : (given ≡ bare_parts given.sip given.branch) ⊎ IsRelayedInCall directory recorded ops dialogue given
-  pub lines : HasOwnFields (ack_of dialogue given)
-  pub is : text ≡ message_text (ack_of dialogue given)
+  pub parts : RequestPartsView
+  pub passes : (parts ≡ bare_parts parts.sip parts.branch) ⊎ IsRelayedInCall directory recorded ops dialogue parts
+  pub lines : HasOwnFields (ack_of dialogue parts)
+  pub is : text ≡ message_text (ack_of dialogue parts)
 
 -- the response to an event that no transaction sends, with this tag: to a request beyond the capacity, and to bytes that are refused as they are read
 abbrev pub stateless_reply : Directory → (tag : List ℕ) → ParsedEvent → Option (Message Start)

@@ -70,7 +70,7 @@ impl ScriptLink {
 impl Link for ScriptLink {
     ghost input = { λ script. Some script };
 
-    ghost given = { λ _. None };
+    ghost output = { λ _. None };
 
     ghost calls = { λ _. None };
 

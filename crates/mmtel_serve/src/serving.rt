@@ -35,8 +35,8 @@ fn serve_event<N: Link, K: Keeper, L: Ledger>(
         ⊎ EventEffect event.now
         (serving_state N.Link link.old K.Keeper keeper.old server.old)
         (serving_state N.Link link.new K.Keeper keeper.new server.new) result) }
-    ensures lost { LostOnlyWhereRose (N.given link.old) (N.given link.new) (N.delivery_faults link.old) (N.delivery_faults link.new) }
-    ensures counted { RoseBy (new_losses (N.given link.old) (N.given link.new)) (N.delivery_faults link.old) (N.delivery_faults link.new) }
+    ensures lost { LostOnlyWhereRose (N.output link.old) (N.output link.new) (N.delivery_faults link.old) (N.delivery_faults link.new) }
+    ensures counted { RoseBy (new_losses (N.output link.old) (N.output link.new)) (N.delivery_faults link.old) (N.delivery_faults link.new) }
     ensures received { N.input link.new ≡ N.input link.old }
     ensures bound { IsBoundStill (N.calls link.old) (N.calls link.new) }
     ensures arrival_faults { N.arrival_faults link.new ≡ N.arrival_faults link.old }
@@ -69,7 +69,7 @@ pub fn serve<N: Link, K: Keeper, L: Ledger>(
     ensures served { ServeEffect turns (serving_state N.Link link.old K.Keeper keeper.old server.old)
         (serving_state N.Link link.new K.Keeper keeper.new server.new) result }
     // An output is lost only where the count of delivery faults rose.
-    ensures lost { LostNoMore (N.given link.old) (N.given link.new) ⊎ Rose (N.delivery_faults link.old) (N.delivery_faults link.new) }
+    ensures lost { LostNoMore (N.output link.old) (N.output link.new) ⊎ Rose (N.delivery_faults link.old) (N.delivery_faults link.new) }
     ensures delivery_faults { StaysOrRises (N.delivery_faults link.old) (N.delivery_faults link.new) }
     ensures bound { IsBoundStill (N.calls link.old) (N.calls link.new) }
     // At an arrival fault the last call of the link, where it exposes its calls, has the number of one that fails.

@@ -54,7 +54,7 @@ fn read_more<N: Link>(alloc: Global, link: &mut N, bytes: &mut Text) -> Result<b
     ensures grows { IfOk result (Grows bytes.old bytes.new) }
     ensures no_fault { IfOk result (λ more. more ≡ true → N.delivery_faults link.new ≡ N.delivery_faults link.old) }
     ensures delivery_faults { StaysOrRises (N.delivery_faults link.old) (N.delivery_faults link.new) }
-    ensures output { N.given link.new ≡ N.given link.old }
+    ensures output { N.output link.new ≡ N.output link.old }
     ensures calls { IsCalledTimes (N.calls link.old) (N.calls link.new) 1 }
     ensures arrival_faults { N.arrival_faults link.new ≡ N.arrival_faults link.old }
 {
@@ -82,7 +82,7 @@ fn read_request<N: Link>(alloc: Global, link: &mut N) -> Result<Text, NoMemory>
     ensures read { (ear : Option LinkInput) → IsReading ear (N.input link.old) [] →
         ReadsRequest ear (N.input link.new) (N.delivery_faults link.old) (N.delivery_faults link.new) result }
     ensures delivery_faults { StaysOrRises (N.delivery_faults link.old) (N.delivery_faults link.new) }
-    ensures output { N.given link.new ≡ N.given link.old }
+    ensures output { N.output link.new ≡ N.output link.old }
     ensures calls { IsCalledWithin (N.calls link.old) (N.calls link.new) most_reads_a_turn }
     ensures arrival_faults { N.arrival_faults link.new ≡ N.arrival_faults link.old }
 {
@@ -108,7 +108,7 @@ fn event_of<N: Link>(
     ensures received { (ear : Option LinkInput) → NextIfExposed ear (N.input link.old) (Ok arrival) →
         ReceivesEvent ear (N.input link.new) (N.delivery_faults link.old) (N.delivery_faults link.new) result }
     ensures delivery_faults { StaysOrRises (N.delivery_faults link.old) (N.delivery_faults link.new) }
-    ensures output { N.given link.new ≡ N.given link.old }
+    ensures output { N.output link.new ≡ N.output link.old }
     ensures calls { IsCalledWithin (N.calls link.old) (N.calls link.new) most_reads_a_turn }
     ensures number { HasFailedByNumber (N.calls link.new) result }
     ensures cause { HasDriveCause (N.arrival_faults link.old) (N.arrival_faults link.new) result }
@@ -135,7 +135,7 @@ fn event_of<N: Link>(
 pub fn next_event<N: Link>(alloc: Global, link: &mut N) -> Result<Option<Event>, DriveFault>
     ensures received { ReceivesEvent (N.input link.old) (N.input link.new) (N.delivery_faults link.old) (N.delivery_faults link.new) result }
     ensures delivery_faults { StaysOrRises (N.delivery_faults link.old) (N.delivery_faults link.new) }
-    ensures output { N.given link.new ≡ N.given link.old }
+    ensures output { N.output link.new ≡ N.output link.old }
     ensures calls { IsCalledWithin (N.calls link.old) (N.calls link.new) most_calls_a_turn }
     ensures number { HasFailedByNumber (N.calls link.new) result }
     ensures cause { HasDriveCause (N.arrival_faults link.old) (N.arrival_faults link.new) result }
@@ -185,7 +185,7 @@ pub fn drive<N: Link, K: Keeper, L: Ledger>(
 ) -> Result<bool, DriveFault>
     ensures driven { DriveEffect turns (serving_state N.Link link.old K.Keeper keeper.old server.old)
         (serving_state N.Link link.new K.Keeper keeper.new server.new) out.old out.new result }
-    ensures output { N.given link.new ≡ N.given link.old }
+    ensures output { N.output link.new ≡ N.output link.old }
     ensures delivery_faults { StaysOrRises (N.delivery_faults link.old) (N.delivery_faults link.new) }
     ensures calls { IsCalledWithin (N.calls link.old) (N.calls link.new) (turns * most_calls_a_turn) }
     ensures cause { HasDriveCause (N.arrival_faults link.old) (N.arrival_faults link.new) result }

@@ -34,7 +34,7 @@ impl<'a> NetLink<'a> {
 impl Link for NetLink<'_> {
     ghost input = { λ _. None };
 
-    ghost given = { λ _. None };
+    ghost output = { λ _. None };
 
     ghost calls = { λ _. None };
 

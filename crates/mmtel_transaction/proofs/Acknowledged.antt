@@ -217,7 +217,7 @@ record Keeping (p : Peer) (text : List ℕ) (e : Entry) : Type 0 where
 keeping_more : (p : Peer) (text : List ℕ) (e x : Entry) → Keeps e x → Holds e x → Keeping p text e → Keeping p text x
 keeping_more p text e x k w t = record {
   client = k.server ∙ t.client;
-  invite = ap is_invite k.asked ∙ t.invite;
+  invite = ap is_invite k.head ∙ t.invite;
   refused = w.1 t.refused;
   done = ap (λ (n : ℕ). n == 0) w.2 ∙ t.done;
   peer = k.peer ∙ t.peer;

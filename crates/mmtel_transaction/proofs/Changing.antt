@@ -209,13 +209,13 @@ module _ (f : Entry → Entry) (keeps : (e : Entry) → Keeps e (f e)) where
   }
 
   server_kept : (e : Entry) → indexed_server (f e) ≡ indexed_server e
-  server_kept e = let w = keeps e in rw (w.server, w.asked, w.key) refl
+  server_kept e = let w = keeps e in rw (w.server, w.head, w.key) refl
 
   client_kept : (e : Entry) → indexed_client (f e) ≡ indexed_client e
-  client_kept e = let w = keeps e in rw (w.server, w.asked, w.key) refl
+  client_kept e = let w = keeps e in rw (w.server, w.head, w.key) refl
 
   call_kept : (e : Entry) → indexed_call (f e) ≡ indexed_call e
-  call_kept e = let w = keeps e in rw (w.server, w.asked, w.key) refl
+  call_kept e = let w = keeps e in rw (w.server, w.head, w.key) refl
 
   pub tables_mapped : (es : List Entry) (ss cs ts : List MatchKey) (ds fs : List DeadlineKey) → AreTables es ss cs ts ds → IsIndex indexed_deadline deadline_cmp (map f es) fs → AreTables (map f es) ss cs ts fs
   tables_mapped es ss cs ts ds fs t due = record {

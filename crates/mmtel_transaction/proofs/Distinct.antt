@@ -148,7 +148,7 @@ AreApart es = (e x : Entry) → Has e es → Has x es → HaveOneKey e x → e �
 
 module _ (c : TransactionOp) (h : List TransactionOp) (r : IsRun (c ∷ h)) (ih : AreApart (live h)) where
   was : (e d : Entry) → e ≡ change (step_of h) (send_count h) c d → (e.is_server ≡ d.is_server) × (e.head ≡ d.head)
-  was e d q = let w = keeps_change (step_of h) (send_count h) c d in (server_is e _ q ∙ w.server, asked_is e _ q ∙ w.asked)
+  was e d q = let w = keeps_change (step_of h) (send_count h) c d in (server_is e _ q ∙ w.server, asked_is e _ q ∙ w.head)
 
   both_old : (e x d y : Entry) → Has d (live h) → Has y (live h) → e ≡ change (step_of h) (send_count h) c d → x ≡ change (step_of h) (send_count h) c y → HaveOneKey e x → e ≡ x
   both_old e x d y f g p q k =

@@ -73,7 +73,7 @@ changed c h lo (e ∷ es) r = rw (later e.key (length (openings h)) (omega (arit
 pub record Keeps (e x : Entry) : Type 0 where
   pub key : x.key ≡ e.key
   pub server : x.is_server ≡ e.is_server
-  pub asked : x.head ≡ e.head
+  pub head : x.head ≡ e.head
   pub peer : x.peer ≡ e.peer
   pub over : e.is_terminated ≡ true → x.is_terminated ≡ true
 
@@ -85,29 +85,29 @@ same : {A : Type 0} (x : A) → x ≡ x
 same x = refl
 
 keeps_then : (e x y : Entry) → Keeps e x → Keeps x y → Keeps e y
-keeps_then e x y a b = record { key = b.key ∙ a.key; server = b.server ∙ a.server; asked = b.asked ∙ a.asked; peer = b.peer ∙ a.peer; over = λ o. b.over (a.over o) }
+keeps_then e x y a b = record { key = b.key ∙ a.key; server = b.server ∙ a.server; head = b.head ∙ a.head; peer = b.peer ∙ a.peer; over = λ o. b.over (a.over o) }
 
 keeps_planned : (s : ℕ) (e : Entry) → Keeps e (after_state_timer s e)
-keeps_planned s e = keeps_if (is_some (state_retransmission_at e)) e (record e { retransmissions = e.retransmissions + 1; step = s }) (record e { is_terminated = true }) (record { key = refl; server = refl; asked = refl; peer = refl; over = λ o. o }) (record { key = refl; server = refl; asked = refl; peer = refl; over = λ o. refl })
+keeps_planned s e = keeps_if (is_some (state_retransmission_at e)) e (record e { retransmissions = e.retransmissions + 1; step = s }) (record e { is_terminated = true }) (record { key = refl; server = refl; head = refl; peer = refl; over = λ o. o }) (record { key = refl; server = refl; head = refl; peer = refl; over = λ o. refl })
 
 keeps_fired_by : (o : Option (ℕ × TransactionTimer)) (s : ℕ) (e : Entry) → Keeps e (after_timer_by o s e)
-keeps_fired_by (Some first) s e = record { key = refl; server = refl; asked = refl; peer = refl; over = λ o. o }
+keeps_fired_by (Some first) s e = record { key = refl; server = refl; head = refl; peer = refl; over = λ o. o }
 keeps_fired_by None s e = keeps_planned s e
 
 pub keeps_fired : (s : ℕ) (e : Entry) → Keeps e (after_timer s e)
 keeps_fired s e = keeps_fired_by (foremost_in e) s e
 
 keeps_settled : (own : Option ℕ) (e : Entry) → Keeps e (after_settling own e)
-keeps_settled None e = record { key = refl; server = refl; asked = refl; peer = refl; over = λ o. o }
-keeps_settled (Some own) e = record { key = refl; server = refl; asked = refl; peer = refl; over = λ o. o }
+keeps_settled None e = record { key = refl; server = refl; head = refl; peer = refl; over = λ o. o }
+keeps_settled (Some own) e = record { key = refl; server = refl; head = refl; peer = refl; over = λ o. o }
 
 pub keeps_with : (answer : Option ReliableResponse) (e : Entry) → Keeps e (with_reliable_if answer e)
-keeps_with None e = record { key = refl; server = refl; asked = refl; peer = refl; over = λ o. o }
-keeps_with (Some answer) e = keeps_if (not e.is_server || not (e.final_status == 0)) e e _ (record { key = refl; server = refl; asked = refl; peer = refl; over = λ o. o }) (record { key = refl; server = refl; asked = refl; peer = refl; over = λ o. o })
+keeps_with None e = record { key = refl; server = refl; head = refl; peer = refl; over = λ o. o }
+keeps_with (Some answer) e = keeps_if (not e.is_server || not (e.final_status == 0)) e e _ (record { key = refl; server = refl; head = refl; peer = refl; over = λ o. o }) (record { key = refl; server = refl; head = refl; peer = refl; over = λ o. o })
 
 pub keeps_replied : (s i st : ℕ) (t g : List ℕ) (now : ℕ) (e : Entry) → Keeps e (after_reply s i st t g now e)
-keeps_replied s i st t g now e = keeps_if (not e.is_server || not (e.final_status == 0)) e e _ (record { key = refl; server = refl; asked = refl; peer = refl; over = λ o. o })
-    (keeps_if (is_provisional st) e _ _ (record { key = refl; server = refl; asked = refl; peer = refl; over = λ o. o }) (record { key = refl; server = refl; asked = refl; peer = refl; over = λ o. o }))
+keeps_replied s i st t g now e = keeps_if (not e.is_server || not (e.final_status == 0)) e e _ (record { key = refl; server = refl; head = refl; peer = refl; over = λ o. o })
+    (keeps_if (is_provisional st) e _ _ (record { key = refl; server = refl; head = refl; peer = refl; over = λ o. o }) (record { key = refl; server = refl; head = refl; peer = refl; over = λ o. o }))
 
 keeps_offered : (s i : ℕ) (m : Message Start) (now : ℕ) (e : Entry) → Keeps e (after_any_reply s i m now e)
 keeps_offered s i m now e =
@@ -115,23 +115,23 @@ keeps_offered s i m now e =
     keeps_then e x (after_any_reply s i m now e) (keeps_with (reliable_response_of s i m (message_text m) now) e) (keeps_replied s i (head_of m).status (message_text m) (head_of m).to_tag now x)
 
 keeps_rang : (s now : ℕ) (e : Entry) → Keeps e (after_provisional s now e)
-keeps_rang s now e = keeps_if (e.is_early || not (e.final_status == 0)) e _ _ (record { key = refl; server = refl; asked = refl; peer = refl; over = λ o. o }) (record { key = refl; server = refl; asked = refl; peer = refl; over = λ o. o })
+keeps_rang s now e = keeps_if (e.is_early || not (e.final_status == 0)) e _ _ (record { key = refl; server = refl; head = refl; peer = refl; over = λ o. o }) (record { key = refl; server = refl; head = refl; peer = refl; over = λ o. o })
 
 keeps_finished : (s st now : ℕ) (e : Entry) → Keeps e (after_final s st now e)
-keeps_finished s st now e = keeps_if (not (is_invite e.head)) e (record e { is_terminated = true }) _ (record { key = refl; server = refl; asked = refl; peer = refl; over = λ o. refl })
-    (keeps_if (not (e.final_status == 0)) e _ _ (record { key = refl; server = refl; asked = refl; peer = refl; over = λ o. o }) (record { key = refl; server = refl; asked = refl; peer = refl; over = λ o. o }))
+keeps_finished s st now e = keeps_if (not (is_invite e.head)) e (record e { is_terminated = true }) _ (record { key = refl; server = refl; head = refl; peer = refl; over = λ o. refl })
+    (keeps_if (not (e.final_status == 0)) e _ _ (record { key = refl; server = refl; head = refl; peer = refl; over = λ o. o }) (record { key = refl; server = refl; head = refl; peer = refl; over = λ o. o }))
 
 pub keeps_answered : (s st now : ℕ) (e : Entry) → Keeps e (after_response s st now e)
 keeps_answered s st now e = keeps_if (is_provisional st) e (after_provisional s now e) (after_final s st now e) (keeps_rang s now e) (keeps_finished s st now e)
 
 pub keeps_acked : (s now : ℕ) (e : Entry) → Keeps e (after_failure_ack s now e)
-keeps_acked s now e = keeps_if _ e _ _ (record { key = refl; server = refl; asked = refl; peer = refl; over = λ o. o }) (record { key = refl; server = refl; asked = refl; peer = refl; over = λ o. o })
+keeps_acked s now e = keeps_if _ e _ _ (record { key = refl; server = refl; head = refl; peer = refl; over = λ o. o }) (record { key = refl; server = refl; head = refl; peer = refl; over = λ o. o })
 
 pub keeps_acked_2xx : (s : ℕ) (m : Head) (e : Entry) → Keeps e (after_ack_2xx s m e)
-keeps_acked_2xx s m e = keeps_if _ e _ _ (record { key = refl; server = refl; asked = refl; peer = refl; over = λ o. o }) (record { key = refl; server = refl; asked = refl; peer = refl; over = λ o. o })
+keeps_acked_2xx s m e = keeps_if _ e _ _ (record { key = refl; server = refl; head = refl; peer = refl; over = λ o. o }) (record { key = refl; server = refl; head = refl; peer = refl; over = λ o. o })
 
 keeps_kept : (t : List ℕ) (e : Entry) → Keeps e (with_kept_ack t e)
-keeps_kept t e = keeps_if (not e.is_server && e.is_refused) e _ _ (record { key = refl; server = refl; asked = refl; peer = refl; over = λ o. o }) (record { key = refl; server = refl; asked = refl; peer = refl; over = λ o. o })
+keeps_kept t e = keeps_if (not e.is_server && e.is_refused) e _ _ (record { key = refl; server = refl; head = refl; peer = refl; over = λ o. o }) (record { key = refl; server = refl; head = refl; peer = refl; over = λ o. o })
 
 pub keeps_made : (c : Change) (e : Entry) → Keeps e (change_effect c e)
 keeps_made (change_kind.Fire step) e = keeps_fired step e
@@ -142,22 +142,22 @@ keeps_made (change_kind.KeepAck text) e = keeps_kept text e
 keeps_made (change_kind.Settle own) e = keeps_settled own e
 
 pub keeps_hit : (k : ℕ) (f : Entry → Entry) (e : Entry) → Keeps e (f e) → Keeps e (change_of_key k f e)
-keeps_hit k f e a = keeps_if (e.key == k) e _ _ a (record { key = refl; server = refl; asked = refl; peer = refl; over = λ o. o })
+keeps_hit k f e a = keeps_if (e.key == k) e _ _ a (record { key = refl; server = refl; head = refl; peer = refl; over = λ o. o })
 
 keeps_heard : (s now : ℕ) (m : Message Start) (t : MessageClass) (e : Entry) → Keeps e (change_on_receipt s m now t e)
-keeps_heard s now m part.Fresh e = record { key = refl; server = refl; asked = refl; peer = refl; over = λ o. o }
-keeps_heard s now m part.Full e = record { key = refl; server = refl; asked = refl; peer = refl; over = λ o. o }
-keeps_heard s now m (part.Repeat j) e = record { key = refl; server = refl; asked = refl; peer = refl; over = λ o. o }
-keeps_heard s now m (part.RepeatedFinal j) e = record { key = refl; server = refl; asked = refl; peer = refl; over = λ o. o }
+keeps_heard s now m part.Fresh e = record { key = refl; server = refl; head = refl; peer = refl; over = λ o. o }
+keeps_heard s now m part.Full e = record { key = refl; server = refl; head = refl; peer = refl; over = λ o. o }
+keeps_heard s now m (part.Repeat j) e = record { key = refl; server = refl; head = refl; peer = refl; over = λ o. o }
+keeps_heard s now m (part.RepeatedFinal j) e = record { key = refl; server = refl; head = refl; peer = refl; over = λ o. o }
 keeps_heard s now m (part.Answer j) e = keeps_hit j (after_response s (head_of m).status now) e (keeps_answered s (head_of m).status now e)
 keeps_heard s now m (part.Acked j) e = keeps_hit j (after_failure_ack s now) e (keeps_acked s now e)
 keeps_heard s now m part.AckOf2xx e = keeps_acked_2xx s (head_of m) e
-keeps_heard s now m part.Stray e = record { key = refl; server = refl; asked = refl; peer = refl; over = λ o. o }
+keeps_heard s now m part.Stray e = record { key = refl; server = refl; head = refl; peer = refl; over = λ o. o }
 
 pub keeps_change : (s i : ℕ) (c : TransactionOp) (e : Entry) → Keeps e (change s i c e)
-keeps_change s i (DidBegin n) e = record { key = refl; server = refl; asked = refl; peer = refl; over = λ o. o }
+keeps_change s i (DidBegin n) e = record { key = refl; server = refl; head = refl; peer = refl; over = λ o. o }
 keeps_change s i (DidHear p m now t) e = keeps_heard s now m t e
-keeps_change s i (DidAsk p m now) e = record { key = refl; server = refl; asked = refl; peer = refl; over = λ o. o }
+keeps_change s i (DidAsk p m now) e = record { key = refl; server = refl; head = refl; peer = refl; over = λ o. o }
 keeps_change s i (DidReply j m now) e = keeps_hit j (after_any_reply s i m now) e (keeps_offered s i m now e)
 keeps_change s i (DidAck j m) e = keeps_hit j (with_kept_ack (message_text m)) e (keeps_kept (message_text m) e)
 keeps_change s i (DidFire j) e = keeps_hit j (after_timer s) e (keeps_fired s e)

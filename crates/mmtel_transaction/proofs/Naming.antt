@@ -63,7 +63,7 @@ module _ (b s m : List ℕ) (n : ℕ) where
   bound = match_key b s m n 0
 
   pub record Equivalent (x : MatchKey) : Type 0 where
-    pub told : x.hash ≡ hash_of b
+    pub hash : x.hash ≡ hash_of b
     pub id : x.id ≡ b
     pub from : x.from ≡ s
     pub method : x.method ≡ m
@@ -76,7 +76,7 @@ module _ (b s m : List ℕ) (n : ℕ) where
       let q = and_parts ((x.hash == hash_of b) && bytes_eq x.id b) (bytes_eq x.from s) p.0 in
       let r = and_parts (x.hash == hash_of b) (bytes_eq x.id b) q.0 in
       record {
-        told = eqb-true x.hash (hash_of b) r.0;
+        hash = eqb-true x.hash (hash_of b) r.0;
         id = (bytes_eq-Decides x.id b).0 r.1;
         from = (bytes_eq-Decides x.from s).0 q.1;
         method = (bytes_eq-Decides x.method m).0 p.1;
@@ -100,7 +100,7 @@ module _ (b s m : List ℕ) (n : ℕ) where
   not_before x h =
       let a = alike x h in
       same_parts (nat_cmp x.hash (hash_of b)) (slice_cmp nat_cmp x.id b) (slice_cmp nat_cmp x.from s) (slice_cmp nat_cmp x.method m) (nat_cmp x.number n) (nat_cmp x.key 0)
-      (ap (λ y. nat_cmp y (hash_of b)) a.told ∙ tied_itself nat_cmp_total (hash_of b))
+      (ap (λ y. nat_cmp y (hash_of b)) a.hash ∙ tied_itself nat_cmp_total (hash_of b))
       (ap (λ y. slice_cmp nat_cmp y b) a.id ∙ tied_itself nat_list_cmp_total b)
       (ap (λ y. slice_cmp nat_cmp y s) a.from ∙ tied_itself nat_list_cmp_total s)
       (ap (λ y. slice_cmp nat_cmp y m) a.method ∙ tied_itself nat_list_cmp_total m)
@@ -110,7 +110,7 @@ module _ (b s m : List ℕ) (n : ℕ) where
   -- for one with the same parts the bound says the same
   as_bound : (x y : MatchKey) → Equivalent x → match_cmp y x ≡ Less → ordering_then (nat_cmp y.hash (hash_of b)) (ordering_then (slice_cmp nat_cmp y.id b) (ordering_then (slice_cmp nat_cmp y.from s) (ordering_then (slice_cmp nat_cmp y.method m) (ordering_then (nat_cmp y.number n) (nat_cmp y.key x.key))))) ≡ Less
   as_bound x y a l =
-      ap (λ z. ordering_then (nat_cmp y.hash z) (ordering_then (slice_cmp nat_cmp y.id b) (ordering_then (slice_cmp nat_cmp y.from s) (ordering_then (slice_cmp nat_cmp y.method m) (ordering_then (nat_cmp y.number n) (nat_cmp y.key x.key)))))) (sym a.told)
+      ap (λ z. ordering_then (nat_cmp y.hash z) (ordering_then (slice_cmp nat_cmp y.id b) (ordering_then (slice_cmp nat_cmp y.from s) (ordering_then (slice_cmp nat_cmp y.method m) (ordering_then (nat_cmp y.number n) (nat_cmp y.key x.key)))))) (sym a.hash)
       ∙ (ap (λ z. ordering_then (nat_cmp y.hash x.hash) (ordering_then (slice_cmp nat_cmp y.id z) (ordering_then (slice_cmp nat_cmp y.from s) (ordering_then (slice_cmp nat_cmp y.method m) (ordering_then (nat_cmp y.number n) (nat_cmp y.key x.key)))))) (sym a.id)
       ∙ (ap (λ z. ordering_then (nat_cmp y.hash x.hash) (ordering_then (slice_cmp nat_cmp y.id x.id) (ordering_then (slice_cmp nat_cmp y.from z) (ordering_then (slice_cmp nat_cmp y.method m) (ordering_then (nat_cmp y.number n) (nat_cmp y.key x.key)))))) (sym a.from)
       ∙ (ap (λ z. ordering_then (nat_cmp y.hash x.hash) (ordering_then (slice_cmp nat_cmp y.id x.id) (ordering_then (slice_cmp nat_cmp y.from x.from) (ordering_then (slice_cmp nat_cmp y.method z) (ordering_then (nat_cmp y.number n) (nat_cmp y.key x.key)))))) (sym a.method)

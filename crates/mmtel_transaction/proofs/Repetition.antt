@@ -182,11 +182,11 @@ record Tracks (k : ℕ) (p : Peer) (m : Head) (e : Entry) : Type 0 where
   key : e.key ≡ k
   server : e.is_server ≡ true
   peer : e.peer ≡ p
-  asked : e.head ≡ m
+  head : e.head ≡ m
   serving : IsServing e
 
 tracks_more : (k : ℕ) (p : Peer) (m : Head) (e x : Entry) → Keeps e x → IsServing x → Tracks k p m e → Tracks k p m x
-tracks_more k p m e x w s t = record { key = w.key ∙ t.key; server = w.server ∙ t.server; peer = w.peer ∙ t.peer; asked = w.asked ∙ t.asked; serving = s }
+tracks_more k p m e x w s t = record { key = w.key ∙ t.key; server = w.server ∙ t.server; peer = w.peer ∙ t.peer; head = w.head ∙ t.head; serving = s }
 
 tracked : (k : ℕ) (p : Peer) (m : Head) (g h : List TransactionOp) (e : Entry) → IsRun (g ++ h) → Has e (live h) → Tracks k p m e → EndWasReported k g h ⊎ ((x : Entry) × Has x (live (g ++ h)) × Tracks k p m x)
 tracked k p m [] h e r f t = inr (e, f, t)
@@ -203,7 +203,7 @@ tracked_since h g p m t r =
     let e : Entry = new_server_entry (step_of h) (length (openings h)) p (head_of m) t in
     tracked (length (openings h)) p (head_of m) g (DidHear p m t part.Fresh ∷ h) e r
     (has_new (DidHear p m t part.Fresh) h e (inl refl))
-    (record { key = refl; server = refl; peer = refl; asked = refl; serving = record { live = refl; state = refl } })
+    (record { key = refl; server = refl; peer = refl; head = refl; serving = record { live = refl; state = refl } })
 
 repeat_if : (r a full : Bool) (o : Option Entry) (x : MessageClass) (e : Entry) → r ≡ true → a ≡ false → o ≡ Some e → cond r (cond a (ack_class o) (request_class full o)) x ≡ part.Repeat e.key
 repeat_if r a full o x e p q f = rw (p, q, f) refl
@@ -215,9 +215,9 @@ module _ (h : List TransactionOp) (r : IsRun h) (k : ℕ) (p q : Peer) (m n : Me
       let key : key_method (head_of n) ≡ (head_of n).method = ap (λ b. cond b invite (head_of n).method) i.other in
       of_server (head_of n) e (record {
         server = t.server;
-        branch = ap (λ (y : Head). y.branch) t.asked ∙ i.branch;
-        sent_by = ap (λ (y : Head). y.sent_by) t.asked ∙ i.sent_by;
-        method = ap (λ (y : Head). y.method) t.asked ∙ (i.method ∙ sym key);
+        branch = ap (λ (y : Head). y.branch) t.head ∙ i.branch;
+        sent_by = ap (λ (y : Head). y.sent_by) t.head ∙ i.sent_by;
+        method = ap (λ (y : Head). y.method) t.head ∙ (i.method ∙ sym key);
       })
 
   finds_it : find (is_server_of (head_of n)) (live h) ≡ Some e

@@ -74,13 +74,13 @@ module _ (k : ℕ) (f : Entry → Entry) (keeps : (e : Entry) → Keeps e (f e))
   key = own_key k f keeps es ds t.rises t.due i at old is
 
   server_kept : (x : Entry) → x ≡ f old → server_match x ≡ server_match old
-  server_kept x q = let w = keeps old in ap server_match q ∙ (rw (w.asked, w.key) refl)
+  server_kept x q = let w = keeps old in ap server_match q ∙ (rw (w.head, w.key) refl)
 
   call_kept : (x : Entry) → x ≡ f old → call_match x ≡ call_match old
-  call_kept x q = let w = keeps old in ap call_match q ∙ (rw (w.asked, w.key) refl)
+  call_kept x q = let w = keeps old in ap call_match q ∙ (rw (w.head, w.key) refl)
 
   client_kept : (x : Entry) → x ≡ f old → client_match x ≡ client_match old
-  client_kept x q = let w = keeps old in ap client_match q ∙ (rw (w.asked, w.key) refl)
+  client_kept x q = let w = keeps old in ap client_match q ∙ (rw (w.head, w.key) refl)
 
   kind_kept : (x : Entry) (b : Bool) → x ≡ f old → x.is_server ≡ b → old.is_server ≡ b
   kind_kept x b q s = sym ((keeps old).server) ∙ (ap (λ (e : Entry). e.is_server) (sym q) ∙ s)

@@ -157,7 +157,7 @@ impl WorkLink {
 impl Link for WorkLink {
     ghost input = { λ work. Some work };
 
-    ghost given = { λ _. None };
+    ghost output = { λ _. None };
 
     ghost calls = { λ _. None };
 

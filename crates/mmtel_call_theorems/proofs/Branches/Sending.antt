@@ -98,8 +98,8 @@ module _ (config : CallConfigView) (before : Asks) (tokens : TokensView) (s : St
   once_good : rows.Good Now config tokens.token tokens.drawn s → SendsOnce config.sip before tokens s
   once_good is = record {
     call_in = is.call_in (each_asked config Now s.output.out (λ method branch peer e. sent_behind config.sip before (requests_in s.output.out) method branch peer e));
-    out_in = is.desk_in.out_in;
-    text_in = is.desk_in.same;
+    out_in = is.output_in.out_in;
+    text_in = is.output_in.same;
   }
 
   now_sent : (c : Call) → CallWasSent (RequestWasSent config.sip before) c → CallWasSent Now c

@@ -132,7 +132,7 @@ module _ (asked : (method branch : List ℕ) → Peer → Type 0) (config : Call
   -- after a step the INVITEs of the call were sent, and its requests in flight, if those were that the step sends
   pub record Good (s : StepResult) : Type 0 where
     pub call_in : Each AskWasSent s.output.out → CallWasSent asked s.call
-    pub desk_in : Counted s.output
+    pub output_in : Counted s.output
 
   -- it draws nothing
   abbrev IsQuiet : Emit → Type 0
@@ -252,7 +252,7 @@ module _ (asked : (method branch : List ℕ) → Peer → Type 0) (config : Call
   AtStage x stage = StageWasSent sent x stage
 
   good : (s : StepResult) → At s.call.phase → Others s.call → Counted s.output → Good s
-  good s p k had = record { call_in = λ each. record { phase_in = p; others_in = k }; desk_in = had }
+  good s p k had = record { call_in = λ each. record { phase_in = p; others_in = k }; output_in = had }
 
   pub onward_good : (c : Call) (output : StepOutput) → At c.phase → Others c → Counted output → Good (step_result c output)
   onward_good c output p k had = good (step_result c output) p k had
@@ -348,13 +348,13 @@ module _ (asked : (method branch : List ℕ) → Peer → Type 0) (config : Call
       let method : List ℕ = method_of flight.kind in
       let given : RequestPartsView = relayed_parts config.sip (token told) passed m in
       let n : Message Start = request_of d method given in
-      let is : IsRequest method config.sip (token told) n = record { dialogue = d; number = next_number d.local_cseq; given = given; is = refl; from_there = refl; has_it = refl } in
+      let is : IsRequest method config.sip (token told) n = record { dialogue = d; number = next_number d.local_cseq; parts = given; is = refl; from_there = refl; has_it = refl } in
       record {
         call_in = λ each.
             let was : asked method (token told) d.peer = each_last AskWasSent told.out (emit.Ask d.peer n) each method (token told) is in
             let its : RelayedWasSent asked flight = subst (λ (branch : List ℕ). asked method branch flight.exchange.invite.dialogue.peer) (sym of_branch) (subst (asked method (token told)) (sym to_peer) was) in
             record { phase_in = p; others_in = with_in_flight _ c (each_append (RelayedWasSent asked) c.relayed (flight ∷ []) k.in_flight_in (its, tt)) k };
-        desk_in = asked_in method d.peer n told waited is had;
+        output_in = asked_in method d.peer n told waited is had;
       }
 
   prack_refused_transition : (key : TKey) (m : MessageView) (c : Call) (output : StepOutput) → At c.phase → Others c → Counted output → Good (on_refused_prack config key m c output)
@@ -438,14 +438,14 @@ module _ (asked : (method branch : List ℕ) → Peer → Type 0) (config : Call
       let d : Dialogue = attempt_dialog_of o aim output in
       let third : StepOutput = after_draw (after_draw output) in
       let m : Message Start = invite_of d config.sip (token third) shown waiting o.invite.parsed in
-      let is : IsInvite config.sip (token third) m = record { dialogue = d; number = 1; given = relayed_parts config.sip (token third) (shown ++ alert_lines waiting) o.invite.parsed; is = refl; from_there = refl; has_it = refl } in
+      let is : IsInvite config.sip (token third) m = record { dialogue = d; number = 1; parts = relayed_parts config.sip (token third) (shown ++ alert_lines waiting) o.invite.parsed; is = refl; from_there = refl; has_it = refl } in
       let offered : StepOutput = with_emit (emit.Ask aim.peer m) (after_draw third) in
       let arm : Emit = emit.Arm o.number (due.Cap (next_attempt c)) (at + max_attempt_time) in
       record {
         call_in = λ each.
             let was : sent (token third) aim.peer = each_last AskWasSent output.out (emit.Ask aim.peer m) (each_front AskWasSent offered.out (arm ∷ []) each) (codes "INVITE") (token third) is in
             record { phase_in = (was, was); others_in = k };
-        desk_in = emit_in arm offered (λ n. refl) (asked_in (codes "INVITE") aim.peer m third refl is (drew_in (after_draw output) (drew_in output had)));
+        output_in = emit_in arm offered (λ n. refl) (asked_in (codes "INVITE") aim.peer m third refl is (drew_in (after_draw output) (drew_in output had)));
       }
 
   abbrev Diverts : ℕ → SnapshotView → Leg → Type 0
@@ -676,12 +676,12 @@ module _ (asked : (method branch : List ℕ) → Peer → Type 0) (config : Call
       let d : Dialogue = leg.dialogue in
       let given : RequestPartsView = relayed_parts config.sip (token output) (copied_across config c x side m) m.parsed in
       let n : Message Start = request_of d (codes "INVITE") given in
-      let is : IsInvite config.sip (token output) n = record { dialogue = d; number = next_number d.local_cseq; given = given; is = refl; from_there = refl; has_it = refl } in
+      let is : IsInvite config.sip (token output) n = record { dialogue = d; number = next_number d.local_cseq; parts = given; is = refl; from_there = refl; has_it = refl } in
       record {
         call_in = λ each.
             let was : sent (token output) d.peer = each_last AskWasSent output.out (emit.Ask d.peer n) each (codes "INVITE") (token output) is in
             record { phase_in = (was, with_leg_sent (token output) (other_side side) (leg_after_invite leg) x was); others_in = k };
-        desk_in = asked_in (codes "INVITE") d.peer n output refl is had;
+        output_in = asked_in (codes "INVITE") d.peer n output refl is had;
       }
 
   invited_good : (x : EstablishedLegs) (side : Side) (key : TKey) (m : MessageView) (c : Call) (output : StepOutput) → Others c → Counted output → Good (on_reinvite config x side key m c output)
@@ -867,8 +867,8 @@ module _ (asked : (method branch : List ℕ) → Peer → Type 0) (config : Call
   -- ---- INVITEs for which the call does not wait
 
   record GoodRest (rest : AfterResponse) : Type 0 where
-    left_in : IfSome rest.remaining (AbandonedWasSent sent)
-    desk_in : Counted rest.output
+    remaining_in : IfSome rest.remaining (AbandonedWasSent sent)
+    output_in : Counted rest.output
 
   if_rest : (b : Bool) (one two : AfterResponse) → GoodRest one → GoodRest two → GoodRest (if b then one else two)
   if_rest true one two e f = e
@@ -877,13 +877,13 @@ module _ (asked : (method branch : List ℕ) → Peer → Type 0) (config : Call
   late_rest : (l : AbandonedInvite) (output : StepOutput) → AbandonedWasSent sent l → Counted output → GoodRest (after_due_cancel config.sip l output)
   late_rest l output is had =
       if_rest l.invite.cancelled (record { remaining = Some l; output = output }) (record { remaining = Some (with_invite l (record l.invite { cancelled = true })); output = with_cancel config.sip l.invite output })
-      (record { left_in = is; desk_in = had }) (record { left_in = is; desk_in = cancel_sent_in l.invite output had })
+      (record { remaining_in = is; output_in = had }) (record { remaining_in = is; output_in = cancel_sent_in l.invite output had })
 
   success_rest : (l : AbandonedInvite) (remote : Remote) (o : Option Dialogue) (output : StepOutput) → AbandonedWasSent sent l → Counted output → GoodRest (on_success_in config.sip l remote o output)
-  success_rest l remote (Some d) output is had = record { left_in = is; desk_in = acked_in d output had }
+  success_rest l remote (Some d) output is had = record { remaining_in = is; output_in = acked_in d output had }
   success_rest l remote None output is had =
       let d : Dialogue = left_ones.dialogue_of_success l.in_dialog l.invite.early l.invite.early_cseq l.invite.dialogue remote in
-      record { left_in = is; desk_in = bye_in d (with_ack config.sip d output) (acked_in d output had) }
+      record { remaining_in = is; output_in = bye_in d (with_ack config.sip d output) (acked_in d output had) }
 
   late_response : (key : TKey) (m : ParsedMessage) (l : AbandonedInvite) (output : StepOutput) → AbandonedWasSent sent l → Counted output → GoodRest (left_ones.on_response config.sip key m l output)
   late_response key m l output is had =
@@ -893,7 +893,7 @@ module _ (asked : (method branch : List ℕ) → Peer → Type 0) (config : Call
       (late_rest said output is had)
       (if_rest (nat_lt (status_of m.start) 300) (on_success config.sip known (remote_of Callee m.lines) output) (record { remaining = None; output = with_final_ack config.sip key l.invite m output })
       (success_rest known (remote_of Callee m.lines) (ended_dialog known (remote_of Callee m.lines).tag) output is had)
-      (record { left_in = tt; desk_in = final_acked_in key l.invite m output had }))
+      (record { remaining_in = tt; output_in = final_acked_in key l.invite m output had }))
 
   abandoned_transition : (key : TKey) (m : MessageView) (at : ℕ) (o : Option AbandonedInvite) (c : Call) (output : StepOutput) → IfSome o (AbandonedWasSent sent) → At c.phase → Others c → Counted output → Good (on_response_abandoned config key m at o c output)
   abandoned_transition key m at None c output e p k had = onward_good c output p k had
@@ -902,11 +902,11 @@ module _ (asked : (method branch : List ℕ) → Peer → Type 0) (config : Call
       let is : GoodRest rest = late_response key m.parsed l output e had in
       good (with_abandoned_rest at rest c) p
       (record {
-        abandoned_in = each_append (AbandonedWasSent sent) (without_at at c.abandoned) (option_to_list rest.remaining) (each_without (AbandonedWasSent sent) at c.abandoned k.abandoned_in) (each_option (AbandonedWasSent sent) rest.remaining is.left_in);
+        abandoned_in = each_append (AbandonedWasSent sent) (without_at at c.abandoned) (option_to_list rest.remaining) (each_without (AbandonedWasSent sent) at c.abandoned k.abandoned_in) (each_option (AbandonedWasSent sent) rest.remaining is.remaining_in);
         answered_in = k.answered_in;
         in_flight_in = k.in_flight_in;
       })
-      is.desk_in
+      is.output_in
 
   again_sent : (t : AnsweredInvite) (o : Option AbandonedInvite) → IfSome o (AbandonedWasSent sent) → IfSome (answered_after t o) (AnsweredWasSent sent)
   again_sent t None e = tt
@@ -920,10 +920,10 @@ module _ (asked : (method branch : List ℕ) → Peer → Type 0) (config : Call
       (record {
         abandoned_in = k.abandoned_in;
         answered_in = each_append (AnsweredWasSent sent) (without_at at c.answered_invites) (option_to_list (answered_after t rest.remaining)) (each_without (AnsweredWasSent sent) at c.answered_invites k.answered_in)
-            (each_option (AnsweredWasSent sent) (answered_after t rest.remaining) (again_sent t rest.remaining is.left_in));
+            (each_option (AnsweredWasSent sent) (answered_after t rest.remaining) (again_sent t rest.remaining is.remaining_in));
         in_flight_in = k.in_flight_in;
       })
-      is.desk_in
+      is.output_in
 
   acked_again_in : (t : AnsweredInvite) (o : Option (List ℕ)) (output : StepOutput) → Counted output → Counted (with_retransmitted_ack t o output)
   acked_again_in t None output had = had

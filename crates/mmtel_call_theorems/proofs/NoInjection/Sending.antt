@@ -146,7 +146,7 @@ asked_for_no_injection acks sip method d passed m output is e f had =
 -- ---- ACKs of a 2xx
 
 ack_no_injection : (acks : List ReceivedAck) (d : Dialogue) (given : RequestPartsView) → IsPassedTo acks d given → DialogueHasNoInjection d → RequestPartsHaveNoInjection given → IsTextOfAck acks (message_text (ack_of d given))
-ack_no_injection acks d given passes is had = record { dialogue = d; given = given; passes = passes; clean = request_no_injection d (unwrap_or d.invite_cseq 0) (codes "ACK") given is refl had; is = refl }
+ack_no_injection acks d given passes is had = record { dialogue = d; parts = given; passes = passes; no_injection = request_no_injection d (unwrap_or d.invite_cseq 0) (codes "ACK") given is refl had; is = refl }
 
 pub ack_text_no_injection : (acks : List ReceivedAck) (sip : Addr) (d : Dialogue) (branch : List ℕ) → DialogueHasNoInjection d → HasNoInjection branch → IsTextOfAck acks (ack_text sip d branch)
 unfolding ack_text

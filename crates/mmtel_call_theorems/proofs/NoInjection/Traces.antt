@@ -309,12 +309,12 @@ finish_emits_have_no_injection acks s received side at output is each among had 
 -- ---- their texts
 
 own_fields : (m : Message StartLine) → MessageHasNoInjection m → HasOwnFields m
-own_fields m is = record { parted = splits m is; clean = cleans m is }
+own_fields m is = record { parted = splits m is; no_injection = cleans m is }
 
 emit_lines : (acks : List ReceivedAck) (e : Emit) → EmitHasNoInjection acks e → SendsOwnFields acks e
 emit_lines acks (emit.Ask peer m) is = own_fields m is
 emit_lines acks (emit.Reply key m) is = own_fields m is
-emit_lines acks (emit.Plain peer text) is = (is.dialogue, is.given, is.passes, is.is, own_fields (ack_of is.dialogue is.given) is.clean)
+emit_lines acks (emit.Plain peer text) is = (is.dialogue, is.parts, is.passes, is.is, own_fields (ack_of is.dialogue is.parts) is.no_injection)
 emit_lines acks (emit.Ack key m) is = own_fields m is
 emit_lines acks (emit.Settled key own) is = tt
 emit_lines acks (emit.Arm call what at) is = tt

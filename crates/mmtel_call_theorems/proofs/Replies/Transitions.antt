@@ -111,7 +111,7 @@ module _ (own : ℕ → Bool) (config : CallConfigView) (before : List Emit) whe
   -- after a step the call has requests of these transactions, and its replies are in them
   pub record Good (s : StepResult) : Type 0 where
     pub call_in : CallIsOf own s.call
-    pub desk_in : Replied s.output
+    pub output_in : Replied s.output
 
   more_in : (out more : List Emit) → Each (IsRepliedIn own) more → Replies out → Replies (out ++ more)
   more_in out more all had = record {
@@ -187,7 +187,7 @@ module _ (own : ℕ → Bool) (config : CallConfigView) (before : List Emit) whe
   AtStage stage = StageIsOf own stage
 
   good : (s : StepResult) → At s.call.phase → Opens s.call → Replied s.output → Good s
-  good s p k had = record { call_in = record { opening = k.0; phase = p; in_flight = k.1 }; desk_in = had }
+  good s p k had = record { call_in = record { opening = k.0; phase = p; in_flight = k.1 }; output_in = had }
 
   onward_good : (c : Call) (output : StepOutput) → At c.phase → Opens c → Replied output → Good (step_result c output)
   onward_good c output p k had = good (step_result c output) p k had

@@ -116,7 +116,7 @@ module _ (config : CallConfigView) (c : Call) (w : Session) (seen : IsSessionObs
       ((new : List Emit) → (accepts ≡ false → list_any is_accepted new ≡ false) → passed_in received new ≡ None) →
       IsSessionObserved config.timer s.call (next_observed at own received (items_added before s.output.out) w)
   stays_observed at received accepts before s g none =
-      let adds = g.desk_in in
+      let adds = g.output_in in
       let told : next_observed at own received (items_added before s.output.out) w ≡ session_after_success at w None [] =
       ap (λ out. next_observed at own received out w) (added_new before adds.new s.output.out adds.out)
       ∙ (λ i. session_after_success at w (none adds.new adds.accepted i) (adds.none i)) in
@@ -146,7 +146,7 @@ first_observed s =
     record {
       number = g.call_in.0;
       most = omega arith;
-      armed = ap (expiries_of s.arrival.number) (added_new s.output.out g.desk_in.new (first_step s).output.out g.desk_in.out) ∙ g.desk_in.none;
+      armed = ap (expiries_of s.arrival.number) (added_new s.output.out g.output_in.new (first_step s).output.out g.output_in.out) ∙ g.output_in.none;
       least = tt;
       lower = λ few. tt;
     }
@@ -176,7 +176,7 @@ ends_observed config at c output w seen =
     let g = rows.finished_good config own c.successes output.out at c output (refl, refl) (rows.nothing_yet config own c.successes output.out false output refl) in
     let out = (call_finish config at c output).output.out in
     subst (λ armed. IsSessionObserved config.timer (call_finish config at c output).call (session_after_success at w None armed))
-    (sym (ap (expiries_of own) (added_new output.out g.desk_in.new out g.desk_in.out) ∙ g.desk_in.none))
+    (sym (ap (expiries_of own) (added_new output.out g.output_in.new out g.output_in.out) ∙ g.output_in.none))
     (kept config.timer c w seen at (call_finish config at c output).call g.call_in.0)
 
 traces_observed : CallsContinue → (s : TraceStart) (received : List TraceStep) → IsSessionObserved s.config.timer (call_after s received) (session_after s received)

@@ -242,13 +242,13 @@ module _ (config : CallConfigView) (own : CallNo) (count : ℕ) (before : List E
   -- a step arms no deadline of a session, and the number of the call does not change; it sends no 2xx except where it `accepts`
   pub record Stays (accepts : Bool) (s : StepResult) : Type 0 where
     pub call_in : Opens s.call
-    pub desk_in : Adds accepts s.output
+    pub output_in : Adds accepts s.output
 
   abbrev pub Good : StepResult → Type 0
   Good s = Stays true s
 
   good : (s : StepResult) → Opens s.call → Quiet s.output → Good s
-  good s k had = record { call_in = k; desk_in = had }
+  good s k had = record { call_in = k; output_in = had }
 
   onward_good : (c : Call) (output : StepOutput) → Opens c → Quiet output → Good (step_result c output)
   onward_good c output k had = good (step_result c output) k had
@@ -443,7 +443,7 @@ module _ (config : CallConfigView) (own : CallNo) (count : ℕ) (before : List E
       let at : ℕ = now.at in
       let had : Quiet output = quiet_of output unsaid in
       goes_if at (received_of m) (nat_lt code 101) (on_trying key x c output) _
-      (λ low. SaysNone (record { call_in = k; desk_in = unsaid }))
+      (λ low. SaysNone (record { call_in = k; output_in = unsaid }))
       (λ high. goes_if at (received_of m) (nat_lt code 200) (ringing.on_provisional config at x key m code c output) _
       (λ low. HearsNone (none_of m (low_status code low)) (proceeding_good at x key m code c output k had))
       (λ above. goes_if at (received_of m) (nat_lt code 300) (on_answer config at x key m c output) (on_failure config now x key m code c output)
@@ -716,7 +716,7 @@ module _ (config : CallConfigView) (own : CallNo) (count : ℕ) (before : List E
       (cancelled_across_good x asking q (established x (Reinviting asking q) c) output k had) (staged_good x (Reinviting asking q) c output k had)
 
   nothing_said : (c : Call) (output : StepOutput) → Opens c → NoSuccess output → Stays false (step_result c output)
-  nothing_said c output k unsaid = record { call_in = k; desk_in = unsaid }
+  nothing_said c output k unsaid = record { call_in = k; output_in = unsaid }
 
   response_at_goes : (stage : Stage) (at : ℕ) (x : EstablishedLegs) (key : TKey) (m : MessageView) (c : Call) (output : StepOutput) → Opens c → NoSuccess output → Goes at (received_of m) (on_response_at stage config at x key m (established x stage c) output)
   response_at_goes (Answered waiting success) at x key m c output k is = SaysNone (nothing_said (established x (Answered waiting success) c) output k is)
@@ -743,7 +743,7 @@ module _ (config : CallConfigView) (own : CallNo) (count : ℕ) (before : List E
   -- ---- INVITEs for which the call does not wait
 
   no_success : (s : StepResult) → Opens s.call → NoSuccess s.output → Stays false s
-  no_success s k had = record { call_in = k; desk_in = had }
+  no_success s k had = record { call_in = k; output_in = had }
 
   onward_no_success : (c : Call) (output : StepOutput) → Opens c → NoSuccess output → Stays false (step_result c output)
   onward_no_success c output k had = no_success (step_result c output) k had

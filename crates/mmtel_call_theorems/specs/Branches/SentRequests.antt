@@ -35,10 +35,10 @@ pub use Rattle.mmtel_call_theorems.specs.NoInjection.Emits.{Each}
 pub record IsRequest (method : List ℕ) (sip : Addr) (branch : List ℕ) (m : Message Start) : Type 0 where
   pub dialogue : Dialogue
   pub number : ℕ
-  pub given : RequestPartsView
-  pub is : m ≡ request_numbered dialogue number method given
-  pub from_there : given.sip ≡ sip
-  pub has_it : given.branch ≡ branch
+  pub parts : RequestPartsView
+  pub is : m ≡ request_numbered dialogue number method parts
+  pub from_there : parts.sip ≡ sip
+  pub has_it : parts.branch ≡ branch
 
 -- an INVITE of the server with this branch
 abbrev pub IsInvite : Addr → (branch : List ℕ) → Message Start → Type 0

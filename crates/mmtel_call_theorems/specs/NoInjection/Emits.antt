@@ -18,10 +18,10 @@ Each P (x ∷ xs) = P x × Each P xs
 -- nothing, or what is relayed of one of these ACKs that were received
 pub record IsTextOfAck (acks : List ReceivedAck) (text : List ℕ) : Type 0 where
   pub dialogue : Dialogue
-  pub given : RequestPartsView
-  pub passes : IsPassedTo acks dialogue given
-  pub clean : MessageHasNoInjection (ack_of dialogue given)
-  pub is : text ≡ message_text (ack_of dialogue given)
+  pub parts : RequestPartsView
+  pub passes : IsPassedTo acks dialogue parts
+  pub no_injection : MessageHasNoInjection (ack_of dialogue parts)
+  pub is : text ≡ message_text (ack_of dialogue parts)
 
 abbrev pub EmitHasNoInjection : (acks : List ReceivedAck) → Emit → Type 0
 EmitHasNoInjection acks (emit.Ask peer m) = MessageHasNoInjection m

@@ -41,4 +41,4 @@ written_line l = l.0 ++ (codes ": " ++ l.1)
 -- its text, split at the line ends, is its start line, its header fields, an empty line and its body, and nothing else
 pub record HasOwnFields (m : Message Start) : Type 0 where
   pub parted : split (message_text m) ≡ start_text m.start ∷ (map written_line m.lines ++ [] ∷ split m.body)
-  pub clean : HaveNoInjection (start_text m.start ∷ map written_line m.lines)
+  pub no_injection : HaveNoInjection (start_text m.start ∷ map written_line m.lines)

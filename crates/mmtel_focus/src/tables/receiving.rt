@@ -34,7 +34,7 @@ impl Rooms {
             ≡ (view_effects_of_op step.now.config (Receives (record { at = step.now.at; tokens = tokens.old; signal = signal.now })) self.old).output.tokens) }
     {
         let mut effects = Effects::new(mem::replace(tokens, no_tokens()));
-        let heard = dispatch(
+        let received = dispatch(
             &mut self.live,
             &mut self.abandoned,
             step,
@@ -42,7 +42,7 @@ impl Rooms {
             &mut effects,
         );
         mem::swap(tokens, &mut effects.output.tokens);
-        heard?;
+        received?;
         self.settle(step.alloc, effects)
     }
 
@@ -79,12 +79,12 @@ impl Rooms {
             return Err(NoMemory);
         }
         let step = self.step(alloc, peers, accounts, now);
-        let heard = self.receive(&step, &signal, tokens);
+        let received = self.receive(&step, &signal, tokens);
         drop(signal);
-        if heard.is_err() {
+        if received.is_err() {
             self.has_failed = true;
         }
-        heard
+        received
     }
 
     /// Notifies a participant of the status of this code, and keeps what that abandons and closes.
@@ -103,9 +103,9 @@ impl Rooms {
             ≡ (view_effects_of_op step.now.config (Notifies room.0 seat code tokens.old) self.old).output.tokens) }
     {
         let mut effects = Effects::new(mem::replace(tokens, no_tokens()));
-        let told = notify(&mut self.live, step, room, seat, code, &mut effects);
+        let notified = notify(&mut self.live, step, room, seat, code, &mut effects);
         mem::swap(tokens, &mut effects.output.tokens);
-        told?;
+        notified?;
         self.settle(step.alloc, effects)
     }
 
@@ -141,10 +141,10 @@ impl Rooms {
             return Err(NoMemory);
         }
         let step = self.step(alloc, peers, accounts, beginning());
-        let told = self.send_notify(&step, room, seat, code, tokens);
-        if told.is_err() {
+        let notified = self.send_notify(&step, room, seat, code, tokens);
+        if notified.is_err() {
             self.has_failed = true;
         }
-        told
+        notified
     }
 }

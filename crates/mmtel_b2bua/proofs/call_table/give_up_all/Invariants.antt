@@ -1,5 +1,5 @@
 use Rattle.std.proofs.Common.{vec_len}
 use Rattle.mmtel_b2bua.proofs.call_table.give_up_all.Given as goal
 
-abbrev pub decreases-given : goal.decreases-given
-decreases-given l = vec_len l.entries
+abbrev pub decreases-entries : goal.decreases-entries
+decreases-entries l = vec_len l.entries

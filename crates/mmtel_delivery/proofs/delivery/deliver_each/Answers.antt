@@ -7,9 +7,9 @@ use Rattle.mmtel_delivery.specs.Delivery.{Delivered}
 
 pub loop-offer-init : goal.loop-offer-init
 loop-offer-init g c = record {
-  delivered = delivered_none c.args.peers.now.known (g.L.Link.given c.args.link.now);
-  lost = lost_none (g.L.Link.given c.args.link.now) (g.L.Link.delivery_faults c.args.link.now);
-  counted = counted_none (g.L.Link.given c.args.link.now) (g.L.Link.delivery_faults c.args.link.now);
+  delivered = delivered_none c.args.peers.now.known (g.L.Link.output c.args.link.now);
+  lost = lost_none (g.L.Link.output c.args.link.now) (g.L.Link.delivery_faults c.args.link.now);
+  counted = counted_none (g.L.Link.output c.args.link.now) (g.L.Link.delivery_faults c.args.link.now);
   received = refl;
   bound = refl;
   arrival_faults = refl;
@@ -21,7 +21,7 @@ loop-offer-preserved g c =
     let i = c.loop-offer.offer-index in
     let es = c.args.offers.now in
     record {
-      delivered = subst (λ (l : List Offer). Delivered known l (g.L.Link.given c.args.link.now) (g.L.Link.given c.deliver.new.link))
+      delivered = subst (λ (l : List Offer). Delivered known l (g.L.Link.output c.args.link.now) (g.L.Link.output c.deliver.new.link))
           (sym (take_next i es c.offer-item.result c.loop-offer-test.true c.offer-item.is))
           (delivered_more known (take i es) (c.offer-item.result ∷ []) _ _ _ c.loop-offer.invariant.delivered c.in_ok-deliver.ensures.delivered);
       lost = lost_then _ _ _ _ _ _ c.loop-offer.invariant.lost c.deliver.ensures.lost;
@@ -34,4 +34,4 @@ loop-offer-preserved g c =
 pub returns-in_err-deliver-clause-delivered : goal.returns-in_err-deliver-clause-delivered
 returns-in_err-deliver-clause-delivered g c =
     delivered_prefix c.args.peers.now.known c.loop-offer.offer-index c.args.offers.now _ _ c.from_residual.result c.from_residual.ensures.0
-    (subst (λ (o : Option LinkOutput). Delivered c.args.peers.now.known (take c.loop-offer.offer-index c.args.offers.now) (g.L.Link.given c.args.link.now) o) (sym c.in_err-deliver.ensures.none) c.loop-offer.invariant.delivered)
+    (subst (λ (o : Option LinkOutput). Delivered c.args.peers.now.known (take c.loop-offer.offer-index c.args.offers.now) (g.L.Link.output c.args.link.now) o) (sym c.in_err-deliver.ensures.none) c.loop-offer.invariant.delivered)

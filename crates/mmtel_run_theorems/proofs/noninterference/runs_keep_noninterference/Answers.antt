@@ -12,16 +12,16 @@ returns c =
       new = c.transactions_are_of_one_peer.ensures.received;
       heads = c.heads_see_no_private_field.ensures.received;
       responses = c.responses_are_masked.ensures.one_head;
-      kin = c.equal_masks_are_equivalent.ensures.equivalent;
+      masks = c.equal_masks_are_equivalent.ensures.equivalent;
       wholes = c.messages_have_nothing_private.ensures.law;
       tables = c.tables_stay_equivalent.ensures.law;
       laws = record {
         answers = c.equivalent_tables_answer_equally.ensures.law;
-        rooms = c.conferences_stay_equivalent.ensures.tables;
+        conferences = c.conferences_stay_equivalent.ensures.tables;
         seen = c.conferences_stay_equivalent.ensures.steps;
-        seats = c.equivalent_rooms_answer_equally.ensures.law;
+        participants = c.equivalent_rooms_answer_equally.ensures.law;
       };
-      told = c.records_are_those_kept.ensures.reported;
+      records = c.records_are_those_kept.ensures.reported;
     } in
     let keeps = c.transactions_are_of_one_peer.ensures.kept in
     let its = c.puts_change_one_account.ensures.its in
@@ -31,7 +31,7 @@ returns c =
     let looks = renamed_are_looked_up_equally c.lookups_skip_other_accounts.ensures.agree in
     let nobody = nobody_is_renamed c.lookups_skip_other_accounts.ensures.none in
     let calls = c.calls_send_once.ensures in
-    let once : Once = record { steps = calls.step; openings = calls.opening; ends = calls.end; lent = calls.detached; returned = calls.restored; conferences = c.conferences_send_once.ensures.once } in
+    let once : Once = record { steps = calls.step; openings = calls.opening; ends = calls.end; detached = calls.detached; restored = calls.restored; conferences = c.conferences_send_once.ensures.once } in
     record {
       both = secret;
       one = one below keeps its others tied looks nobody;

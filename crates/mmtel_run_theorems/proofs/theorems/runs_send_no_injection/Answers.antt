@@ -8,5 +8,5 @@ returns c =
     record {
       law =
           sends_no_injection sends.operations sends.legs c.conferences_send_no_injection.ensures.no_injection c.records_are_those_kept.ensures.reported c.reading_leaves_no_injection.ensures.law
-          (λ m clean. record { parted = lines.split m clean; clean = lines.no_injection m clean });
+          (λ m clean. record { parted = lines.split m clean; no_injection = lines.no_injection m clean });
     }

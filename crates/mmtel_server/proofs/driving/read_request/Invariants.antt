@@ -11,7 +11,7 @@ invariant-loop-read g l = record {
   long : l._read ≤ length l.bytes;
   needed : IsNeeded (length l.bytes) l.bytes;
   delivery_faults : g.N.Link.delivery_faults l.link ≡ g.N.Link.delivery_faults l.fn.link;
-  output : g.N.Link.given l.link ≡ g.N.Link.given l.fn.link;
+  output : g.N.Link.output l.link ≡ g.N.Link.output l.fn.link;
   calls : IsCalledTimes (g.N.Link.calls l.fn.link) (g.N.Link.calls l.link) l._read;
   arrival_faults : g.N.Link.arrival_faults l.link ≡ g.N.Link.arrival_faults l.fn.link;
 }

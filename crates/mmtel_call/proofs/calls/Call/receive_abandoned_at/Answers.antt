@@ -14,15 +14,17 @@ always (Err e) p = tt
 pub returns-in-None-clause-output : goal.returns-in-None-clause-output
 returns-in-None-clause-output c =
     c.in_ok-receive_abandoned.ensures.output
-    ∙ (ap (λ (a : Addr). (on_response a c.args.key c.args.message.now.parsed c.remove-loose.result c.args.output.now).output) c.sip.ensures
-    ∙ ap (λ (l : Option AbandonedInvite). (on_response_abandoned c.args.step.now.config.now c.args.key c.args.message.now c.args.at l c.args.self.now c.args.output.now).output) (sym c.remove-loose.ensures.handed_out))
+    ∙ (ap (λ (a : Addr). (on_response a c.args.key c.args.message.now.parsed c.remove-abandoned.result c.args.output.now).output) c.sip.ensures
+    ∙ ap (λ (l : Option AbandonedInvite). (on_response_abandoned c.args.step.now.config.now c.args.key c.args.message.now c.args.at l c.args.self.now c.args.output.now).output)
+    (sym c.remove-abandoned.ensures.handed_out))
 
 pub returns-in-Some-clause-output : goal.returns-in-Some-clause-output
 returns-in-Some-clause-output c =
     always c.push_item.result
     (c.in_ok-receive_abandoned.ensures.output
-    ∙ (ap (λ (a : Addr). (on_response a c.args.key c.args.message.now.parsed c.remove-loose.result c.args.output.now).output) c.sip.ensures
-    ∙ ap (λ (l : Option AbandonedInvite). (on_response_abandoned c.args.step.now.config.now c.args.key c.args.message.now c.args.at l c.args.self.now c.args.output.now).output) (sym c.remove-loose.ensures.handed_out)))
+    ∙ (ap (λ (a : Addr). (on_response a c.args.key c.args.message.now.parsed c.remove-abandoned.result c.args.output.now).output) c.sip.ensures
+    ∙ ap (λ (l : Option AbandonedInvite). (on_response_abandoned c.args.step.now.config.now c.args.key c.args.message.now c.args.at l c.args.self.now c.args.output.now).output)
+    (sym c.remove-abandoned.ensures.handed_out)))
 
 mapped : {T E P Q : Type 0} (r : Result T E) → (P → Q) → OnOk r P → OnOk r Q
 mapped (Ok x) f p = f p
@@ -31,15 +33,15 @@ mapped (Err e) f p = tt
 -- what remains of it is placed last
 pub returns-in-Some-clause-call : goal.returns-in-Some-clause-call
 returns-in-Some-clause-call c =
-    let left : Some c.in-Some.left ≡ (on_response c.args.step.now.config.now.sip c.args.key c.args.message.now.parsed c.remove-loose.result c.args.output.now).remaining =
+    let left : Some c.in-Some.remaining ≡ (on_response c.args.step.now.config.now.sip c.args.key c.args.message.now.parsed c.remove-abandoned.result c.args.output.now).remaining =
     sym c.in-Some.is
     ∙ (c.in_ok-receive_abandoned.ensures.remaining
-    ∙ ap (λ (a : Addr). (on_response a c.args.key c.args.message.now.parsed c.remove-loose.result c.args.output.now).remaining) c.sip.ensures) in
+    ∙ ap (λ (a : Addr). (on_response a c.args.key c.args.message.now.parsed c.remove-abandoned.result c.args.output.now).remaining) c.sip.ensures) in
     mapped c.push_item.result
     (λ filed. ap (λ (ls : List AbandonedInvite). record c.args.self.now { abandoned = ls })
     (filed
-    ∙ (ap (λ (ls : List AbandonedInvite). ls ++ c.in-Some.left ∷ []) c.remove-loose.ensures.rest
+    ∙ (ap (λ (ls : List AbandonedInvite). ls ++ c.in-Some.remaining ∷ []) c.remove-abandoned.ensures.rest
     ∙ ap (λ (l : Option AbandonedInvite). without_at c.args.at c.args.self.now.abandoned ++ option_to_list l) left))
     ∙ ap (λ (l : Option AbandonedInvite). (on_response_abandoned c.args.step.now.config.now c.args.key c.args.message.now c.args.at l c.args.self.now c.args.output.now).call)
-    (sym c.remove-loose.ensures.handed_out))
+    (sym c.remove-abandoned.ensures.handed_out))
     c.push_item.ensures.filed

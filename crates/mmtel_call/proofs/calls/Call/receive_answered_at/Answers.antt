@@ -51,18 +51,18 @@ comes_late : (c : Then-not-is_success) →
     on_response_answered c.args.step.now.config.now c.args.key c.args.message.now c.args.at (slice_get c.args.self.now.answered_invites c.args.at) c.args.self.now c.args.output.now
     ≡ step_result c.args.self.now c.args.output.now
 comes_late c =
-    let its : slice_get c.args.self.now.answered_invites c.args.at ≡ Some c.in-Some.taken.now = grind (arith, common_steps, gets) in
+    let its : slice_get c.args.self.now.answered_invites c.args.at ≡ Some c.in-Some.answered_invite.now = grind (arith, common_steps, gets) in
     let status : is_success (status_of c.args.message.now.parsed.start) ≡ false = search rules in
-    late c.args.step.now.config.now c.args.key c.args.message.now c.args.at (slice_get c.args.self.now.answered_invites c.args.at) c.in-Some.taken.now c.args.self.now c.args.output.now its status
+    late c.args.step.now.config.now c.args.key c.args.message.now c.args.at (slice_get c.args.self.now.answered_invites c.args.at) c.in-Some.answered_invite.now c.args.self.now c.args.output.now its status
 
 comes_again : (c : Else-branch) →
     on_response_answered c.args.step.now.config.now c.args.key c.args.message.now c.args.at (slice_get c.args.self.now.answered_invites c.args.at) c.args.self.now c.args.output.now
-    ≡ on_retransmitted_success c.in-Some.taken.now c.args.self.now c.args.output.now
+    ≡ on_retransmitted_success c.in-Some.answered_invite.now c.args.self.now c.args.output.now
 comes_again c =
-    let its : slice_get c.args.self.now.answered_invites c.args.at ≡ Some c.in-Some.taken.now = grind (arith, common_steps, gets) in
+    let its : slice_get c.args.self.now.answered_invites c.args.at ≡ Some c.in-Some.answered_invite.now = grind (arith, common_steps, gets) in
     let status : is_success (status_of c.args.message.now.parsed.start) ≡ true = search rules in
-    let fork : is_fork c.in-Some.taken.now c.args.message.now ≡ false = search rules in
-    again c.args.step.now.config.now c.args.key c.args.message.now c.args.at (slice_get c.args.self.now.answered_invites c.args.at) c.in-Some.taken.now c.args.self.now c.args.output.now its status fork
+    let fork : is_fork c.in-Some.answered_invite.now c.args.message.now ≡ false = search rules in
+    again c.args.step.now.config.now c.args.key c.args.message.now c.args.at (slice_get c.args.self.now.answered_invites c.args.at) c.in-Some.answered_invite.now c.args.self.now c.args.output.now its status fork
 
 pub returns-in_default-clause-call : goal.returns-in_default-clause-call
 returns-in_default-clause-call c = ap (λ (s : StepResult). s.call) (sym (comes_to_nothing c))

@@ -1,5 +1,5 @@
 use Rattle.std.proofs.Common.{vec_len}
 use Rattle.mmtel_mwi.proofs.boxes.Boxes.give_up.Given as goal
 
-abbrev pub decreases-given : goal.decreases-given
-decreases-given l = vec_len l.live
+abbrev pub decreases-subscriptions : goal.decreases-subscriptions
+decreases-subscriptions l = vec_len l.live

@@ -9,6 +9,7 @@ mod Sorting
 mod QueuePositions
 mod Mapped
 mod Halving
+mod Parted
 pub mod Ordered
 pub mod Indexed
 pub mod Lookups

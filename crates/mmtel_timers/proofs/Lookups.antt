@@ -1,13 +1,13 @@
 -- What a search in a shelf finds is the first element that a linear search finds.
 use Rattle.std.proofs.Common.{◌≡◌, ℕ, ◌≤◌, ◌<◌, Bool, true, false, cond, List, [], ◌∷◌, refl, sym, ap, ◌∙◌, arith, inl, inr, Some, None, Option}
-use Rattle.std.specs.Prelude.{slice_get, option_map, if◌then◌else◌}
+use Rattle.std.specs.Prelude.{slice_get, option_map, IfSome}
 use Rattle.std.specs.List.{find}
 use Rattle.std.specs.List.Sorted.{IsPartitionPoint}
 use Rattle.std.specs.Cmp.{IsTotalOrder}
 use Rattle.std.specs.declared.cmp.Ordering.{Ordering}
 use Rattle.std.specs.declared.cmp.Ordering.TheVariants.{Less}
 use Rattle.std.proofs.lemmas.Option.{none-some, same_Some}
-use Rattle.mmtel_timers.specs.Shelves.{lookup_result, Has, IsIndex, Rises}
+use Rattle.mmtel_timers.specs.Shelves.{lookup_result, Has, IsFirstOfRank, IsIndex, Rises}
 use Rattle.mmtel_timers.proofs.Ordered.{after_place, all_has, at_place, has_at, none_after, not_both}
 
 module _ {E : Type 0} (q : E → Bool) where
@@ -95,3 +95,19 @@ module _ {E X : Type 0} (item : E → Option X) (R : X → X → Ordering) (o : 
       by_cases : (f : Option X) → slice_get xs p ≡ f → lookup_result hits number f ≡ option_map key (find q es)
       by_cases None n = ap (option_map key) (sym (after_end n))
       by_cases (Some y) s = by_hit y s (hits y) refl
+
+-- a search by rank finds what a search by place does, where what is searched for has that rank
+module _ {X : Type 0} (rank : X → ℕ) (sought : ℕ) (before hits : X → Bool) (number : X → ℕ) (of_rank : (x : X) → hits x ≡ true → rank x ≡ sought) where
+  no_hit : (o : Option X) → IfSome o (λ x. sought < rank x) → lookup_result hits number None ≡ lookup_result hits number o
+  no_hit None l = refl
+  no_hit (Some x) l = by_hit (hits x) refl
+    where
+      by_hit : (b : Bool) → hits x ≡ b → None ≡ cond b (Some (number x)) None
+      by_hit true t = let same = of_rank x t in absurd (omega (arith, same, l))
+      by_hit false t = refl
+
+  pub looked_of_rank : (xs : List X) (found : Option X) (first : IsFirstOfRank rank sought before xs found) → lookup_result hits number found ≡ lookup_result hits number (slice_get xs first.place)
+  looked_of_rank xs found first = elim first.item [
+    | inl e ↦ ap (lookup_result hits number) e
+    | inr p ↦ ap (lookup_result hits number) p.0 ∙ no_hit (slice_get xs first.place) p.1
+  ]

@@ -1,6 +1,7 @@
 -- Shelves: lists that are kept in an order, and that have the items of the elements of a list.
-use Rattle.std.specs.Prelude.{◌≡◌, ◌⊎◌, ◌<◌, ℕ, Bool, Box, Option, Some, None, if◌then◌else◌, List, [], ◌∷◌, map}
+use Rattle.std.specs.Prelude.{◌≡◌, ◌⊎◌, ◌<◌, ℕ, Bool, true, false, Box, Option, Some, None, IfSome, slice_get, if◌then◌else◌, List, [], ◌∷◌, map}
 use Rattle.std.specs.List.{AllByRecursion}
+use Rattle.std.specs.List.Sorted.{IsPartitionPoint}
 use Rattle.std.specs.Ordering.{is_lt}
 use Rattle.std.specs.declared.cmp.Ordering.{Ordering}
 use Rattle.std.specs.declared.cmp.Ordering.TheVariants.{Less}
@@ -38,3 +39,9 @@ comes_before R x y = is_lt (R y x)
 abbrev pub lookup_result : {X : Type 0} → (X → Bool) → (X → ℕ) → Option X → Option ℕ
 lookup_result hits number None = None
 lookup_result hits number (Some x) = if hits x then Some (number x) else None
+
+-- what was found: the item at the place that separates what comes before from the rest, or nothing where that item has a higher rank than what was searched for
+pub record IsFirstOfRank {X : Type 0} (rank : X → ℕ) (sought : ℕ) (before : X → Bool) (xs : List X) (found : Option X) : Type 0 where
+  pub place : ℕ
+  pub parted : IsPartitionPoint (λ x. before x ≡ true) (λ x. before x ≡ false) xs place
+  pub item : (found ≡ slice_get xs place) ⊎ ((found ≡ None) × IfSome (slice_get xs place) (λ x. sought < rank x))

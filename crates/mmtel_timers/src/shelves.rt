@@ -69,8 +69,11 @@ impl<T: Ranked + Drop> Drop for Shelf<T> {
 pub trait SearchKey<T: Ranked> {
     ghost before: { Self → T → Bool };
 
+    ghost key_rank: { Self → ℕ };
+
     /// Its rank: an item of a lower one comes before the place, and one of a higher one does not.
     fn key_rank(&self) -> u64
+        ensures rank { result ≡ key_rank self.now }
         ensures lower { (x : T) → T.rank x < result → before self.now x ≡ true }
         ensures higher { (x : T) → result < T.rank x → before self.now x ≡ false };
 

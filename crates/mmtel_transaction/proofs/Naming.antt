@@ -1,6 +1,6 @@
 -- The orders of match keys and of deadline keys; what a search by match key finds.
-use Rattle.std.proofs.Common.{◌≡◌, ℕ, ◌<◌, Bool, true, false, cond, not, ◌&&◌, nat_lt, nat_eq, List, [], ◌∷◌, refl, sym, ap, ◌∙◌, arith, Some, None}
-use Rattle.std.specs.Prelude.{slice_get, option_map, ◌==◌}
+use Rattle.std.proofs.Common.{◌≡◌, ℕ, ◌<◌, ◌≤◌, Bool, true, false, cond, not, ◌&&◌, nat_lt, nat_eq, List, [], ◌∷◌, refl, sym, ap, ◌∙◌, arith, Some, None}
+use Rattle.std.specs.Prelude.{slice_get, slice_index_or, option_map, ◌==◌}
 use Rattle.std.specs.List.{find}
 use Rattle.std.specs.List.Sorted.{IsPartitionPoint}
 use Rattle.std.specs.Str.{bytes_eq}
@@ -20,7 +20,7 @@ use Rattle.mmtel_transaction.specs.declared.entries.Entry.{Entry}
 use Rattle.mmtel_transaction.specs.declared.match_keys.MatchKey.{MatchKey}
 use Rattle.mmtel_transaction.specs.declared.match_keys.DeadlineKey.{DeadlineKey}
 use Rattle.mmtel_transaction.specs.Results.{is_client_with, is_server_with}
-use Rattle.mmtel_transaction.specs.Indexes.{client_match, deadline_cmp, indexed_client, indexed_server, is_same_match, match_cmp, match_key, server_match, text_cmp}
+use Rattle.mmtel_transaction.specs.Indexes.{client_match, deadline_cmp, indexed_client, indexed_server, is_same_match, IsPlaceOf, match_cmp, match_key, server_match, text_cmp}
 use Rattle.mmtel_transaction.specs.Hashes.{hash_of}
 
 said_total : IsTotalOrder text_cmp
@@ -57,6 +57,31 @@ decided Equal Equal Equal Greater d k z l n = absurd cc
 decided Equal Equal Equal Equal Less k z l n = absurd cc
 decided Equal Equal Equal Equal Greater k z l n = absurd cc
 decided Equal Equal Equal Equal Equal k z l n = (refl, refl, refl, refl, refl, l)
+
+-- the same parts have the same hash
+pub same_hash : (m x : MatchKey) → is_same_match m x ≡ true → x.hash ≡ m.hash
+same_hash m x h =
+    let o = and_parts ((x.hash == m.hash) && bytes_eq x.id m.id && bytes_eq x.from m.from && bytes_eq x.method m.method) (x.number == m.number) h in
+    let p = and_parts ((x.hash == m.hash) && bytes_eq x.id m.id && bytes_eq x.from m.from) (bytes_eq x.method m.method) o.0 in
+    let q = and_parts ((x.hash == m.hash) && bytes_eq x.id m.id) (bytes_eq x.from m.from) p.0 in
+    eqb-true x.hash m.hash (and_parts (x.hash == m.hash) (bytes_eq x.id m.id) q.0).0
+
+-- what comes before a search key has no higher hash, and what does not has no lower one
+not_higher : (x m : ℕ) (o t : Ordering) → o ≡ nat_cmp x m → is_lt (ordering_then o t) ≡ true → x ≤ m
+not_higher x m Less t e l = let less : x < m = ranked x m Less e in omega (arith, less)
+not_higher x m Equal t e l = let same : x ≡ m = ranked x m Equal e in omega (arith, same)
+not_higher x m Greater t e l = absurd cc
+
+not_lower : (x m : ℕ) (o t : Ordering) → o ≡ nat_cmp x m → is_lt (ordering_then o t) ≡ false → m ≤ x
+not_lower x m Less t e l = absurd cc
+not_lower x m Equal t e l = let same : x ≡ m = ranked x m Equal e in omega (arith, same)
+not_lower x m Greater t e l = let more : m < x = ranked x m Greater e in omega (arith, more)
+
+pub place_by_hash : (mark : MatchKey) (xs : List MatchKey) (p : ℕ) → IsPlaceOf mark xs p → IsPartitionPoint (λ x. x.hash ≤ mark.hash) (λ x. mark.hash ≤ x.hash) xs p
+place_by_hash mark xs p at = (
+  λ k d s t. let x = slice_index_or xs k d in not_higher x.hash mark.hash (nat_cmp x.hash mark.hash) (text_cmp x mark) refl (at.0 k d s t),
+  λ k d s t. let x = slice_index_or xs k d in not_lower x.hash mark.hash (nat_cmp x.hash mark.hash) (text_cmp x mark) refl (at.1 k d s t),
+)
 
 module _ (b s m : List ℕ) (n : ℕ) where
   abbrev bound : MatchKey

@@ -135,6 +135,8 @@ impl Ranked for MatchKey {
 impl<'a> SearchKey<MatchKey> for MatchKeyRef<'a> {
     ghost before = { λ mark name. comes_before match_cmp (searched_key mark) name };
 
+    ghost key_rank = { λ mark. mark.hash };
+
     fn key_rank(&self) -> u64 {
         self.hash
     }
@@ -274,6 +276,8 @@ impl Ranked for DeadlineKey {
 
 impl SearchKey<DeadlineKey> for DeadlineKey {
     ghost before = { λ mark x. comes_before deadline_cmp mark x };
+
+    ghost key_rank = { λ mark. moment_rank mark.at };
 
     fn key_rank(&self) -> u64 {
         self.rank()

@@ -7,7 +7,7 @@ use crate::entries::Entry;
 use crate::heads::Head;
 use crate::match_keys::{DeadlineKey, MatchKey, MatchKeyRef, key_if};
 use mmtel_base::NoMemory;
-use mmtel_timers::{Shelf, Steps};
+use mmtel_timers::{PartedShelf, Shelf, Steps};
 use std::sync::ledger::Ledger;
 
 /// Changes the deadline key of a transaction. It allocates nothing.
@@ -41,7 +41,7 @@ pub fn remove_deadline<L: Ledger>(
 
 /// Removes a match key.
 pub fn remove_match<L: Ledger>(
-    names: &mut Shelf<MatchKey>,
+    names: &mut PartedShelf<MatchKey>,
     old: &MatchKeyRef<'_>,
     steps: &mut Steps<L>,
 )
@@ -49,7 +49,7 @@ pub fn remove_match<L: Ledger>(
     requires there { Has (searched_key old.now) names.old }
     ensures removed { Removes (searched_key old.now) names.old names.new }
 {
-    let from = names.seek(old, steps).position;
+    let from = names.seek(old, steps);
     let _ = names.remove(from);
 }
 
@@ -120,7 +120,7 @@ pub fn ack_search_key(head: &Head) -> MatchKeyRef<'_>
 
 /// The transaction number of the match key at a position, if it has the same parts as the one that is sought.
 pub fn key_at<L: Ledger>(
-    names: &Shelf<MatchKey>,
+    names: &PartedShelf<MatchKey>,
     place: usize,
     mark: &MatchKeyRef<'_>,
     steps: &mut Steps<L>,
@@ -157,7 +157,7 @@ pub fn insert_deadline<L: Ledger>(
 ///
 /// Out of memory only; the shelf is then as before.
 pub fn insert_match<L: Ledger>(
-    names: &mut Shelf<MatchKey>,
+    names: &mut PartedShelf<MatchKey>,
     new: MatchKey,
     steps: &mut Steps<L>,
 ) -> Result<usize, NoMemory>
@@ -165,7 +165,7 @@ pub fn insert_match<L: Ledger>(
     ensures ok { IfOk result (λ to. Puts match_cmp new to names.old names.new) }
     ensures err { OnErr result (names.new ≡ names.old) }
 {
-    let to = names.seek(&new.search_key(), steps).position;
+    let to = names.seek(&new.search_key(), steps);
     match names.insert(to, new) {
         Ok(()) => Ok(to),
         Err((_, fault)) => Err(fault),

@@ -17,7 +17,7 @@ use crate::shelving::{
     merged_search_key, rearm, remove_deadline, remove_match, server_search_key,
 };
 use mmtel_base::NoMemory;
-use mmtel_timers::{Shelf, Steps};
+use mmtel_timers::{PartedShelf, Shelf, Steps};
 use mmtel_types::limits::SERVER_TRANSACTIONS;
 use std::alloc::Global;
 use std::collections::VecDeque;
@@ -38,11 +38,11 @@ pub struct DueEntry<'a> {
 pub struct Tables {
     entries: VecDeque<Box<Entry>>,
     /// The branches of server transactions, with sent-by and method.
-    servers: Shelf<MatchKey>,
+    servers: PartedShelf<MatchKey>,
     /// The branches of client transactions, with the method.
-    clients: Shelf<MatchKey>,
+    clients: PartedShelf<MatchKey>,
     /// The Call-IDs of server transactions, with From tag and CSeq.
-    calls: Shelf<MatchKey>,
+    calls: PartedShelf<MatchKey>,
     /// The deadline keys of the transactions; one that waits for no deadline comes last.
     due: Shelf<DeadlineKey>,
 }
@@ -68,9 +68,9 @@ impl Tables {
     {
         Tables {
             entries: VecDeque::new(alloc),
-            servers: Shelf::new(alloc),
-            clients: Shelf::new(alloc),
-            calls: Shelf::new(alloc),
+            servers: PartedShelf::new(alloc),
+            clients: PartedShelf::new(alloc),
+            calls: PartedShelf::new(alloc),
             due: Shelf::new(alloc),
         }
     }
@@ -134,8 +134,7 @@ impl Tables {
         ensures rise { steps.old ≤ steps.new }
     {
         let mark = MatchKeyRef::of(branch, sent_by, method, 0, 0);
-        let sought = self.servers.seek(&mark, steps);
-        key_if(sought.item, &mark)
+        key_if(self.servers.find(&mark, steps), &mark)
     }
 
     /// The key of the first client transaction of this branch and method.
@@ -150,8 +149,7 @@ impl Tables {
         ensures rise { steps.old ≤ steps.new }
     {
         let mark = MatchKeyRef::of(branch, b"", method, 0, 0);
-        let sought = self.clients.seek(&mark, steps);
-        key_if(sought.item, &mark)
+        key_if(self.clients.find(&mark, steps), &mark)
     }
 
     /// Whether as many server transactions are live as may be.
@@ -166,7 +164,7 @@ impl Tables {
         ensures { result ≡ list_any (is_merged_entry entry.now) self.now }
     {
         let mark = merged_search_key(entry);
-        let from = self.calls.seek(&mark, steps).position;
+        let from = self.calls.seek(&mark, steps);
         has_other(&self.calls, from, &mark, entry.key, steps)
     }
 
@@ -358,7 +356,7 @@ impl Tables {
     pub fn ack_2xx<L: Ledger>(&mut self, step: u64, head: &Head, steps: &mut Steps<L>)
         ensures { self.new ≡ map (after_ack_2xx step head.now) self.old }
     {
-        let from = self.calls.seek(&ack_search_key(head), steps).position;
+        let from = self.calls.seek(&ack_search_key(head), steps);
         ack_from(
             &mut self.entries,
             &mut self.due,
@@ -446,7 +444,7 @@ fn due_now(first: Option<&DeadlineKey>, now: u64) -> Option<(u64, u64)>
 
 /// Whether, of the match keys from a position on that have the same parts as a given one, one belongs to another transaction than that of a key.
 fn has_other<L: Ledger>(
-    calls: &Shelf<MatchKey>,
+    calls: &PartedShelf<MatchKey>,
     from: usize,
     mark: &MatchKeyRef<'_>,
     key: u64,
@@ -494,7 +492,7 @@ fn ack_key<L: Ledger>(
 fn ack_from<L: Ledger>(
     entries: &mut VecDeque<Box<Entry>>,
     due: &mut Shelf<DeadlineKey>,
-    calls: &Shelf<MatchKey>,
+    calls: &PartedShelf<MatchKey>,
     from: usize,
     step: u64,
     head: &Head,

@@ -19,6 +19,8 @@ mod lex;
 #[cfg(test)]
 mod messages;
 #[cfg(test)]
+mod parted_shelves;
+#[cfg(test)]
 mod reliable;
 #[cfg(test)]
 mod sdp;

@@ -234,6 +234,8 @@ impl Ranked for Item {
 impl SearchKey<Item> for Item {
     ghost before = { λ mark item. nat_lt item.0 mark.0 };
 
+    ghost key_rank = { λ mark. mark.0 / 10 };
+
     fn key_rank(&self) -> u64 {
         self.rank()
     }

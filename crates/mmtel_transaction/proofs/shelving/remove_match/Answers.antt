@@ -8,8 +8,8 @@ seek-from-requires g c = matches_parted (searched_key c.args.old.now) c.args.nam
 pub returns : goal.returns
 returns g c = record {
   removed = record {
-    from = c.seek-from.result.position;
-    at = name_found c.seek-from.result.position (searched_key c.args.old.now) c.args.names.now c.requires.ascends c.seek-from.ensures.within c.seek-from.ensures.parted c.requires.there;
+    from = c.seek-from.result;
+    at = name_found c.seek-from.result (searched_key c.args.old.now) c.args.names.now c.requires.ascends c.seek-from.ensures.within c.seek-from.ensures.parted c.requires.there;
     removed = c.remove.ensures.rest;
   };
 }

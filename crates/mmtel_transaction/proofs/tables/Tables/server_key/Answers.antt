@@ -1,17 +1,18 @@
 use Rattle.std.proofs.Common.{ap, ◌∙◌, subst, option_map}
 use Rattle.std.specs.List.{find}
-use Rattle.std.specs.Prelude.{slice_get}
-use Rattle.mmtel_timers.specs.Shelves.{lookup_result, unboxed_items}
+use Rattle.std.specs.Prelude.{option_copied, slice_get}
+use Rattle.mmtel_timers.specs.Shelves.{comes_before, lookup_result, unboxed_items}
+use Rattle.mmtel_timers.proofs.Lookups.{looked_of_rank}
 use Rattle.mmtel_transaction.specs.declared.entries.Entry.{Entry}
 use Rattle.mmtel_transaction.specs.declared.match_keys.MatchKey.{MatchKey}
 use Rattle.mmtel_transaction.specs.Results.{is_server_with}
-use Rattle.mmtel_transaction.specs.Indexes.{is_same_match, IsPlaceOf, searched_key, match_key}
-use Rattle.mmtel_transaction.proofs.Naming.{server_looked}
+use Rattle.mmtel_transaction.specs.Indexes.{is_same_match, IsPlaceOf, match_cmp, searched_key}
+use Rattle.mmtel_transaction.proofs.Naming.{same_hash, server_looked}
 use Rattle.mmtel_transaction.proofs.Reaching.{matches_parted}
 use Rattle.mmtel_transaction.proofs.tables.Tables.server_key.Goals as goal
 
-pub seek-sought-requires : goal.seek-sought-requires
-seek-sought-requires g c = matches_parted (searched_key c.of-mark.result) c.self.inside.servers c.self.invariant.servers.ascends
+pub find-requires : goal.find-requires
+find-requires g c = matches_parted (searched_key c.of-mark.result) c.self.inside.servers c.self.invariant.servers.ascends
 
 pub returns-clause-found : goal.returns-clause-found
 returns-clause-found g c =
@@ -19,9 +20,11 @@ returns-clause-found g c =
     let s = c.args.sent_by.now in
     let m = c.args.method.now in
     let names = c.self.inside.servers in
-    let place = c.seek-sought.result.position in
+    let mark = searched_key c.of-mark.result in
+    let found = c.find.ensures.found in
+    let place = found.place in
     c.key_if.ensures
-    ∙ (ap (lookup_result (is_same_match (searched_key c.of-mark.result)) (λ (x : MatchKey). x.key)) c.seek-sought.ensures.item
+    ∙ (looked_of_rank (λ (x : MatchKey). x.hash) mark.hash (comes_before match_cmp mark) (is_same_match mark) (λ (x : MatchKey). x.key) (same_hash mark) names (option_copied c.find.result) found
     ∙ (ap (λ (n : MatchKey). lookup_result (is_same_match n) (λ (x : MatchKey). x.key) (slice_get names place)) c.of-mark.ensures
-    ∙ (server_looked b s m (unboxed_items c.self.inside.entries.items) names place c.self.invariant.servers c.self.invariant.rises (subst (λ (n : MatchKey). IsPlaceOf n names place) c.of-mark.ensures c.seek-sought.ensures.parted)
+    ∙ (server_looked b s m (unboxed_items c.self.inside.entries.items) names place c.self.invariant.servers c.self.invariant.rises (subst (λ (n : MatchKey). IsPlaceOf n names place) c.of-mark.ensures found.parted)
     ∙ ap (λ es. option_map (λ (e : Entry). e.key) (find (is_server_with b s m) es)) c.self.view_is)))

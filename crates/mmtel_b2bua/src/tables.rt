@@ -260,15 +260,15 @@ impl Calls {
         tokens: &mut Tokens,
         now: Moment,
     ) -> Result<Emits, CallFault>
-        ensures done { OnOk result ((deeds : List TableOp) → Represents peers.now accounts.now self.old deeds →
+        ensures done { OnOk result ((ops : List TableOp) → Represents peers.now accounts.now self.old ops →
             Represents peers.now accounts.now self.new (Receives
-            (record { at = now; view = sheets.now; tokens = tokens.old; signal = signal }) ∷ deeds)) }
-        ensures emits { IfOk result (λ out. (deeds : List TableOp) → Represents peers.now accounts.now self.old deeds →
-            out ≡ (step_on_receive_after (config_of self.old peers.now accounts.now) deeds
+            (record { at = now; view = sheets.now; tokens = tokens.old; signal = signal }) ∷ ops)) }
+        ensures emits { IfOk result (λ out. (ops : List TableOp) → Represents peers.now accounts.now self.old ops →
+            out ≡ (step_on_receive_after (config_of self.old peers.now accounts.now) ops
             (record { at = now; view = sheets.now; tokens = tokens.old; signal = signal })).output.out) }
-        ensures tokens { OnOk result ((deeds : List TableOp) → Represents peers.now accounts.now self.old deeds →
+        ensures tokens { OnOk result ((ops : List TableOp) → Represents peers.now accounts.now self.old ops →
             tokens.new ≡
-            (step_on_receive_after (config_of self.old peers.now accounts.now) deeds
+            (step_on_receive_after (config_of self.old peers.now accounts.now) ops
             (record { at = now; view = sheets.now; tokens = tokens.old; signal = signal })).output.tokens) }
         ensures config { OnOk result ((peers : Peers) (accounts : List AccountIdentity) →
             config_of self.new peers accounts ≡ config_of self.old peers accounts) }
@@ -304,9 +304,9 @@ impl Calls {
 
     /// How many calls the account has: one for each that it makes, and one for each that is offered to it or that it answered.
     pub fn live(&self, account: Account) -> u32
-        ensures { (peers : Peers) (accounts : List AccountIdentity) (deeds : List TableOp) →
-            Represents peers accounts self.now deeds →
-            result ≡ live account.0 (table_after (config_of self.now peers accounts) deeds).entries }
+        ensures { (peers : Peers) (accounts : List AccountIdentity) (ops : List TableOp) →
+            Represents peers accounts self.now ops →
+            result ≡ live account.0 (table_after (config_of self.now peers accounts) ops).entries }
     {
         self.table.live(account)
     }
@@ -320,10 +320,10 @@ impl Calls {
 
     /// The call and the side whose dialog has this Call-ID, this tag of the server and this tag of the other side (RFC 3261 §12.2.2).
     pub fn find(&self, call_id: &[u8], local: &[u8], remote: &[u8]) -> Option<(CallNo, Side)>
-        ensures { (peers : Peers) (accounts : List AccountIdentity) (deeds : List TableOp) →
-            Represents peers accounts self.now deeds →
+        ensures { (peers : Peers) (accounts : List AccountIdentity) (ops : List TableOp) →
+            Represents peers accounts self.now ops →
             result ≡ first_side (side_by_dialog call_id.now local.now remote.now)
-            (table_after (config_of self.now peers accounts) deeds).entries }
+            (table_after (config_of self.now peers accounts) ops).entries }
     {
         let name = DialogName {
             call_id,
@@ -335,9 +335,9 @@ impl Calls {
 
     /// The live call and the side whose INVITE opened this server transaction (RFC 3261 §9.2).
     pub fn asked_by(&self, invite: TKey) -> Option<(CallNo, Side)>
-        ensures { (peers : Peers) (accounts : List AccountIdentity) (deeds : List TableOp) →
-            Represents peers accounts self.now deeds →
-            result ≡ first_side (side_by_invite_key invite) (table_after (config_of self.now peers accounts) deeds).entries }
+        ensures { (peers : Peers) (accounts : List AccountIdentity) (ops : List TableOp) →
+            Represents peers accounts self.now ops →
+            result ≡ first_side (side_by_invite_key invite) (table_after (config_of self.now peers accounts) ops).entries }
     {
         queries::asked_by(&self.table, invite)
     }
@@ -358,18 +358,18 @@ impl Calls {
 
     /// The peer of a side's leg, and the account that is served there; None exactly if the call is not live or that side has no leg.
     pub fn party(&self, call: CallNo, side: Side) -> Option<(Peer, Option<Account>)>
-        ensures { (peers : Peers) (accounts : List AccountIdentity) (deeds : List TableOp) →
-            Represents peers accounts self.now deeds →
-            result ≡ party call.0 side (table_after (config_of self.now peers accounts) deeds).entries }
+        ensures { (peers : Peers) (accounts : List AccountIdentity) (ops : List TableOp) →
+            Represents peers accounts self.now ops →
+            result ≡ party call.0 side (table_after (config_of self.now peers accounts) ops).entries }
     {
         queries::party(&self.table, call, side)
     }
 
     /// The CDRs of calls that are over that were not handed over, in the order in which they were closed.
     pub fn rows_waiting(&self) -> &[Row]
-        ensures rows { (peers : Peers) (accounts : List AccountIdentity) (deeds : List TableOp) →
-            Represents peers accounts self.now deeds →
-            result.now ≡ (table_after (config_of self.now peers accounts) deeds).rows }
+        ensures rows { (peers : Peers) (accounts : List AccountIdentity) (ops : List TableOp) →
+            Represents peers accounts self.now ops →
+            result.now ≡ (table_after (config_of self.now peers accounts) ops).rows }
         ensures kept { result.now ≡ self.now.table.rows }
     {
         self.table.rows()
@@ -378,9 +378,9 @@ impl Calls {
     /// Removes this many of the CDRs that wait: they were handed over.
     pub fn drop_rows(&mut self, count: usize)
         requires { count ≤ length self.old.table.rows }
-        ensures done { (peers : Peers) (accounts : List AccountIdentity) (deeds : List TableOp) →
-            Represents peers accounts self.old deeds →
-            Represents peers accounts self.new (Drops count ∷ deeds) }
+        ensures done { (peers : Peers) (accounts : List AccountIdentity) (ops : List TableOp) →
+            Represents peers accounts self.old ops →
+            Represents peers accounts self.new (Drops count ∷ ops) }
         ensures config { (peers : Peers) (accounts : List AccountIdentity) →
             config_of self.new peers accounts ≡ config_of self.old peers accounts }
     {
@@ -394,9 +394,9 @@ impl Calls {
     /// `NotTalking` exactly if the call is not stable, or a leg of it is detached.
     #[tactic(auto, using(crate::proofs::DetachedLegs::without_meter))]
     pub fn release(&mut self, call: CallNo, side: Side) -> Result<Released, NotTalking>
-        ensures done { (peers : Peers) (accounts : List AccountIdentity) (deeds : List TableOp) →
-            Represents peers accounts self.old deeds →
-            Represents peers accounts self.new (Releases call.0 side ∷ deeds) }
+        ensures done { (peers : Peers) (accounts : List AccountIdentity) (ops : List TableOp) →
+            Represents peers accounts self.old ops →
+            Represents peers accounts self.new (Releases call.0 side ∷ ops) }
         ensures config { (peers : Peers) (accounts : List AccountIdentity) →
             config_of self.new peers accounts ≡ config_of self.old peers accounts }
         ensures leg { MatchResult result (λ leg. released_leg_of call.0 side self.old.table.entries ≡ Some leg)
@@ -414,9 +414,9 @@ impl Calls {
         requires meter { (released_leg leg).meter ≡ None }
         ensures config { (peers : Peers) (accounts : List AccountIdentity) →
             config_of self.new peers accounts ≡ config_of self.old peers accounts }
-        ensures done { (peers : Peers) (accounts : List AccountIdentity) (deeds : List TableOp) →
-            Represents peers accounts self.old deeds →
-            Represents peers accounts self.new (Restores call.0 leg ∷ deeds) }
+        ensures done { (peers : Peers) (accounts : List AccountIdentity) (ops : List TableOp) →
+            Represents peers accounts self.old ops →
+            Represents peers accounts self.new (Restores call.0 leg ∷ ops) }
     {
         detaching::restore(&mut self.table, call, leg);
     }
@@ -437,14 +437,14 @@ impl Calls {
         now: Moment,
     ) -> Result<Emits, NoMemory>
         requires { has_detached_leg (entry_of call.0 self.old.table.entries) ≡ true }
-        ensures done { OnOk result ((deeds : List TableOp) → Represents peers.now accounts.now self.old deeds →
-            Represents peers.now accounts.now self.new (Finishes call.0 now tokens.old ∷ deeds)) }
-        ensures emits { IfOk result (λ out. (deeds : List TableOp) → Represents peers.now accounts.now self.old deeds →
+        ensures done { OnOk result ((ops : List TableOp) → Represents peers.now accounts.now self.old ops →
+            Represents peers.now accounts.now self.new (Finishes call.0 now tokens.old ∷ ops)) }
+        ensures emits { IfOk result (λ out. (ops : List TableOp) → Represents peers.now accounts.now self.old ops →
             out ≡ (step_on_finish (config_of self.old peers.now accounts.now) call.0 now tokens.old
-            (table_after (config_of self.old peers.now accounts.now) deeds)).output.out) }
-        ensures tokens { OnOk result ((deeds : List TableOp) → Represents peers.now accounts.now self.old deeds →
+            (table_after (config_of self.old peers.now accounts.now) ops)).output.out) }
+        ensures tokens { OnOk result ((ops : List TableOp) → Represents peers.now accounts.now self.old ops →
             tokens.new ≡ (step_on_finish (config_of self.old peers.now accounts.now) call.0 now tokens.old
-            (table_after (config_of self.old peers.now accounts.now) deeds)).output.tokens) }
+            (table_after (config_of self.old peers.now accounts.now) ops)).output.tokens) }
         ensures config { OnOk result ((peers : Peers) (accounts : List AccountIdentity) →
             config_of self.new peers accounts ≡ config_of self.old peers accounts) }
         ensures fails { IfErr result (λ e. (self.old.has_failed ≡ false → self.new.has_failed ≡ true)) }

@@ -25,11 +25,11 @@ use Rattle.mmtel_b2bua.specs.Operations.{TableOp, table_after}
 use Rattle.mmtel_b2bua_theorems.specs.TracesOfTables.{ArePutBack, HasNumbers, all_charging_records, call_of, charging_records_of, entry_by, is_number, number_by, number_of, op_charging_records, trace_of}
 use Rattle.mmtel_b2bua_theorems.specs.Outcomes.{call_inputs_after, charges_due_after, ending_by_cause, outcome_after}
 use Rattle.mmtel_b2bua_theorems.specs.Theorems.{ChargingRecordsAreOfCalls, is_charging_record_of}
-use Rattle.mmtel_b2bua_theorems.specs.TracesWithTransfers as lives
+use Rattle.mmtel_b2bua_theorems.specs.TracesWithTransfers as transfers
 use Rattle.mmtel_b2bua_theorems.specs.TracesWithTransfers.{CallTraceWithTransfers, call_after}
 use Rattle.mmtel_b2bua_theorems.proofs.Outcomes.{traces_charged, traces_stay}
 use Rattle.mmtel_b2bua_theorems.proofs.TableEffects.{ComesTo, Effect, Nobodys, Opens, effect}
-use Rattle.mmtel_b2bua_theorems.proofs.OwnSteps.{Holds, all-stay, begins, distinct-numbers, earlier-numbers, entry-lives, goes-so, holds_after, number-differs, number-is}
+use Rattle.mmtel_b2bua_theorems.proofs.OwnSteps.{Holds, all-stay, begins, distinct-numbers, earlier-numbers, entry-traces, goes-so, holds_after, number-differs, number-is}
 use Rattle.mmtel_b2bua_theorems.proofs.Tabling.{nothing_of_others}
 
 -- ---- CDRs and parts of one call
@@ -114,7 +114,7 @@ call-all law charged config ops n trace few back is =
     go charges fits own.opening.1 own.rows (is_over c.phase) refl
   where
     go : Rattle.mmtel_b2bua_theorems.specs.Theorems.TracesAreCharged → Rattle.mmtel_b2bua_theorems.specs.Outcomes.AreFitting trace.start trace.events → trace.start.arrival.number.0 ≡ n →
-        charging_records_of config n ops ≡ lives.charging_records_after trace.start trace.events →
+        charging_records_of config n ops ≡ transfers.charging_records_after trace.start trace.events →
         (b : Bool) → is_over (call_after trace.start trace.events).phase ≡ b → AllOf n (charging_records_of config n ops)
     go charges fits numbered rows false over = subst (AllOf n) (sym (rows ∙ (charges.runs trace.start trace.events fits over).1)) tt
     go charges fits numbered rows true over =
@@ -134,7 +134,7 @@ there config op earlier m holds call (Opens s o) =
     let same : s.arrival.number.0 ≡ m = cc in
     (record { start = s; events = [] }, subst (λ m. trace_of config m (op ∷ earlier) ≡ Some (record { start = s; events = [] })) same (begins config op earlier s o.opens).trace)
 there config op earlier m holds call (ComesTo p e z event c) =
-    let (trace, l) = entry-lives config earlier p e holds c.found in
+    let (trace, l) = entry-traces config earlier p e holds c.found in
     let of_e : call_of config op (table_after config earlier) ≡ Some (number_of e) = λ i. number_by (c.opens i) (c.entry i) in
     let both : Some (number_of e) ≡ Some m = sym of_e ∙ call in
     let same : number_of e ≡ m = cc in (

@@ -37,8 +37,8 @@ use Rattle.mmtel_call_theorems.specs.Noninterference.PublicCall.{nobody}
 use Rattle.mmtel_call_theorems.specs.Noninterference.Premises.{AreDecidedEqually, IsFromOwnPeer, RecordsCoverSnapshot}
 use Rattle.mmtel_call_theorems.specs.Noninterference.Roles.{Role, opening_role, without_private}
 use Rattle.mmtel_call_theorems.specs.Noninterference.Observations.{EquivalentOutputs, EquivalentSteps, Trust, trust_of}
-use Rattle.mmtel_call_theorems.specs.Noninterference.StepTable.{public_signal as public_heard}
-use Rattle.mmtel_b2bua.specs.Entries.{busy_beside, has_received_key as heard_it, has_sent_branch, is_numbered, kept_entry}
+use Rattle.mmtel_call_theorems.specs.Noninterference.StepTable.{public_signal as public_received}
+use Rattle.mmtel_b2bua.specs.Entries.{busy_beside, has_received_key as has_received_it, has_sent_branch, is_numbered, kept_entry}
 use Rattle.mmtel_b2bua.specs.Operations.{ReceivedSignal, step_on_receive}
 use Rattle.mmtel_b2bua.specs.Tables.{Table, TableStep, busy_with, call_step, entry_after, entry_for, invites_by, is_opening, opened_after, opening_step, put_at, snapshot_at, step_in, step_of_arrival, step_of_entry, step_of_entry_at, step_of_opened, step_of_receiver, step_of_signal, with_step}
 use Rattle.mmtel_b2bua.specs.declared.entries.Entry.{Entry}
@@ -72,7 +72,7 @@ data Owner : Type 0 where
 abbrev is_owner : Owner → Entry → Bool
 is_owner (Numbered number) e = is_numbered number e
 is_owner (Sent branch) e = has_sent_branch branch e
-is_owner (Asked key) e = heard_it key e
+is_owner (Asked key) e = has_received_it key e
 
 data Kind : Type 0 where
   Opens : (key : TKey) → (invite : MessageView) → (served : Served) → (registration : Option RegistrationState) → (identities : Identities2) → Kind
@@ -90,7 +90,7 @@ kind_of (signal.Over key) = OfCall (Asked key) (of_call.Ended key) []
 
 abbrev public_kind : Role → Kind → Kind
 public_kind role (Opens key invite served registration identities) = Opens key (without_private role invite) served registration nobody
-public_kind role (OfCall whose x invites) = OfCall whose (public_heard role x) invites
+public_kind role (OfCall whose x invites) = OfCall whose (public_received role x) invites
 
 kind_public : (role : Role) (x : Signal) → kind_of (public_signal role x) ≡ public_kind role (kind_of x)
 unfolding awaited_request_branch
@@ -167,7 +167,7 @@ kind_receives records t now role (signal.Cancel call key cancel invite) es kept 
 kind_receives records t now role (signal.Answer key response) es kept asks h = call_receives records t (has_sent_branch (awaited_request_branch response)) (of_call.Answer key response) role es kept h
 kind_receives records t now role (signal.Silent branch method) es kept asks h = call_receives records t (has_sent_branch (timed_out_branch branch method)) (of_call.Silent branch method) role es kept h
 kind_receives records t now role (signal.Due call what) es kept asks h = call_receives records t (is_numbered call.0) (of_call.Due what) role es kept h
-kind_receives records t now role (signal.Over key) es kept asks h = call_receives records t (heard_it key) (of_call.Ended key) role es kept h
+kind_receives records t now role (signal.Over key) es kept asks h = call_receives records t (has_received_it key) (of_call.Ended key) role es kept h
 
 abbrev KindLooks : (one other : CallConfigView) → Role → Kind → Type 0
 KindLooks one other role (Opens key invite served registration identities) = LooksUpEqually one other (requested_target invite).uri
@@ -261,7 +261,7 @@ module _ (laws : OfCalls) (records : List Sheet) (config far : CallConfigView) (
   -- ---- a signal of a call
 
   module _ (at : ℕ) (view : SheetsInForce) (stand : (busy : List Account) → RecordsCoverSnapshot records (snapshot_at at view busy)) (role second : Role) where
-    steps-equivalent : (busy : List Account) (x y : calls.Signal) (e f : Entry) (one other : StepOutput) → public_heard role x ≡ public_heard second y → SignalRedirectsEqually config far second y →
+    steps-equivalent : (busy : List Account) (x y : calls.Signal) (e f : Entry) (one other : StepOutput) → public_received role x ≡ public_received second y → SignalRedirectsEqually config far second y →
         EquivalentEntry records known e f → IsReceived records T x role e.call → IsReceived records T y second f.call → EquivalentOutputs T one other →
         EquivalentSteps T (call_step config at view busy x one e) (call_step far at view busy y other f) × EquivalentCalls records known (call_step config at view busy x one e).call (call_step far at view busy y other f).call
     unfolding call_step
@@ -271,7 +271,7 @@ module _ (laws : OfCalls) (records : List Sheet) (config far : CallConfigView) (
           laws.stay records config far keys now x y role second e.call f.call one other configured.equal configured.lead looks (stand busy) b.calls said first then d,
         )
 
-    at-equivalent : (x y : calls.Signal) (invites : List InviteKey) (place : ℕ) (g h : Option Entry) (es fs : List Entry) (one other : StepOutput) → public_heard role x ≡ public_heard second y → SignalRedirectsEqually config far second y →
+    at-equivalent : (x y : calls.Signal) (invites : List InviteKey) (place : ℕ) (g h : Option Entry) (es fs : List Entry) (one other : StepOutput) → public_received role x ≡ public_received second y → SignalRedirectsEqually config far second y →
         EquivalentAt records known g h → EquivalentEntries records known es fs → ((e : Entry) → g ≡ Some e → IsReceived records T x role e.call) → ((f : Entry) → h ≡ Some f → IsReceived records T y second f.call) → EquivalentOutputs T one other →
         EquivalentMoves (step_of_entry_at config at view x invites place g es one) (step_of_entry_at far at view y invites place h fs other)
     at-equivalent x y invites place None None es fs one other said looks b a first then d = record { entries = a; output = d }
@@ -285,14 +285,14 @@ module _ (laws : OfCalls) (records : List Sheet) (config far : CallConfigView) (
         subst (λ (l : List Account). EquivalentMoves (step_of_entry place invites e (call_step config at view busy x one e) es) (step_of_entry place invites f (call_step far at view l y other f) fs)) same
         (step-equivalent place invites e f (call_step config at view busy x one e) (call_step far at view busy y other f) es fs b a both.0 both.1)
 
-    in-equivalent : (x y : calls.Signal) (invites : List InviteKey) (o : Option ℕ) (es fs : List Entry) (one other : StepOutput) → public_heard role x ≡ public_heard second y → SignalRedirectsEqually config far second y → EquivalentEntries records known es fs →
+    in-equivalent : (x y : calls.Signal) (invites : List InviteKey) (o : Option ℕ) (es fs : List Entry) (one other : StepOutput) → public_received role x ≡ public_received second y → SignalRedirectsEqually config far second y → EquivalentEntries records known es fs →
         ((place : ℕ) (e : Entry) → o ≡ Some place → slice_get es place ≡ Some e → IsReceived records T x role e.call) → ((place : ℕ) (f : Entry) → o ≡ Some place → slice_get fs place ≡ Some f → IsReceived records T y second f.call) → EquivalentOutputs T one other →
         EquivalentMoves (step_in config at view x invites o es one) (step_in far at view y invites o fs other)
     in-equivalent x y invites None es fs one other said looks a first then d = record { entries = a; output = d }
     in-equivalent x y invites (Some place) es fs one other said looks a first then d =
         at-equivalent x y invites place (slice_get es place) (slice_get fs place) es fs one other said looks (get-equivalent records known es fs a place) a (λ e is. first place e refl is) (λ f is. then place f refl is) d
 
-    received-equivalent : (w : Owner) (x y : calls.Signal) (invites : List InviteKey) (es fs : List Entry) (one other : StepOutput) → public_heard role x ≡ public_heard second y → SignalRedirectsEqually config far second y → EquivalentEntries records known es fs →
+    received-equivalent : (w : Owner) (x y : calls.Signal) (invites : List InviteKey) (es fs : List Entry) (one other : StepOutput) → public_received role x ≡ public_received second y → SignalRedirectsEqually config far second y → EquivalentEntries records known es fs →
         IsReceivedBy records T (is_owner w) x role es → IsReceivedBy records T (is_owner w) y second fs → EquivalentOutputs T one other →
         EquivalentMoves (step_of_receiver config at view (is_owner w) x invites es one) (step_of_receiver far at view (is_owner w) y invites fs other)
     received-equivalent w x y invites es fs one other said looks a first then d =
@@ -338,7 +338,7 @@ module _ (laws : OfCalls) (records : List Sheet) (config far : CallConfigView) (
     kinds-equivalent (OfCall v x invites) (OfCall w y invites2) number es fs one other same callers looks a first then d =
         let whose : v ≡ w = ap owner_in same in
         let added : invites ≡ invites2 = ap invites_in same in
-        let said : public_heard role x ≡ public_heard second y = ap (received_in (public_heard role x)) same in
+        let said : public_received role x ≡ public_received second y = ap (received_in (public_received role x)) same in
         subst (λ (z : Owner). EquivalentMoves (step_of_receiver config at view (is_owner v) x invites es one) (step_of_receiver far at view (is_owner z) y invites2 fs other)) whose
         (subst (λ (l : List InviteKey). EquivalentMoves (step_of_receiver config at view (is_owner v) x invites es one) (step_of_receiver far at view (is_owner v) y l fs other)) added
         (received-equivalent v x y invites es fs one other said looks a first (subst (λ (z : Owner). IsReceivedBy records T (is_owner z) y second fs) (sym whose) then) d))
@@ -352,8 +352,8 @@ module _ (laws : OfCalls) (records : List Sheet) (config far : CallConfigView) (
         (kinds-equivalent (kind_of x) (kind_of y) number es fs one other (kinds_same role second x y said)
         (λ who whose e f. callers who whose (sym (caller_equal x) ∙ e) (sym (caller_equal y) ∙ f)) (kind_lookups config far second y looks) a first then d))
 
-  pub same_desk : (output : StepOutput) → EquivalentOutputs T output output
-  same_desk output = record { tokens = refl; rows = refl; out = refl }
+  pub same_output : (output : StepOutput) → EquivalentOutputs T output output
+  same_output output = record { tokens = refl; rows = refl; out = refl }
 
   -- the other signal, as if it were received at the moment of the first
   abbrev beside : ReceivedWithRole → ReceivedWithRole → ReceivedSignal
@@ -366,17 +366,17 @@ module _ (laws : OfCalls) (records : List Sheet) (config far : CallConfigView) (
       ∙ ap (λ (d : TokensView). record other.received { tokens = d }) tokens)
 
   pub signals-alike : (one other : ReceivedWithRole) (t u : Table) → TablesCorrespond records config keys t u → ReceiveEquivalent records config far keys one other t u → EquivalentMoves (step_on_receive config one.received t) (step_on_receive far other.received u)
-  signals-alike one other t u a hear =
+  signals-alike one other t u a receive =
       let x : ReceivedSignal = one.received in
-      let same : beside one other ≡ other.received = beside_same one other hear.at hear.view hear.tokens in
+      let same : beside one other ≡ other.received = beside_same one other receive.at receive.view receive.tokens in
       let second : TableMayReceive T (snapshot_at x.at x.view []) other.role other.received.signal u.entries =
-      subst (λ (h : ReceivedSignal). TableMayReceive T (snapshot_at h.at h.view []) other.role other.received.signal u.entries) (sym same) hear.second in
-      let first : KindReceives records T (snapshot_at x.at x.view []) one.role (kind_of x.signal) t.entries = kind_receives records T (snapshot_at x.at x.view []) one.role x.signal t.entries a.one hear.first_peer hear.first in
-      let then : KindReceives records T (snapshot_at x.at x.view []) other.role (kind_of other.received.signal) u.entries = kind_receives records T (snapshot_at x.at x.view []) other.role other.received.signal u.entries a.other hear.second_peer second in
+      subst (λ (h : ReceivedSignal). TableMayReceive T (snapshot_at h.at h.view []) other.role other.received.signal u.entries) (sym same) receive.second in
+      let first : KindReceives records T (snapshot_at x.at x.view []) one.role (kind_of x.signal) t.entries = kind_receives records T (snapshot_at x.at x.view []) one.role x.signal t.entries a.one receive.first_peer receive.first in
+      let then : KindReceives records T (snapshot_at x.at x.view []) other.role (kind_of other.received.signal) u.entries = kind_receives records T (snapshot_at x.at x.view []) other.role other.received.signal u.entries a.other receive.second_peer second in
       subst (λ (h : ReceivedSignal). EquivalentMoves (step_on_receive config x t) (step_on_receive far h u)) same
       (subst (λ (n : ℕ). EquivalentMoves (step_on_receive config x t) (step_of_signal far x.at x.view (next_number n) other.received.signal u.entries (empty_output x.tokens))) a.equivalent.opened
-      (signal-equivalent x.at x.view hear.covered one.role other.role x.signal other.received.signal (next_number t.opened) t.entries u.entries (empty_output x.tokens) (empty_output x.tokens)
-      hear.signals hear.callers hear.lookups a.equivalent.entries first then (same_desk (empty_output x.tokens))))
+      (signal-equivalent x.at x.view receive.covered one.role other.role x.signal other.received.signal (next_number t.opened) t.entries u.entries (empty_output x.tokens) (empty_output x.tokens)
+      receive.signals receive.callers receive.lookups a.equivalent.entries first then (same_output (empty_output x.tokens))))
 
   -- ---- the table after a step of its calls
 
@@ -392,8 +392,8 @@ module _ (laws : OfCalls) (records : List Sheet) (config far : CallConfigView) (
       ap (λ (b : Bool). cond b (next_number t.opened) t.opened) (opening-same one.role other.role one.received.signal other.received.signal said)
       ∙ ap (λ (n : ℕ). cond (is_opening other.received.signal) (next_number n) n) e
 
-  pub hearing-alike : (one other : ReceivedWithRole) (t u : Table) → TablesCorrespond records config keys t u → ReceiveEquivalent records config far keys one other t u →
+  pub receiving-alike : (one other : ReceivedWithRole) (t u : Table) → TablesCorrespond records config keys t u → ReceiveEquivalent records config far keys one other t u →
       EquivalentTables records known (with_step (step_on_receive config one.received t) (opened_after one.received.signal t.opened) t) (with_step (step_on_receive far other.received u) (opened_after other.received.signal u.opened) u)
-  hearing-alike one other t u a hear =
+  receiving-alike one other t u a receive =
       with-alike (step_on_receive config one.received t) (step_on_receive far other.received u) (opened_after one.received.signal t.opened) (opened_after other.received.signal u.opened) t u
-      (opened_same one other t u hear.signals a.equivalent.opened) (signals-alike one other t u a hear) a.equivalent
+      (opened_same one other t u receive.signals a.equivalent.opened) (signals-alike one other t u a receive) a.equivalent

@@ -15,14 +15,14 @@ use Rattle.mmtel_b2bua_theorems.specs.EquivalentTables.{EquivalentTables}
 use Rattle.mmtel_b2bua_theorems.specs.Noninterference.{AllEquivalent, AreEquivalent, BothDrop, BothFinish, BothReceive, BothRelease, BothRestore, ConfigsAgree, OpIsFromOwnPeer, OpPair, ReceiveEquivalent, ReceivedWithRole, RecordsCoverSignal, TablesCorrespond, TablesStayEquivalent, one_after, one_of, other_after, other_of}
 use Rattle.mmtel_b2bua_theorems.proofs.Invariants.{did-kept}
 use Rattle.mmtel_b2bua_theorems.proofs.ReleasedLegs.{finishing-equivalent, legs-equivalent, released-equivalent, restored-equivalent}
-use Rattle.mmtel_b2bua_theorems.proofs.EquivalentSignals.{OfCalls, hearing-alike, signals-alike, with-alike}
+use Rattle.mmtel_b2bua_theorems.proofs.EquivalentSignals.{OfCalls, receiving-alike, signals-alike, with-alike}
 
 module _ (laws : OfCalls) (records : List Sheet) (config far : CallConfigView) (keys : TKey → Bool) (configured : ConfigsAgree records config far) where
   abbrev known : Peer → Bool
   known = λ peer. trusts config peer
 
   op-equivalent : (both : OpPair) (t u : Table) → TablesCorrespond records config keys t u → AreEquivalent records config far keys both t u → EquivalentTables records known (table_after_op config (one_of both) t) (table_after_op far (other_of both) u)
-  op-equivalent (BothReceive one other) t u a alike = hearing-alike laws records config far keys configured one other t u a alike
+  op-equivalent (BothReceive one other) t u a alike = receiving-alike laws records config far keys configured one other t u a alike
   op-equivalent (BothRelease number side) t u a alike = record { entries = released-equivalent laws records known number side t.entries u.entries a.equivalent.entries; opened = a.equivalent.opened; rows = a.equivalent.rows }
   op-equivalent (BothRestore number one other) t u a alike = record { entries = restored-equivalent laws records known number one other alike t.entries u.entries a.equivalent.entries; opened = a.equivalent.opened; rows = a.equivalent.rows }
   op-equivalent (BothFinish number at tokens) t u a alike =
@@ -65,7 +65,7 @@ pub tables_stay_equivalent : OfCalls → TablesStayEquivalent
 tables_stay_equivalent laws = record {
   operations = λ records config far keys both t u configured a alike. tables-correspond laws records config far keys configured both t u a alike;
   traces = λ records config far keys both configured alike. all-equivalent laws records config far keys configured both alike;
-  signals = λ records config far keys one other t u configured a hear. (signals-alike laws records config far keys configured one other t u a hear).output;
+  signals = λ records config far keys one other t u configured a receive. (signals-alike laws records config far keys configured one other t u a receive).output;
   ends = λ records config far keys number at tokens t u configured a. (finishing-equivalent laws records config far keys configured number at tokens t u a).output;
   legs = λ records known number side t u a. legs-equivalent laws records known number side t u a;
 }

@@ -19,7 +19,7 @@ use Rattle.mmtel_call.specs.declared.signals.Signal.TheVariants as of_call
 use Rattle.mmtel_call_theorems.specs.Noninterference.Invariant.{CallInvariant, CallsKeepTheirInvariant, SignalIsFromOwnPeer as CallAsksWell}
 use Rattle.mmtel_call_theorems.specs.Noninterference.Premises.{IsFromOwnPeer, RecordsCoverSnapshot}
 use Rattle.mmtel_call_theorems.specs.Noninterference.Observations.{Trust}
-use Rattle.mmtel_b2bua.specs.Entries.{busy_beside, has_received_key as heard_it, has_sent_branch, is_numbered, kept_entry}
+use Rattle.mmtel_b2bua.specs.Entries.{busy_beside, has_received_key as has_received_it, has_sent_branch, is_numbered, kept_entry}
 use Rattle.mmtel_b2bua.specs.Operations.{Drops, TableOp, Finishes, Receives, Releases, Restores, table_after_op}
 use Rattle.mmtel_b2bua.specs.Detaching.{entries_after_release, entries_after_restore, finish_step, place_of, released_at, released_where, restored_at, restored_where, step_of_finish, step_of_finish_at, step_of_finish_in}
 use Rattle.mmtel_b2bua.specs.Tables.{Table, busy_with, call_step, entry_for, invites_by, opening_step, put_at, snapshot_at, step_in, step_of_arrival, step_of_entry_at, step_of_receiver, step_of_signal}
@@ -80,21 +80,21 @@ module _ (keep : CallsKeepTheirInvariant) (records : List Sheet) (t : Trust) whe
     signal-kept (signal.Answer key response) number es output asks k = received-kept (has_sent_branch (awaited_request_branch response)) (of_call.Answer key response) [] es output tt k
     signal-kept (signal.Silent branch method) number es output asks k = received-kept (has_sent_branch (timed_out_branch branch method)) (of_call.Silent branch method) [] es output tt k
     signal-kept (signal.Due call what) number es output asks k = received-kept (is_numbered call.0) (of_call.Due what) [] es output tt k
-    signal-kept (signal.Over key) number es output asks k = received-kept (heard_it key) (of_call.Ended key) [] es output tt k
+    signal-kept (signal.Over key) number es output asks k = received-kept (has_received_it key) (of_call.Ended key) [] es output tt k
 
   -- ---- legs
 
-  lent_at-kept : (side : Side) (place : ℕ) (g : Option Entry) (es : List Entry) → slice_get es place ≡ g → CallsInvariant records t es → CallsInvariant records t (released_at side place g es)
-  lent_at-kept side place None es is k = k
-  lent_at-kept side place (Some e) es is k = set-kept records t es k place _ (keep.out records t side e.call (get-kept records t es k place e is))
+  released_at-kept : (side : Side) (place : ℕ) (g : Option Entry) (es : List Entry) → slice_get es place ≡ g → CallsInvariant records t es → CallsInvariant records t (released_at side place g es)
+  released_at-kept side place None es is k = k
+  released_at-kept side place (Some e) es is k = set-kept records t es k place _ (keep.out records t side e.call (get-kept records t es k place e is))
 
-  lent-kept : (side : Side) (place : Option ℕ) (es : List Entry) → CallsInvariant records t es → CallsInvariant records t (released_where side place es)
-  lent-kept side None es k = k
-  lent-kept side (Some place) es k = lent_at-kept side place (slice_get es place) es refl k
+  released_where-kept : (side : Side) (place : Option ℕ) (es : List Entry) → CallsInvariant records t es → CallsInvariant records t (released_where side place es)
+  released_where-kept side None es k = k
+  released_where-kept side (Some place) es k = released_at-kept side place (slice_get es place) es refl k
 
   released-kept : (number : ℕ) (side : Side) (es : List Entry) → CallsInvariant records t es → CallsInvariant records t (entries_after_release number side es)
   unfolding entries_after_release
-  released-kept number side es k = lent-kept side (place_of number es) es k
+  released-kept number side es k = released_where-kept side (place_of number es) es k
 
   back_at-kept : (leg : Released) (place : ℕ) (g : Option Entry) (es : List Entry) → slice_get es place ≡ g → CallsInvariant records t es → CallsInvariant records t (restored_at leg place g es)
   back_at-kept leg place None es is k = k

@@ -26,17 +26,17 @@ use Rattle.mmtel_b2bua_theorems.specs.NoInjection as clean
 use Rattle.mmtel_b2bua_theorems.specs.NoInjection.{CallsSendNoInjection, OpHasNoInjection, ReceivedHasNoInjection, signals}
 use Rattle.mmtel_b2bua_theorems.specs.TracesOfTables.{HasNumbers, call_of, continued_trace, emits_of, event_by, is_number, opening_by, trace_of}
 use Rattle.mmtel_b2bua_theorems.specs.Outcomes.{HaveEmptyOutputs}
-use Rattle.mmtel_b2bua_theorems.specs.TracesWithTransfers as lives
+use Rattle.mmtel_b2bua_theorems.specs.TracesWithTransfers as transfers
 use Rattle.mmtel_b2bua_theorems.specs.TracesWithTransfers.{CallEvent, CallTraceWithTransfers, call_after, emits_after}
 use Rattle.mmtel_b2bua_theorems.proofs.Tabling.{output_own}
 
 -- ---- the input of a call's trace is that of the operations
 
 abbrev EventHasNoInjection : (acks : List ReceivedAck) → CallEvent → Type 0
-EventHasNoInjection acks (lives.Receives x) = TraceStepHasNoInjection acks x
-EventHasNoInjection acks (lives.Releases side) = Unit {0}
-EventHasNoInjection acks (lives.Restores away) = Unit {0}
-EventHasNoInjection acks (lives.Finishes at output) = OutputHasNoInjection acks output
+EventHasNoInjection acks (transfers.Receives x) = TraceStepHasNoInjection acks x
+EventHasNoInjection acks (transfers.Releases side) = Unit {0}
+EventHasNoInjection acks (transfers.Restores away) = Unit {0}
+EventHasNoInjection acks (transfers.Finishes at output) = OutputHasNoInjection acks output
 
 abbrev TraceHasNoInjection : (acks : List ReceivedAck) → CallTraceWithTransfers → Type 0
 TraceHasNoInjection acks trace = TraceStartHasNoInjection acks trace.start × Each (EventHasNoInjection acks) trace.events
@@ -88,8 +88,8 @@ opened-no-injection acks config (Drops count) table s home given opens = absurd 
 
 event-no-injection : (acks : List ReceivedAck) (op : TableOp) (n : ℕ) (es : List Entry) (event : CallEvent) → OpHasNoInjection op → event_by op n es ≡ Some event → EventHasNoInjection acks event
 event-no-injection acks (Receives x) n es event given came = received-no-injection acks x.at x.view x.tokens x.signal n es event given.records given.token given.signal came
-event-no-injection acks (Releases number side) n es event given came = subst (EventHasNoInjection acks) (some-same (lives.Releases side) event came) tt
-event-no-injection acks (Restores number away) n es event given came = subst (EventHasNoInjection acks) (some-same (lives.Restores away) event came) tt
+event-no-injection acks (Releases number side) n es event given came = subst (EventHasNoInjection acks) (some-same (transfers.Releases side) event came) tt
+event-no-injection acks (Restores number away) n es event given came = subst (EventHasNoInjection acks) (some-same (transfers.Restores away) event came) tt
 event-no-injection acks (Finishes number at tokens) n es event given came = subst (EventHasNoInjection acks) (some-same _ event came) (record { token_in = given; out_in = tt })
 event-no-injection acks (Drops count) n es event given came = absurd (none-some event came)
 
@@ -142,23 +142,23 @@ own-added : (P : Emit → Type 0) (before after : List Emit) → before ≡ [] �
 own-added P before after e h = subst (Each P) (ap (λ (l : List Emit). drop (length l) after) (sym e)) h
 
 -- so is each that is sent in a trace, in which each ACK that was received is one of these
-abbrev OfStories : (acks : List ReceivedAck) → (Emit → Type 0) → Type 0
-OfStories acks P = (s : TraceStart) (received : List traces.TraceStep) → TraceStartHasNoInjection acks s → Each (TraceStepHasNoInjection acks) received → AreAmong (received_acks_after s received) acks → Each P (output_after s received).out
+abbrev OfTraces : (acks : List ReceivedAck) → (Emit → Type 0) → Type 0
+OfTraces acks P = (s : TraceStart) (received : List traces.TraceStep) → TraceStartHasNoInjection acks s → Each (TraceStepHasNoInjection acks) received → AreAmong (received_acks_after s received) acks → Each P (output_after s received).out
 
-plain-emits : (acks : List ReceivedAck) (P : Emit → Type 0) → OfStories acks P →
+plain-emits : (acks : List ReceivedAck) (P : Emit → Type 0) → OfTraces acks P →
     (s : TraceStart) (received : List traces.TraceStep) → HaveEmptyOutputs s (signals received) → TraceStartHasNoInjection acks s → Each (TraceStepHasNoInjection acks) received → AreAmong (received_acks_after s received) acks →
     Each P (emits_after s (signals received))
 unfolding emits_after
-plain-emits acks P law s [] desks start given among = own-added P s.output.out _ desks (law s [] start tt tt)
-plain-emits acks P law s (x ∷ earlier) desks start given among =
+plain-emits acks P law s [] step_outputs start given among = own-added P s.output.out _ step_outputs (law s [] start tt tt)
+plain-emits acks P law s (x ∷ earlier) step_outputs start given among =
     let before = back_among acks (received_acks_by s.config x.signal (traces.call_after s earlier)) (received_acks_after s earlier) among in
-    each-append P (emits_after s (signals earlier)) _ (plain-emits acks P law s earlier desks.1 start given.1 before)
-    (subst (λ (c : Call). Each P (items_added x.output.out (traces.next_step s x c).output.out)) (sym (plain-call s earlier)) (own-added P x.output.out _ desks.0 (law s
+    each-append P (emits_after s (signals earlier)) _ (plain-emits acks P law s earlier step_outputs.1 start given.1 before)
+    (subst (λ (c : Call). Each P (items_added x.output.out (traces.next_step s x c).output.out)) (sym (plain-call s earlier)) (own-added P x.output.out _ step_outputs.0 (law s
     (x ∷ earlier) start given among)))
 
 -- ---- of a table
 
-sends : (P : List ReceivedAck → Emit → Type 0) → ((acks : List ReceivedAck) → OfStories acks (P acks)) → CallsContinue → ChargingIsExact →
+sends : (P : List ReceivedAck → Emit → Type 0) → ((acks : List ReceivedAck) → OfTraces acks (P acks)) → CallsContinue → ChargingIsExact →
     (config : CallConfigView) (ops : List TableOp) (number : ℕ) (start : TraceStart) (received : List traces.TraceStep) → HasNumbers config ops → HasNoInjection config.home → Each OpHasNoInjection ops →
     trace_of config number ops ≡ Some (record { start = start; events = signals received }) → Each (P (received_acks_after start received)) (emits_of config number ops)
 sends P law goes charged config ops number start received few home given is =
@@ -170,12 +170,12 @@ sends P law goes charged config ops number start received few home given is =
 ends-no-injection : EmitsHaveNoInjection → FinishEmitsHaveNoInjection → CallsContinue → ChargingIsExact →
     (config : CallConfigView) (ops : List TableOp) (number : ℕ) (start : TraceStart) (received : List traces.TraceStep) (side : Side) (at : ℕ) (output : StepOutput) → HasNumbers config ops →
     HasNoInjection config.home → Each OpHasNoInjection ops →
-    trace_of config number ops ≡ Some (record { start = start; events = lives.Finishes at output ∷ lives.Releases side ∷ signals received }) →
+    trace_of config number ops ≡ Some (record { start = start; events = transfers.Finishes at output ∷ transfers.Releases side ∷ signals received }) →
     Each (EmitHasNoInjection (received_acks_after start received)) (emits_of config number ops)
 unfolding emits_after call_after
 ends-no-injection clean_law finished_law goes charged config ops number start received side at output few home given is =
     let acks : List ReceivedAck = received_acks_after start received in
-    let trace : CallTraceWithTransfers = record { start = start; events = lives.Finishes at output ∷ lives.Releases side ∷ signals received } in
+    let trace : CallTraceWithTransfers = record { start = start; events = transfers.Finishes at output ∷ transfers.Releases side ∷ signals received } in
     let own = output_own goes charged config ops number trace few is in
     let c = trace-no-injection acks config ops number trace home given is in
     let earlier = plain-emits acks (EmitHasNoInjection acks) (clean_law acks) start received own.outputs.1.1 c.0 (plain-no-injection acks received c.1.1.1) (own_among acks) in

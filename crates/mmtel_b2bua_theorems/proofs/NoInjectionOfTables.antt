@@ -15,7 +15,7 @@ use Rattle.mmtel_call.specs.Closing.{StepResult}
 use Rattle.mmtel_call.specs.Settled.{is_settled}
 use Rattle.mmtel_call.specs.declared.signals.Signal as calls
 use Rattle.mmtel_call.specs.declared.signals.Signal.TheVariants as of_call
-use Rattle.mmtel_call_theorems.specs.NoInjection.Acks as of_story
+use Rattle.mmtel_call_theorems.specs.NoInjection.Acks as acks_of_trace
 use Rattle.mmtel_call_theorems.specs.NoInjection.Acks.{ReceivedAck}
 use Rattle.mmtel_call_theorems.specs.NoInjection.Messages.{HasNoInjection}
 use Rattle.mmtel_call_theorems.specs.NoInjection.Emits.{Each, EmitHasNoInjection, OutputHasNoInjection}
@@ -79,7 +79,7 @@ good config at view busy home records = record { home_in = home; sheets_in = rec
 
 -- the ACK that a call receives is one of these
 abbrev AckIsAmong : (acks : List ReceivedAck) → CallConfigView → calls.Signal → Entry → Type 0
-AckIsAmong acks config s e = AreAmong (of_story.received_acks_by config s e.call) acks
+AckIsAmong acks config s e = AreAmong (acks_of_trace.received_acks_by config s e.call) acks
 
 at-no-injection : (acks : List ReceivedAck) (config : CallConfigView) (at : ℕ) (view : SheetsInForce) (s : calls.Signal) (invites : List InviteKey) (place : ℕ) (o : Option Entry) (es : List Entry) (output : StepOutput) →
     HasNoInjection config.home → RecordsHaveNoInjection view → traces.SignalHasNoInjection s → IfSome o (AckIsAmong acks config s) → OutputHasNoInjection acks output → Each (EntryHasNoInjection acks) es → IfSome o (EntryHasNoInjection acks) →

@@ -26,9 +26,9 @@ use Rattle.mmtel_call_theorems.specs.Theorems.{CallHasOtherKeys, ChargingIsExact
 use Rattle.mmtel_call_theorems.specs.Labels.{HasOtherKey, InFlightHasOtherKeys, PhaseHasOtherKey, is_offered, labels_of, labels_of_step}
 use Rattle.mmtel_call_theorems.specs.CallTrace as traces
 use Rattle.mmtel_call_theorems.specs.CallTrace.{TraceStart, TraceStep, items_added, next_step, opening_in}
-use Rattle.mmtel_call_theorems.specs.Attempts.Theorems as story_trace
+use Rattle.mmtel_call_theorems.specs.Attempts.Theorems as trace_attempts
 use Rattle.mmtel_call_theorems.specs.Attempts.Theorems.{AttemptsAreObserved, EndingsAreObserved, PhaseIsObserved}
-use Rattle.mmtel_call_theorems.specs.Attempts.Observed as story_seen
+use Rattle.mmtel_call_theorems.specs.Attempts.Observed as trace_observed
 use Rattle.mmtel_call_theorems.specs.Attempts.Observed.{AttemptEvent, AttemptInProgress, ObservedAttempts, end_observed, events_of, last_by, observed_end_in, observed_step, observed_step_from}
 use Rattle.mmtel_call_theorems.proofs.Labels.{labels-append}
 use Rattle.mmtel_b2bua_theorems.specs.Outcomes.{EventsHaveOtherKeys}
@@ -74,18 +74,18 @@ established-none bound time c (Over cause) w stands seen = seen
 -- ---- a trace beside one of signals
 
 record ObservedEqual (s : TraceStart) (events : List CallEvent) (received : List TraceStep) : Type 0 where
-  watch : observed_after s events ≡ story_seen.observed_after s received
-  last : SameLast (observed_after s events) (last_after s events) (story_seen.last_after_all s received)
-  observed : endings_observed s events ≡ story_seen.endings_observed s received
+  watch : observed_after s events ≡ trace_observed.observed_after s received
+  last : SameLast (observed_after s events) (last_after s events) (trace_observed.last_after_all s received)
+  observed : endings_observed s events ≡ trace_observed.endings_observed s received
 
 module _ (attempts : AttemptsAreObserved) (s : TraceStart) where
   -- of a signal that the trace of signals has too
   same-observed : (x : TraceStep) (earlier : List CallEvent) (received : List TraceStep) → call_after s earlier ≡ traces.call_after s received → ObservedEqual s earlier received → ObservedEqual s (Receives x ∷ earlier) (x ∷ received)
-  unfolding observed_after last_after endings_observed story_seen.observed_after story_seen.last_after_all story_seen.endings_observed
+  unfolding observed_after last_after endings_observed trace_observed.observed_after trace_observed.last_after_all trace_observed.endings_observed
   same-observed x earlier received is r =
       let w = observed_after s earlier in
       let one = last_after s earlier in
-      let other = story_seen.last_after_all s received in
+      let other = trace_observed.last_after_all s received in
       let key = s.arrival.key in
       let o = opening_in s in
       let marks : Call → List AttemptEvent = λ (c : Call). events_of s.config.sip s.arrival.number (items_added x.output.out (next_step s x c).output.out) in
@@ -100,28 +100,28 @@ module _ (attempts : AttemptsAreObserved) (s : TraceStart) where
 
   -- after a leg was detached
   later-observed : (x : TraceStep) (earlier : List CallEvent) (received : List TraceStep) → is_established_in (traces.call_after s received).phase ≡ true → ObservedEqual s earlier received → ObservedEqual s (Receives x ∷ earlier) (quiet x ∷ received)
-  unfolding observed_after last_after endings_observed story_seen.observed_after story_seen.last_after_all story_seen.endings_observed
+  unfolding observed_after last_after endings_observed trace_observed.observed_after trace_observed.last_after_all trace_observed.endings_observed
   later-observed x earlier received stands r =
       let w = observed_after s earlier in
-      let told = story_seen.observed_after s received in
+      let told = trace_observed.observed_after s received in
       let key = s.arrival.key in
-      let none-told : told.in_progress ≡ None = established-none s.config.bound (story_trace.no_reply_after s received) (traces.call_after s received) (traces.call_after s received).phase told stands (attempts s received) in
+      let none-told : told.in_progress ≡ None = established-none s.config.bound (trace_attempts.no_reply_after s received) (traces.call_after s received) (traces.call_after s received).phase told stands (attempts s received) in
       let none : w.in_progress ≡ None = ap (λ (w : ObservedAttempts). w.in_progress) r.watch ∙ none-told in
       let o = opening_in s in
       let still : observed_after s (Receives x ∷ earlier) ≡ w = none-next s.config o x.now.at w (last_after s earlier) x.signal _ none in
-      let still-told : story_seen.observed_after s (quiet x ∷ received) ≡ told = none-next s.config o x.now.at told (story_seen.last_after_all s received) (quiet x).signal _ none-told in
+      let still-told : trace_observed.observed_after s (quiet x ∷ received) ≡ told = none-next s.config o x.now.at told (trace_observed.last_after_all s received) (quiet x).signal _ none-told in
       record {
         watch = still ∙ r.watch ∙ sym still-told;
         last = λ g going. absurd (none-some g (sym none ∙ ap (λ (w : ObservedAttempts). w.in_progress) (sym still) ∙ going));
         observed =
             ap (λ end. endings_observed s earlier ++ option_to_list (option_map (ending_at x.now.at) end)) (none-ends w key (last_after s earlier) x.signal none) ∙ ap (λ l. l ++ []) r.observed
-            ∙ ap (λ end. story_seen.endings_observed s received ++ option_to_list (option_map (ending_at x.now.at) end))
-            (sym (none-ends told key (story_seen.last_after_all s received) (quiet x).signal none-told));
+            ∙ ap (λ end. trace_observed.endings_observed s received ++ option_to_list (option_map (ending_at x.now.at) end))
+            (sym (none-ends told key (trace_observed.last_after_all s received) (quiet x).signal none-told));
       }
 
   -- what is no signal ends nothing
   observed-beside : Beside s (ObservedEqual s)
-  unfolding observed_after last_after endings_observed story_seen.observed_after story_seen.last_after_all story_seen.endings_observed
+  unfolding observed_after last_after endings_observed trace_observed.observed_after trace_observed.last_after_all trace_observed.endings_observed
   observed-beside = record {
     opens = record { watch = refl; last = λ g going. refl; observed = refl };
     same = same-observed;
@@ -146,18 +146,18 @@ unoffered bound time c (Established x stage) w h none = none
 unoffered bound time c (Detached detached) w h none = none
 unoffered bound time c (Over cause) w h none = none
 
-time-same : (s : TraceStart) (events : List CallEvent) (received : List TraceStep) → MatchesTrace s events received → no_reply_after s events ≡ story_trace.no_reply_after s received
+time-same : (s : TraceStart) (events : List CallEvent) (received : List TraceStep) → MatchesTrace s events received → no_reply_after s events ≡ trace_attempts.no_reply_after s received
 time-same s events received l = λ i. no_reply_time_of (last_record (known-same s events received l i) 0 (outcome-same s events received l i).targets)
 
 observed-at : AttemptsAreObserved → (s : TraceStart) (events : List CallEvent) (received : List TraceStep) → MatchesTrace s events received → ObservedEqual s events received → Place s events received →
     PhaseIsObserved s.config.bound (no_reply_after s events) (call_after s events).acks (call_after s events).phase (observed_after s events)
 observed-at attempts s events received l r (Same is rows over) =
     subst (λ w. PhaseIsObserved s.config.bound (no_reply_after s events) (call_after s events).acks (call_after s events).phase w) (sym r.watch)
-    (subst (λ (c : Call). PhaseIsObserved s.config.bound (no_reply_after s events) c.acks c.phase (story_seen.observed_after s received)) (sym is)
-    (subst (λ time. PhaseIsObserved s.config.bound time (traces.call_after s received).acks (traces.call_after s received).phase (story_seen.observed_after s received)) (sym (time-same s events received l))
+    (subst (λ (c : Call). PhaseIsObserved s.config.bound (no_reply_after s events) c.acks c.phase (trace_observed.observed_after s received)) (sym is)
+    (subst (λ time. PhaseIsObserved s.config.bound time (traces.call_after s received).acks (traces.call_after s received).phase (trace_observed.observed_after s received)) (sym (time-same s events received l))
     (attempts s received)))
 observed-at attempts s events received l r (Later stands kept after) =
-    let none = established-none s.config.bound (story_trace.no_reply_after s received) (traces.call_after s received) (traces.call_after s received).phase (story_seen.observed_after s received) stands (attempts s received) in
+    let none = established-none s.config.bound (trace_attempts.no_reply_after s received) (traces.call_after s received) (traces.call_after s received).phase (trace_observed.observed_after s received) stands (attempts s received) in
     unoffered s.config.bound (no_reply_after s events) (call_after s events) (call_after s events).phase (observed_after s events) (after-offered _ _ (traces.call_after s received) (call_after s events) _ after)
     (ap (λ (w : ObservedAttempts). w.in_progress) r.watch ∙ none)
 
@@ -258,4 +258,4 @@ all-shown law s (x ∷ earlier) others =
     (λ i. all-shown law s earlier others.1 i ++ shown-alone law s x earlier others i) ∙ sym (labels-append key (emits_while_offered s earlier) out)
 
 pub traces_show_throughout : CallsContinue → ChargingIsExact → ShowsItsOutcome → ShowsNothingLater → TracesShowThroughout
-traces_show_throughout law charged shows later s events others desks = all-shown later s events others ∙ traces_show law charged shows s events others desks
+traces_show_throughout law charged shows later s events others step_outputs = all-shown later s events others ∙ traces_show law charged shows s events others step_outputs

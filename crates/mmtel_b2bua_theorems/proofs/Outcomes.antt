@@ -12,9 +12,9 @@ use Rattle.mmtel_call.specs.declared.calls.Phase.{Phase}
 use Rattle.mmtel_call_theorems.specs.Charging.{charging_records_of_parts, parts_of, running_meters, running_meters_in}
 use Rattle.mmtel_call_theorems.specs.Endings.{answer_moment}
 use Rattle.mmtel_call_theorems.specs.Continuation.{CallsContinue, Parts, StaysSame, ending_at, is_established_in, parts_in}
-use Rattle.mmtel_call_theorems.specs.Outcomes as story_known
+use Rattle.mmtel_call_theorems.specs.Outcomes as trace_outcomes
 use Rattle.mmtel_call_theorems.specs.Outcomes.{call_inputs_of, initially_remaining, result_if_answered, result_in, result_of}
-use Rattle.mmtel_call_theorems.specs.Theorems as story_laws
+use Rattle.mmtel_call_theorems.specs.Theorems as trace_theorems
 use Rattle.mmtel_call_theorems.specs.Theorems.{ChargingIsExact, DiversionsAreCounted, ReachesItsOutcome, ShowsItsOutcome}
 use Rattle.mmtel_call_theorems.specs.Labels.{label_of_result, labels_of, labels_of_targets}
 use Rattle.mmtel_call_theorems.specs.CallTrace as traces
@@ -27,10 +27,10 @@ use Rattle.mmtel_b2bua_theorems.proofs.TraceSteps.{Gone, Later, MatchesTrace, Pl
 
 -- ---- the same is known, and the result is the same
 
-pub known-same : (s : TraceStart) (events : List CallEvent) (received : List TraceStep) → MatchesTrace s events received → call_inputs_after s events ≡ story_known.call_inputs_after s received
+pub known-same : (s : TraceStart) (events : List CallEvent) (received : List TraceStep) → MatchesTrace s events received → call_inputs_after s events ≡ trace_outcomes.call_inputs_after s received
 known-same s events received l = λ i. call_inputs_of s.config s.now (opening_in s) (λ k. l.snapshot k i)
 
-pub outcome-same : (s : TraceStart) (events : List CallEvent) (received : List TraceStep) → MatchesTrace s events received → outcome_after s events ≡ story_known.outcome_after s received
+pub outcome-same : (s : TraceStart) (events : List CallEvent) (received : List TraceStep) → MatchesTrace s events received → outcome_after s events ≡ trace_outcomes.outcome_after s received
 outcome-same s events received l = λ i. outcome (call_inputs_of s.config s.now (opening_in s) (λ k. l.snapshot k i)) (l.endings i)
 
 -- what does not change of the trace's call
@@ -78,9 +78,9 @@ traces_reach law charged comes s events =
 -- ---- what is sent
 
 pub traces_show : CallsContinue → ChargingIsExact → ShowsItsOutcome → TracesShowTheirOutcome
-traces_show law charged shows s events others desks =
+traces_show law charged shows s events others outputs =
     let (received, l) = matches_trace law charged s events in
-    ap (labels_of s.arrival.key) l.emits ∙ shows s received (l.own others desks)
+    ap (labels_of s.arrival.key) l.emits ∙ shows s received (l.own others outputs)
     ∙ ap (λ (o : precedence.Outcome). labels_of_targets (opening_in s) o.targets ++ label_of_result o.result) (sym (outcome-same s events received l))
 
 -- ---- the bound
@@ -112,7 +112,7 @@ answered-observed law charged s events =
     let (received, l) = matches_trace law charged s events in
     (stays-same s events received l.place).answered ∙ charged.answered s received ∙ ap answer_moment (sym l.endings)
 
-parts-same : (s : TraceStart) (events : List CallEvent) (received : List TraceStep) → MatchesTrace s events received → story_laws.parts_after s received ≡ parts_after s events
+parts-same : (s : TraceStart) (events : List CallEvent) (received : List TraceStep) → MatchesTrace s events received → trace_theorems.parts_after s received ≡ parts_after s events
 parts-same s events received l = λ i. parts_of (sym (known-same s events received l) i) s.arrival.number (sym (outcome-same s events received l) i).targets
 
 runs-at : CallsContinue → ChargingIsExact → (s : TraceStart) (events : List CallEvent) (received : List TraceStep) → MatchesTrace s events received → AreFitting s events →

@@ -18,7 +18,7 @@ use Rattle.mmtel_b2bua_theorems.specs.TracesOfTables.{ArePutBack, HasNumbers, ca
 use Rattle.mmtel_b2bua_theorems.specs.TracesOfTables.{charging_records_of, entry_by, is_number, number_by, number_of, op_charging_records, opening_by, out_by, trace_by, trace_of}
 use Rattle.mmtel_b2bua_theorems.specs.Outcomes.{AreFitting, IsFitting}
 use Rattle.mmtel_b2bua_theorems.specs.Theorems.{OutputsAreOfTheTrace}
-use Rattle.mmtel_b2bua_theorems.specs.TracesWithTransfers as lives
+use Rattle.mmtel_b2bua_theorems.specs.TracesWithTransfers as transfers
 use Rattle.mmtel_b2bua_theorems.specs.TracesWithTransfers.{CallEvent, CallTraceWithTransfers, call_after, call_by}
 use Rattle.mmtel_b2bua_theorems.proofs.TableEffects.{AllStay, Comes, ComesTo, Effect, IsNobodys, IsOpened, Nobodys, Opens, effect, first_entry, gone}
 use Rattle.mmtel_b2bua_theorems.proofs.Tables.{Rising, changed, changed-found, changed-others, changed-rising, found-bounded, found-by-number}
@@ -83,19 +83,19 @@ traced-by : (l : Option CallTraceWithTransfers) (e : Entry) → entry_in l ≡ S
 traced-by None e h = absurd (none-some e h)
 traced-by (Some trace) e h = go (is_settled (call_after trace.start trace.events)) refl h
   where
-    go : (b : Bool) → is_settled (call_after trace.start trace.events) ≡ b → (if b then None else Some (entry_after trace)) ≡ Some e → (life2 : CallTraceWithTransfers) × IsTraced (Some trace) e life2
+    go : (b : Bool) → is_settled (call_after trace.start trace.events) ≡ b → (if b then None else Some (entry_after trace)) ≡ Some e → (trace2 : CallTraceWithTransfers) × IsTraced (Some trace) e trace2
     go true s h = absurd (none-some e h)
     go false s h = (trace, record { is = refl; stays = s; entry = let same : entry_after trace ≡ e = cc in same })
 
-pub entry-lives : (config : CallConfigView) (ops : List TableOp) (p : Entry → Bool) (e : Entry) → Holds config ops → find p (table_after config ops).entries ≡ Some e →
+pub entry-traces : (config : CallConfigView) (ops : List TableOp) (p : Entry → Bool) (e : Entry) → Holds config ops → find p (table_after config ops).entries ≡ Some e →
     (trace : CallTraceWithTransfers) × IsTraced (trace_of config (number_of e) ops) e trace
-entry-lives config ops p e holds h =
+entry-traces config ops p e holds h =
     let table = table_after config ops in
     traced-by (trace_of config (number_of e) ops) e (sym (holds.found (number_of e)) ∙ found-by-number p 0 table.opened table.entries e holds.rising h)
 
 pub all-stay : (config : CallConfigView) (ops : List TableOp) → Holds config ops → AllStay (table_after config ops).entries
 all-stay config ops holds p e h =
-    let (trace, l) = entry-lives config ops p e holds h in ap (λ (e : Entry). is_settled e.call) (sym l.entry) ∙ l.stays
+    let (trace, l) = entry-traces config ops p e holds h in ap (λ (e : Entry). is_settled e.call) (sym l.entry) ∙ l.stays
 
 -- ---- an operation of no call, or of another call, does not change a trace
 
@@ -263,14 +263,14 @@ come-brings : (config : CallConfigView) (op : TableOp) (earlier : List TableOp) 
     OutputsAreOfTheTrace config earlier n trace →
     GoesOn config op earlier n trace event → Comes config op (table_after config earlier) p e z event →
     OutputsAreOfTheTrace config (op ∷ earlier) n (record trace { events = event ∷ trace.events })
-unfolding lives.emits_after lives.charging_records_after
+unfolding transfers.emits_after transfers.charging_records_after
 come-brings config op earlier p e z n trace event entry b g c =
     let its = b.opening.0 in
     record {
       opening = b.opening;
       outputs = (c.own, b.outputs);
-      emits = g.emits ∙ (λ i. b.emits i ++ c.out i) ∙ (λ i. lives.emits_after trace.start trace.events ++ lives.emits_by (sym its i) event (sym entry i).call);
-      rows = g.rows ∙ (λ i. b.rows i ++ c.rows i) ∙ (λ i. lives.charging_records_after trace.start trace.events ++ lives.charging_records_by (sym its i) event (sym entry i).call);
+      emits = g.emits ∙ (λ i. b.emits i ++ c.out i) ∙ (λ i. transfers.emits_after trace.start trace.events ++ transfers.emits_by (sym its i) event (sym entry i).call);
+      rows = g.rows ∙ (λ i. b.rows i ++ c.rows i) ∙ (λ i. transfers.charging_records_after trace.start trace.events ++ transfers.charging_records_by (sym its i) event (sym entry i).call);
     }
 
 come-holds : Stay → (config : CallConfigView) (op : TableOp) (earlier : List TableOp) (p : Entry → Bool) (e z : Entry) (event : CallEvent) → Holds config earlier →
@@ -278,7 +278,7 @@ come-holds : Stay → (config : CallConfigView) (op : TableOp) (earlier : List T
 come-holds stay config op earlier p e z event holds c =
     let table = table_after config earlier in
     let n = number_of e in
-    let (trace, l) = entry-lives config earlier p e holds c.found in
+    let (trace, l) = entry-traces config earlier p e holds c.found in
     let b = holds.brings n trace l.is in
     let call : call_of config op table ≡ Some n = λ i. number_by (c.opens i) (c.entry i) in
     let g = goes-so config op earlier n trace event c.opens c.came call l.is in
@@ -307,24 +307,24 @@ come-holds stay config op earlier p e z event holds c =
           let higher : table.opened < m = subst (λ k. k < m) c.opened above in
           let other : n ≢ m = omega arith in
           let u = holds.unborn m higher in ((pass m other).emits ∙ u.0, (pass m other).rows ∙ u.1);
-      brings = λ m life2 is.
+      brings = λ m trace2 is.
           elim (distinct-numbers n m) [
-            | inl same ↦ subst (λ m. trace_of config m (op ∷ earlier) ≡ Some life2 → OutputsAreOfTheTrace config (op ∷ earlier) m life2) same (λ is.
-                let both : Some later ≡ Some life2 = sym g.is ∙ is in
-                let it : later ≡ life2 = cc in subst (OutputsAreOfTheTrace config (op ∷ earlier) n) it brings_now) is
-            | inr other ↦ passed-brings config op earlier m life2 holds (pass m other) is
+            | inl same ↦ subst (λ m. trace_of config m (op ∷ earlier) ≡ Some trace2 → OutputsAreOfTheTrace config (op ∷ earlier) m trace2) same (λ is.
+                let both : Some later ≡ Some trace2 = sym g.is ∙ is in
+                let it : later ≡ trace2 = cc in subst (OutputsAreOfTheTrace config (op ∷ earlier) n) it brings_now) is
+            | inr other ↦ passed-brings config op earlier m trace2 holds (pass m other) is
           ];
-      fits = λ back m life2 is.
+      fits = λ back m trace2 is.
           elim (distinct-numbers n m) [
-            | inl same ↦ subst (λ m. trace_of config m (op ∷ earlier) ≡ Some life2 → AreFitting life2.start life2.events) same (λ is.
-                let both : Some later ≡ Some life2 = sym g.is ∙ is in
-                let it : later ≡ life2 = cc in
+            | inl same ↦ subst (λ m. trace_of config m (op ∷ earlier) ≡ Some trace2 → AreFitting trace2.start trace2.events) same (λ is.
+                let both : Some later ≡ Some trace2 = sym g.is ∙ is in
+                let it : later ≡ trace2 = cc in
                 subst (λ (l : CallTraceWithTransfers). AreFitting l.start l.events) it (
                   subst (λ (e : Entry). IsFitting event e.call) (sym l.entry)
                       (c.fits back.0),
                   holds.fits back.1 n trace l.is,
                 )) is
-            | inr other ↦ holds.fits back.1 m life2 (sym (pass m other).trace ∙ is)
+            | inr other ↦ holds.fits back.1 m trace2 (sym (pass m other).trace ∙ is)
           ];
     }
 

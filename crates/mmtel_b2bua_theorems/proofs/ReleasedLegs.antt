@@ -24,7 +24,7 @@ use Rattle.mmtel_b2bua.specs.Tables.{Table}
 use Rattle.mmtel_b2bua.specs.declared.entries.Entry.{Entry}
 use Rattle.mmtel_b2bua_theorems.specs.EquivalentTables.{CallsInvariant, EquivalentEntries, EquivalentEntry, EquivalentTables}
 use Rattle.mmtel_b2bua_theorems.specs.Noninterference.{ConfigsAgree, TablesCorrespond}
-use Rattle.mmtel_b2bua_theorems.proofs.EquivalentSignals.{EquivalentMoves, OfCalls, same_desk, step-equivalent}
+use Rattle.mmtel_b2bua_theorems.proofs.EquivalentSignals.{EquivalentMoves, OfCalls, same_output, step-equivalent}
 use Rattle.mmtel_b2bua_theorems.proofs.Places.{EquivalentAt, get-equivalent, get-kept, position-same, set-equivalent}
 use Rattle.mmtel_b2bua_theorems.proofs.EquivalentEntries.{numbered-same}
 
@@ -137,4 +137,4 @@ module _ (laws : OfCalls) (records : List Sheet) (config far : CallConfigView) (
 
   pub finishing-equivalent : (number at : ℕ) (tokens : TokensView) (t u : Table) → TablesCorrespond records config keys t u →
       EquivalentMoves laws records config far keys configured (step_on_finish config number at tokens t) (step_on_finish far number at tokens u)
-  finishing-equivalent number at tokens t u a = ended-equivalent at number t.entries u.entries (empty_output tokens) (empty_output tokens) a.equivalent.entries a.one a.other (same_desk laws records config far keys configured (empty_output tokens))
+  finishing-equivalent number at tokens t u a = ended-equivalent at number t.entries u.entries (empty_output tokens) (empty_output tokens) a.equivalent.entries a.one a.other (same_output laws records config far keys configured (empty_output tokens))

@@ -12,12 +12,12 @@ use Rattle.mmtel_b2bua_theorems.specs.TracesWithTransfers.{CallEvent, Finishes, 
 use Rattle.mmtel_b2bua_theorems.specs.Replies.{CallsReplyInTheirOwn, EventIsOf, TracesReplyInTheirOwn}
 use Rattle.mmtel_b2bua_theorems.proofs.Tabling.{output_own}
 
-module _ (steps : StepsReplyInTheirOwn) (openings : OpeningsReplyInTheirOwn) (ends : EndsReplyInTheirOwn) (lent : DetachedCallsKeepTheirOwn) (returned : RestoredCallsKeepTheirOwn) where
+module _ (steps : StepsReplyInTheirOwn) (openings : OpeningsReplyInTheirOwn) (ends : EndsReplyInTheirOwn) (detached : DetachedCallsKeepTheirOwn) (returned : RestoredCallsKeepTheirOwn) where
   module _ (own : ℕ → Bool) where
     -- one event more
     call_by_own : (config : CallConfigView) (x : CallEvent) (c : Call) → EventIsOf own x → CallIsOf own c → CallIsOf own (call_by config x c)
     call_by_own config (Receives x) c e is = (steps own config x.now x.signal c x.output is e.0 e.1).call_in
-    call_by_own config (Releases side) c e is = lent own side c is
+    call_by_own config (Releases side) c e is = detached own side c is
     call_by_own config (Restores away) c e is = returned own away c is
     call_by_own config (Finishes at output) c e is = (ends own config at c output is e).call_in
 
@@ -40,9 +40,9 @@ module _ (steps : StepsReplyInTheirOwn) (openings : OpeningsReplyInTheirOwn) (en
           each_append (IsRepliedIn own) (emits_after s earlier) (emits_by s.config x (call_after s earlier)) (emits_own earlier e.1)
           (emits_by_own s.config x (call_after s earlier) e.0 (call_own earlier e.1))
 
-  pub lives_reply : TracesReplyInTheirOwn
-  lives_reply own s events is = emits_own own s is.opening is.output events is.events_in
+  pub traces_reply : TracesReplyInTheirOwn
+  traces_reply own s events is = emits_own own s is.opening is.output events is.events_in
 
   pub calls_reply : CallsContinue → ChargingIsExact → CallsReplyInTheirOwn
   calls_reply goes charging own config ops number trace few is of =
-      subst (Each (IsRepliedIn own)) (sym (output_own goes charging config ops number trace few is).emits) (lives_reply own trace.start trace.events of)
+      subst (Each (IsRepliedIn own)) (sym (output_own goes charging config ops number trace few is).emits) (traces_reply own trace.start trace.events of)

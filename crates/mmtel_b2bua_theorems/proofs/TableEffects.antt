@@ -31,7 +31,7 @@ use Rattle.mmtel_b2bua.specs.declared.signals.Signal.{Signal}
 use Rattle.mmtel_b2bua.specs.declared.signals.Signal.TheVariants as signal
 use Rattle.mmtel_b2bua_theorems.specs.TracesOfTables.{IsPutBack, call_of, entry_by, event_by, invites_by_event, invites_in, number_of, op_charging_records, opening_by, out_by, received_event}
 use Rattle.mmtel_b2bua_theorems.specs.Outcomes.{HasEmptyOutput, IsFitting}
-use Rattle.mmtel_b2bua_theorems.specs.TracesWithTransfers as lives
+use Rattle.mmtel_b2bua_theorems.specs.TracesWithTransfers as transfers
 use Rattle.mmtel_b2bua_theorems.specs.TracesWithTransfers.{CallEvent, call_by, emits_by}
 use Rattle.mmtel_b2bua_theorems.proofs.Tables.{Finds, Found, Lost, changed, finds, left, put, put-is}
 
@@ -61,7 +61,7 @@ pub record Comes (config : CallConfigView) (op : TableOp) (table : Table) (p : E
   pub call : z.call ≡ call_by config event e.call
   pub invites : z.invites ≡ e.invites ++ invites_by_event event
   pub out : out_by config op table ≡ emits_by config event e.call
-  pub rows : op_charging_records config op table ≡ lives.charging_records_by config event e.call
+  pub rows : op_charging_records config op table ≡ transfers.charging_records_by config event e.call
   pub own : HasEmptyOutput event
   pub fits : IsPutBack op table → IsFitting event e.call
 
@@ -85,8 +85,8 @@ pub record IsOpened (config : CallConfigView) (op : TableOp) (table : Table) (s 
   pub empty : s.output.out ≡ []
   pub entries : (table_after_op config op table).entries ≡ table.entries ++ left gone (first_entry s)
   pub opened : (table_after_op config op table).opened ≡ Rattle.mmtel_base.specs.Numbers.next_number table.opened
-  pub out : out_by config op table ≡ lives.emits_after s []
-  pub rows : op_charging_records config op table ≡ lives.charging_records_after s []
+  pub out : out_by config op table ≡ transfers.emits_after s []
+  pub rows : op_charging_records config op table ≡ transfers.charging_records_after s []
 
 pub data Effect (config : CallConfigView) (op : TableOp) (table : Table) : Type 0 where
   Opens : (s : TraceStart) → IsOpened config op table s → Effect config op table
@@ -156,7 +156,7 @@ signal-effect config at view tokens s table whose received t (Lost lost none) =
     })
 
 pub receives-effect : (config : CallConfigView) (at : ℕ) (view : SheetsInForce) (tokens : TokensView) (s : Signal) (table : Table) → Effect config (of_signal at view tokens s) table
-unfolding step_of_signal opening_step lives.emits_after lives.charging_records_after lives.call_after
+unfolding step_of_signal opening_step transfers.emits_after transfers.charging_records_after transfers.call_after
 receives-effect config at view tokens (signal.Arrived key invite served registration identities) table =
     let arrival : Arrival = record {
       number = record { 0 = Rattle.mmtel_base.specs.Numbers.next_number table.opened };
@@ -218,7 +218,7 @@ released-effect : (config : CallConfigView) (number : ℕ) (side : Side) (table 
 unfolding entries_after_release
 released-effect config number side table stay (Found place e at_place first is found) =
     let z = entry_after_release side e in
-    ComesTo (is_numbered number) e z (lives.Releases side) (record {
+    ComesTo (is_numbered number) e z (transfers.Releases side) (record {
       opens = refl;
       entry = found;
       came = refl;
@@ -244,7 +244,7 @@ restored-effect : (config : CallConfigView) (number : ℕ) (away : Released) (ta
 unfolding entries_after_restore
 restored-effect config number away table stay (Found place e at_place first is found) =
     let z = entry_after_restore away e in
-    ComesTo (is_numbered number) e z (lives.Restores away) (record {
+    ComesTo (is_numbered number) e z (transfers.Restores away) (record {
       opens = refl;
       entry = found;
       came = refl;
@@ -272,7 +272,7 @@ finished-effect config number at tokens table (Found place e at_place first is f
     let moved : step_of_finish_in config at (Rattle.mmtel_b2bua.specs.Detaching.place_of number table.entries) table.entries (empty_output tokens)
     ≡ step_of_entry place [] e (finish_step config at (empty_output tokens) e) table.entries =
     ap (λ o. step_of_finish_in config at o table.entries (empty_output tokens)) at_place ∙ ap (λ o. step_of_finish_at config at place o table.entries (empty_output tokens)) is in
-    ComesTo (is_numbered number) e z (lives.Finishes at (empty_output tokens)) (record {
+    ComesTo (is_numbered number) e z (transfers.Finishes at (empty_output tokens)) (record {
       opens = refl;
       entry = found;
       came = refl;

@@ -26,14 +26,14 @@ use Rattle.mmtel_call.specs.declared.calls.Phase.TheVariants.{Detached, Establis
 use Rattle.mmtel_call.specs.declared.calls.Phase.{Phase}
 use Rattle.mmtel_call.specs.declared.calls.Stage.TheVariants.{Answered, Departing, Reinviting, Stable}
 use Rattle.mmtel_call.specs.declared.signals.Signal.TheVariants as of_call
-use Rattle.mmtel_call_theorems.specs.Endings as story_endings
+use Rattle.mmtel_call_theorems.specs.Endings as trace_endings
 use Rattle.mmtel_call_theorems.specs.Endings.{end_in, ending_by}
 use Rattle.mmtel_call_theorems.specs.Continuation as going
 use Rattle.mmtel_call_theorems.specs.Continuation.{CallsContinue, HasEnded, Parts, StaysSame, ending_at, is_established_in, parts_in, parts_now}
-use Rattle.mmtel_call_theorems.specs.Outcomes as story_known
+use Rattle.mmtel_call_theorems.specs.Outcomes as trace_outcomes
 use Rattle.mmtel_call_theorems.specs.Outcomes.{diversions_made_in}
 use Rattle.mmtel_call_theorems.specs.Theorems.{ChargingIsExact}
-use Rattle.mmtel_call_theorems.specs.Labels as story_shown
+use Rattle.mmtel_call_theorems.specs.Labels as trace_labels
 use Rattle.mmtel_call_theorems.specs.Labels.{is_offered}
 use Rattle.mmtel_call_theorems.specs.CallTrace as traces
 use Rattle.mmtel_call_theorems.specs.CallTrace.{TraceStart, TraceStep, is_over, items_added, next_step}
@@ -229,7 +229,7 @@ established-offered (Over cause) h = refl
 no-end : (x : TraceStep) (c : Call) → is_offered c.phase ≡ false → ending_by x c ≡ []
 no-end x c h = go c.phase h
   where
-    go : (phase : Phase) → is_offered phase ≡ false → option_to_list (option_map (story_endings.ending_at x.now.at) (end_in phase c x.signal)) ≡ []
+    go : (phase : Phase) → is_offered phase ≡ false → option_to_list (option_map (trace_endings.ending_at x.now.at) (end_in phase c x.signal)) ≡ []
     go (Offered trial) h = absurd (let e : true ≡ false = h in cc)
     go (Established pair stage) h = refl
     go (Detached detached) h = refl
@@ -244,10 +244,10 @@ pub data Place (s : TraceStart) (events : List CallEvent) (received : List Trace
       After (AreFitting s events) (over_at s events) (traces.call_after s received) (call_after s events) (charging_records_after s events) → Place s events received
 
 pub record MatchesTrace (s : TraceStart) (events : List CallEvent) (received : List TraceStep) : Type 0 where
-  pub endings : endings_after s events ≡ story_endings.endings_after s received
-  pub snapshot : (k : ℕ) → snapshot_at_diversion s events k ≡ story_known.snapshot_at_diversion s received k
-  pub emits : emits_while_offered s events ≡ story_shown.emits_while_offered s received
-  pub own : EventsHaveOtherKeys s.arrival.key events → HaveEmptyOutputs s events → story_shown.HaveEmptyOutputs s received
+  pub endings : endings_after s events ≡ trace_endings.endings_after s received
+  pub snapshot : (k : ℕ) → snapshot_at_diversion s events k ≡ trace_outcomes.snapshot_at_diversion s received k
+  pub emits : emits_while_offered s events ≡ trace_labels.emits_while_offered s received
+  pub own : EventsHaveOtherKeys s.arrival.key events → HaveEmptyOutputs s events → trace_labels.HaveEmptyOutputs s received
   pub place : Place s events received
 
 -- ---- an event that is no signal
@@ -305,7 +305,7 @@ no-signal law s x earlier received turns ends stands out l = record {
       ap (λ now. if nat_lt k (diversions_made_in s (call_after s earlier)) then snapshot_at_diversion s earlier k else now) (stands (snapshot_at_diversion s earlier k))
       ∙ if-same (nat_lt k (diversions_made_in s (call_after s earlier))) (snapshot_at_diversion s earlier k) ∙ l.snapshot k;
   emits = ap (λ es. emits_while_offered s earlier ++ es) out ∙ append-nil (emits_while_offered s earlier) ∙ l.emits;
-  own = λ others desks. l.own others.1 desks.1;
+  own = λ others step_outputs. l.own others.1 step_outputs.1;
   place = place-of law s x earlier received turns l.place;
 }
 
@@ -337,13 +337,13 @@ if-then b one now h = ap (λ b. if b then one else now) h
 signal-same : (s : TraceStart) (x : TraceStep) (earlier : List CallEvent) (received : List TraceStep) → call_after s earlier ≡ traces.call_after s received →
     charging_records_after s earlier ≡ traces.charging_records_after s received →
     (is_over (traces.call_after s received).phase ≡ true → over_at s earlier ≡ traces.over_at s received) → MatchesTrace s earlier received → MatchesTrace s (Receives x ∷ earlier) (x ∷ received)
-unfolding call_after charging_records_after over_at endings_after snapshot_at_diversion emits_while_offered traces.call_after traces.charging_records_after traces.over_at story_endings.endings_after
-    story_known.snapshot_at_diversion story_shown.emits_while_offered
+unfolding call_after charging_records_after over_at endings_after snapshot_at_diversion emits_while_offered traces.call_after traces.charging_records_after traces.over_at trace_endings.endings_after
+    trace_outcomes.snapshot_at_diversion trace_labels.emits_while_offered
 signal-same s x earlier received is rows over l = record {
   endings = λ i. l.endings i ++ ending_by x (is i);
   snapshot = λ k i. if nat_lt k (diversions_made_in s (is i)) then l.snapshot k i else x.now;
   emits = λ i. l.emits i ++ (if is_offered (is i).phase then items_added x.output.out (next_step s x (is i)).output.out else []);
-  own = λ others desks. (desks.0, others.0, l.own others.1 desks.1);
+  own = λ others step_outputs. (step_outputs.0, others.0, l.own others.1 step_outputs.1);
   place = Same (λ i. (next_step s x (is i)).call) (λ i. rows i ++ items_added x.output.rows (next_step s x (is i)).output.rows) (λ h.
       ap (λ (c : Call). if is_over c.phase then over_at s earlier else x.now.at) is
       ∙ at-same (is_over (traces.call_after s received).phase) (over_at s earlier) (traces.over_at s received) x.now.at over);
@@ -353,8 +353,8 @@ signal-later : (law : CallsContinue) (s : TraceStart) (x : TraceStep) (earlier :
     StaysSame (traces.call_after s received) (call_after s earlier) →
     After (AreFitting s earlier) (over_at s earlier) (traces.call_after s received) (call_after s earlier) (charging_records_after s earlier) → MatchesTrace s earlier received →
     MatchesTrace s (Receives x ∷ earlier) (quiet x ∷ received)
-unfolding call_after charging_records_after over_at endings_after snapshot_at_diversion emits_while_offered traces.call_after traces.charging_records_after traces.over_at story_endings.endings_after
-    story_known.snapshot_at_diversion story_shown.emits_while_offered
+unfolding call_after charging_records_after over_at endings_after snapshot_at_diversion emits_while_offered traces.call_after traces.charging_records_after traces.over_at trace_endings.endings_after
+    trace_outcomes.snapshot_at_diversion trace_labels.emits_while_offered
 signal-later law s x earlier received stands kept after l =
     let c = call_after s earlier in
     let d = traces.call_after s received in
@@ -363,12 +363,12 @@ signal-later law s x earlier received stands kept after l =
     let new = (step s.config x.now x.signal c x.output).call in
     record {
       endings =
-          (λ i. l.endings i ++ no-end x c offered i) ∙ (λ i. story_endings.endings_after s received ++ sym (no-end (quiet x) d (established-offered d.phase stands)) i);
+          (λ i. l.endings i ++ no-end x c offered i) ∙ (λ i. trace_endings.endings_after s received ++ sym (no-end (quiet x) d (established-offered d.phase stands)) i);
       snapshot = λ k i. if nat_lt k (Rattle.mmtel_call_theorems.specs.Outcomes.initially_remaining s - (kept.diversions i).remaining) then l.snapshot k i else x.now;
       emits =
           (λ i. l.emits i ++ (if offered i then items_added x.output.out (step s.config x.now x.signal c x.output).output.out else []))
-          ∙ (λ i. story_shown.emits_while_offered s received ++ (if sym (established-offered d.phase stands) i then items_added x.output.out (next_step s (quiet x) d).output.out else []));
-      own = λ others desks. (desks.0, tt, l.own others.1 desks.1);
+          ∙ (λ i. trace_labels.emits_while_offered s received ++ (if sym (established-offered d.phase stands) i then items_added x.output.out (next_step s (quiet x) d).output.out else []));
+      own = λ others step_outputs. (step_outputs.0, tt, l.own others.1 step_outputs.1);
       place =
           subst (λ (e : Call). is_established_in e.phase ≡ true → StaysSame e new →
           After (AreFitting s (Receives x ∷ earlier)) (over_at s (Receives x ∷ earlier)) e new (charging_records_after s (Receives x ∷ earlier)) → Place s (Receives x ∷ earlier) (quiet x ∷ received))
@@ -406,9 +406,9 @@ signal-matches law s R b x earlier received (Later stands kept after) l r = (
 -- ---- every trace
 
 pub matches_trace_beside : CallsContinue → ChargingIsExact → (s : TraceStart) (R : List CallEvent → List TraceStep → Type 0) → Beside s R → (events : List CallEvent) → MatchesTraceBeside s R events
-unfolding call_after charging_records_after over_at endings_after snapshot_at_diversion emits_while_offered traces.call_after traces.charging_records_after traces.over_at story_endings.endings_after
-    story_known.snapshot_at_diversion story_shown.emits_while_offered call_finish
-matches_trace_beside law charged s R b [] = ([], record { endings = refl; snapshot = λ k. refl; emits = refl; own = λ others desks. desks; place = Same refl refl (λ h. refl) }, b.opens)
+unfolding call_after charging_records_after over_at endings_after snapshot_at_diversion emits_while_offered traces.call_after traces.charging_records_after traces.over_at trace_endings.endings_after
+    trace_outcomes.snapshot_at_diversion trace_labels.emits_while_offered call_finish
+matches_trace_beside law charged s R b [] = ([], record { endings = refl; snapshot = λ k. refl; emits = refl; own = λ others step_outputs. step_outputs; place = Same refl refl (λ h. refl) }, b.opens)
 matches_trace_beside law charged s R b (Receives x ∷ earlier) = let (received, l, r) = matches_trace_beside law charged s R b earlier in signal-matches law s R b x earlier received l.place l r
 matches_trace_beside law charged s R b (Releases side ∷ earlier) =
     let (received, l, r) = matches_trace_beside law charged s R b earlier in

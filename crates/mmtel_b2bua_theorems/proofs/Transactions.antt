@@ -15,7 +15,7 @@ use Rattle.mmtel_b2bua.specs.declared.signals.Signal.{Signal}
 use Rattle.mmtel_b2bua.specs.declared.signals.Signal.TheVariants as signal
 use Rattle.mmtel_b2bua_theorems.specs.TracesOfTables.{HasOwnKey, HaveOwnKeys, IsOtherOp, OpHasOwnKey, OpensOther, call_of, continued_trace, event_by, is_number, opening_by, trace_of}
 use Rattle.mmtel_b2bua_theorems.specs.Outcomes.{EventHasOtherKey, EventsHaveOtherKeys}
-use Rattle.mmtel_b2bua_theorems.specs.TracesWithTransfers as lives
+use Rattle.mmtel_b2bua_theorems.specs.TracesWithTransfers as transfers
 use Rattle.mmtel_b2bua_theorems.specs.TracesWithTransfers.{CallEvent, CallTraceWithTransfers}
 
 some-same : {A : Type 0} (x y : A) → Some x ≡ Some y → x ≡ y
@@ -87,8 +87,8 @@ event-others : (config : CallConfigView) (earlier : List TableOp) (n : ℕ) (tra
     OpHasOwnKey op earlier → event_by op n es ≡ Some event →
     EventHasOtherKey trace.start.arrival.key event
 event-others config earlier n trace is (Receives x) es event own came = signal-others config earlier n trace is x.at x.view x.tokens x.signal es event own came
-event-others config earlier n trace is (Releases number side) es event own came = subst (EventHasOtherKey trace.start.arrival.key) (some-same (lives.Releases side) event came) tt
-event-others config earlier n trace is (Restores number away) es event own came = subst (EventHasOtherKey trace.start.arrival.key) (some-same (lives.Restores away) event came) tt
+event-others config earlier n trace is (Releases number side) es event own came = subst (EventHasOtherKey trace.start.arrival.key) (some-same (transfers.Releases side) event came) tt
+event-others config earlier n trace is (Restores number away) es event own came = subst (EventHasOtherKey trace.start.arrival.key) (some-same (transfers.Restores away) event came) tt
 event-others config earlier n trace is (Finishes number at tokens) es event own came = subst (EventHasOtherKey trace.start.arrival.key) (some-same _ event came) tt
 event-others config earlier n trace is (Drops count) es event own came = absurd (none-some event came)
 

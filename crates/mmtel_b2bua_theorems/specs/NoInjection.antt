@@ -18,7 +18,7 @@ use Rattle.mmtel_b2bua.specs.declared.signals.Signal.{Signal}
 use Rattle.mmtel_b2bua.specs.declared.signals.Signal.TheVariants as signal
 use Rattle.mmtel_b2bua_theorems.specs.Acks.{acked_after}
 use Rattle.mmtel_b2bua_theorems.specs.TracesOfTables.{HasNumbers, emits_of, out_by, trace_of}
-use Rattle.mmtel_b2bua_theorems.specs.TracesWithTransfers as lives
+use Rattle.mmtel_b2bua_theorems.specs.TracesWithTransfers as transfers
 use Rattle.mmtel_b2bua_theorems.specs.TracesWithTransfers.{CallEvent}
 
 -- ---- the input of the table
@@ -62,7 +62,7 @@ OpAndLegHaveNoInjection (Drops count) = Unit {0}
 
 -- traces of signals alone
 abbrev pub signals : List traces.TraceStep → List CallEvent
-signals received = map lives.Receives received
+signals received = map transfers.Receives received
 
 -- for a call of which no leg was detached, and for one that ended in the operation after that; an ACK of a 2xx has no header fields but those that are copied from an ACK that this
 -- call received
@@ -75,7 +75,7 @@ pub record CallsSendNoInjection : Type 0 where
       trace_of config number ops ≡ Some (record { start = start; events = signals received }) → Each (SendsOwnFields (acks.received_acks_after start received)) (emits_of config number ops)
   pub finished : (config : CallConfigView) (ops : List TableOp) (number : ℕ) (start : traces.TraceStart) (received : List traces.TraceStep) (side : Side) (at : ℕ) (output : StepOutput) →
       HasNumbers config ops → HasNoInjection config.home → Each OpHasNoInjection ops →
-      trace_of config number ops ≡ Some (record { start = start; events = lives.Finishes at output ∷ lives.Releases side ∷ signals received }) →
+      trace_of config number ops ≡ Some (record { start = start; events = transfers.Finishes at output ∷ transfers.Releases side ∷ signals received }) →
       Each (EmitHasNoInjection (acks.received_acks_after start received)) (emits_of config number ops)
 
 -- for each operation, whatever was done before; an ACK of a 2xx has no header fields but those that are copied from an ACK that was received in the call of its dialog

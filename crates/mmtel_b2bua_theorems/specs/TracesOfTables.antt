@@ -24,7 +24,7 @@ use Rattle.mmtel_b2bua.specs.declared.entries.Entry.{Entry}
 use Rattle.mmtel_b2bua.specs.declared.entries.InviteKey.{InviteKey}
 use Rattle.mmtel_b2bua.specs.declared.signals.Signal.{Signal}
 use Rattle.mmtel_b2bua.specs.declared.signals.Signal.TheVariants as signal
-use Rattle.mmtel_b2bua_theorems.specs.TracesWithTransfers as lives
+use Rattle.mmtel_b2bua_theorems.specs.TracesWithTransfers as transfers
 use Rattle.mmtel_b2bua_theorems.specs.TracesWithTransfers.{CallEvent, CallTraceWithTransfers, call_after}
 
 -- ---- a signal as a call receives it, and whether it belongs to a call
@@ -86,13 +86,13 @@ entry_by (Drops count) es = None
 
 -- the signal with the state as the call of this number sees it: the records in force, the registrations, and the accounts that the other calls keep busy
 abbrev pub received_event : ReceivedSignal → (number : ℕ) → List Entry → calls.Signal → CallEvent
-received_event x number es received = lives.Receives (record { now = snapshot_at x.at x.view (busy_beside number es); signal = received; output = empty_output x.tokens })
+received_event x number es received = transfers.Receives (record { now = snapshot_at x.at x.view (busy_beside number es); signal = received; output = empty_output x.tokens })
 
 abbrev pub event_by : TableOp → (number : ℕ) → List Entry → Option CallEvent
 event_by (Receives x) number es = option_map (received_event x number es) (signal_of_call x.signal)
-event_by (Releases call side) number es = Some (lives.Releases side)
-event_by (Restores call away) number es = Some (lives.Restores away)
-event_by (Finishes call at tokens) number es = Some (lives.Finishes at (empty_output tokens))
+event_by (Releases call side) number es = Some (transfers.Releases side)
+event_by (Restores call away) number es = Some (transfers.Restores away)
+event_by (Finishes call at tokens) number es = Some (transfers.Finishes at (empty_output tokens))
 event_by (Drops count) number es = None
 
 -- ---- the number of the call to which an operation belongs
@@ -144,10 +144,10 @@ invites_in (of_call.Due what) = []
 invites_in (of_call.Ended key) = []
 
 abbrev pub invites_by_event : CallEvent → List InviteKey
-invites_by_event (lives.Receives x) = invites_in x.signal
-invites_by_event (lives.Releases side) = []
-invites_by_event (lives.Restores away) = []
-invites_by_event (lives.Finishes at output) = []
+invites_by_event (transfers.Receives x) = invites_in x.signal
+invites_by_event (transfers.Releases side) = []
+invites_by_event (transfers.Restores away) = []
+invites_by_event (transfers.Finishes at output) = []
 
 abbrev pub invites_after : TraceStart → List CallEvent → List InviteKey
 invites_after s [] = record { key = s.arrival.key; side = Caller } ∷ []

@@ -8,7 +8,7 @@ use Rattle.mmtel_compose.specs.ReceivedMessages.{MessageView, status_of}
 use Rattle.mmtel_output.specs.Outputs.{after_draw, with_emit}
 use Rattle.mmtel_output.specs.SentInvites.{is_cancellable, with_key, with_provisional}
 use Rattle.mmtel_output.specs.ResponseMatching.{awaited_request_branch, timed_out_branch}
-use Rattle.mmtel_output.specs.AbandonedInvites as loose_ones
+use Rattle.mmtel_output.specs.AbandonedInvites as abandoned_invites
 use Rattle.mmtel_output.specs.AbandonedInvites.{after_provisional, ended_dialog, is_of_branch, on_response, on_success_in, with_invite}
 use Rattle.mmtel_output.specs.Sending.{with_ack, with_bye, with_cancel, with_due_cancel, with_final_ack}
 use Rattle.mmtel_output.specs.declared.outputs.StepOutput.{StepOutput}
@@ -146,10 +146,10 @@ unseen-bye key sip d output = adds-then key output (after_draw output) (with_bye
 unseen-final-acked : (key asked : TKey) (sip : Addr) (i : SentInvite) (m : ParsedMessage) (output : StepOutput) → IsUnseen key output (with_final_ack sip asked i m output)
 unseen-final-acked key asked sip i m output = adds-emit key output _ [] refl
 
-unseen-unheard : (key : TKey) (config : CallConfigView) (c : Call) (asked : TKey) (m : MessageView) (fault : DialogueFault) (output : StepOutput) → (asked.0 == key.0) ≡ false → IsUnseen key output (with_refused_request config c asked m fault output)
-unseen-unheard key config c asked m (OldCSeq last) output e = unseen-reply key asked _ output e
-unseen-unheard key config c asked m Pending output e = unseen-reply key asked _ output e
-unseen-unheard key config c asked m Unfinished output e = unseen-reply key asked _ output e
+unseen-refused_request : (key : TKey) (config : CallConfigView) (c : Call) (asked : TKey) (m : MessageView) (fault : DialogueFault) (output : StepOutput) → (asked.0 == key.0) ≡ false → IsUnseen key output (with_refused_request config c asked m fault output)
+unseen-refused_request key config c asked m (OldCSeq last) output e = unseen-reply key asked _ output e
+unseen-refused_request key config c asked m Pending output e = unseen-reply key asked _ output e
+unseen-refused_request key config c asked m Unfinished output e = unseen-reply key asked _ output e
 
 unseen-unlisted : (key : TKey) (config : CallConfigView) (c : Call) (asked : TKey) (m : MessageView) (output : StepOutput) → (asked.0 == key.0) ≡ false → IsUnseen key output (with_unlisted_response config c asked m output)
 unseen-unlisted key config c asked m output e =
@@ -160,11 +160,11 @@ unseen-unlisted key config c asked m output e =
 
 success-unseen : (key : TKey) (sip : Addr) (l : AbandonedInvite) (remote : Remote) (d : Option Dialogue) (output : StepOutput) → IsUnseen key output (on_success_in sip l remote d output).output
 success-unseen key sip l remote None output =
-    let d = loose_ones.dialogue_of_success l.in_dialog l.invite.early l.invite.early_cseq l.invite.dialogue remote in
+    let d = abandoned_invites.dialogue_of_success l.in_dialog l.invite.early l.invite.early_cseq l.invite.dialogue remote in
     adds-then key output (with_ack sip d output) (with_bye sip d (with_ack sip d output)) [] [] (unseen-acked key sip d output) (unseen-bye key sip d (with_ack sip d output))
 success-unseen key sip l remote (Some d) output = unseen-acked key sip d output
 
-rest-if : (key : TKey) (before : StepOutput) (b : Bool) (one two : loose_ones.AfterResponse) → IsUnseen key before one.output → IsUnseen key before two.output → IsUnseen key before (if b then one else two).output
+rest-if : (key : TKey) (before : StepOutput) (b : Bool) (one two : abandoned_invites.AfterResponse) → IsUnseen key before one.output → IsUnseen key before two.output → IsUnseen key before (if b then one else two).output
 rest-if key before true one two e f = e
 rest-if key before false one two e f = f
 
@@ -413,7 +413,7 @@ module _ (key : TKey) (config : CallConfigView) (at : ℕ) where
       Receives (is_invite m) output (on_request_at_if said stage config at x side asked m (at_stage x stage c) output)
   said-receives (Ok received) stage x side asked m c output other a =
       let y = with_leg side (leg_after_receiving (leg_of side x) m) x in received-receives (is_invite m) stage y side asked m (at_stage y stage c) output other a refl
-  said-receives (Err fault) stage x side asked m c output other a = receives (is_invite m) output _ (as-it-was key output (at_stage x stage c) _ a (unseen-unheard key config (at_stage x stage c) asked m fault output other))
+  said-receives (Err fault) stage x side asked m c output other a = receives (is_invite m) output _ (as-it-was key output (at_stage x stage c) _ a (unseen-refused_request key config (at_stage x stage c) asked m fault output other))
 
   -- ---- ACK, CANCEL, deadlines, timeouts
 
@@ -673,10 +673,10 @@ a-reply key asked m output =
 no-answer : (key : TKey) (before after : StepOutput) → IsUnseen key before after → Answers key before after
 no-answer key before after u = record { new = u.new; out = u.out; finals = subst AreFinals (sym u.seen) tt }
 
-unheard-answers : (key : TKey) (config : CallConfigView) (c : Call) (asked : TKey) (m : MessageView) (fault : DialogueFault) (output : StepOutput) → Answers key output (with_refused_request config c asked m fault output)
-unheard-answers key config c asked m (OldCSeq last) output = a-reply key asked _ output
-unheard-answers key config c asked m Pending output = a-reply key asked _ output
-unheard-answers key config c asked m Unfinished output = a-reply key asked _ output
+refused_request-answers : (key : TKey) (config : CallConfigView) (c : Call) (asked : TKey) (m : MessageView) (fault : DialogueFault) (output : StepOutput) → Answers key output (with_refused_request config c asked m fault output)
+refused_request-answers key config c asked m (OldCSeq last) output = a-reply key asked _ output
+refused_request-answers key config c asked m Pending output = a-reply key asked _ output
+refused_request-answers key config c asked m Unfinished output = a-reply key asked _ output
 
 unlisted-answers : (key : TKey) (config : CallConfigView) (c : Call) (asked : TKey) (m : MessageView) (output : StepOutput) → Answers key output (with_unlisted_response config c asked m output)
 unlisted-answers key config c asked m output =
@@ -749,7 +749,7 @@ dismissing-answers key config c output =
 request-answers : (key : TKey) (said : Result (Unit {0}) DialogueFault) (config : CallConfigView) (at : ℕ) (x : OfferedAttempt) (side : Side) (asked : TKey) (m : MessageView) (c : Call) (output : StepOutput) →
     Answers key output (on_request_if said config at x side asked m c output).output
 request-answers key (Ok received) config at x side asked m c output = received-answers key config at (attempt_after_request side m x) side asked m (record c { phase = Offered (attempt_after_request side m x) }) output
-request-answers key (Err fault) config at x side asked m c output = unheard-answers key config c asked m fault output
+request-answers key (Err fault) config at x side asked m c output = refused_request-answers key config c asked m fault output
 
 finals-all : (key : TKey) (b : Bool) (before after : StepOutput) → Answers key before after →
     (if b then without_relayed_invite (labels_of key (items_added before.out after.out)) else labels_of key (items_added before.out after.out)) ≡ labels_of key (items_added before.out after.out)

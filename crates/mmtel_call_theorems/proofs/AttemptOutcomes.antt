@@ -54,10 +54,10 @@ use Rattle.mmtel_sheet_values.specs.declared.values.Sheet.{Sheet}
 use Rattle.mmtel_transaction.specs.declared.words.Emit.{Emit}
 use Rattle.mmtel_transaction.specs.declared.words.Emit.TheVariants as emit
 use Rattle.std.proofs.Common.{◌+◌, sym}
-use Rattle.mmtel_call_theorems.proofs.Labels.{Quiet, asked-quiet, dismissing-quiet, labels-more, named-quiet, other-quiet, quiet-cancelled, quiet-emit, quiet-expiry, quiet-final-acked, quiet-if, quiet-provisional, quiet-reply, quiet-unheard, quiet-unlisted, timed-out-quiet}
+use Rattle.mmtel_call_theorems.proofs.Labels.{Quiet, asked-quiet, dismissing-quiet, labels-more, named-quiet, other-quiet, quiet-cancelled, quiet-emit, quiet-expiry, quiet-final-acked, quiet-if, quiet-provisional, quiet-refused_request, quiet-reply, quiet-unlisted, timed-out-quiet}
 use Rattle.std.proofs.lemmas.List.{append-nil}
 use Rattle.mmtel_call_theorems.specs.Endings.{end_of_attempt, end_on_deadline, end_on_request, end_on_response, end_on_timeout}
-use Rattle.mmtel_call_theorems.proofs.UnchangedCalls.{SameCall, Untouched, cancelled-rows, dismissing-rows, if-rows, key-untouched, other-untouched, same_call, settled-rows, timed-out-untouched, unheard-rows, unlisted-rows}
+use Rattle.mmtel_call_theorems.proofs.UnchangedCalls.{SameCall, Untouched, cancelled-rows, dismissing-rows, if-rows, key-untouched, other-untouched, refused_request-rows, same_call, settled-rows, timed-out-untouched, unlisted-rows}
 use Rattle.mmtel_session.specs.Intervals.{expiry_interval_of}
 
 -- it continues to ring
@@ -166,8 +166,8 @@ module _ (P : Type 0) (config : CallConfigView) (now : SnapshotView) (x y : Offe
   does-if false one two f g = g
 
   -- a reply of the server's own
-  refused : (desk2 : StepOutput) → desk2.rows ≡ output.rows → (P → labels_of c.opening.key desk2.out ≡ labels_of c.opening.key output.out) → Does (step_result (offered y c) desk2)
-  refused desk2 e q = still P config now x c output y desk2 caller callee service e q
+  refused : (output2 : StepOutput) → output2.rows ≡ output.rows → (P → labels_of c.opening.key output2.out ≡ labels_of c.opening.key output.out) → Does (step_result (offered y c) output2)
+  refused output2 e q = still P config now x c output y output2 caller callee service e q
 
   acknowledging-rings : (rack : Rack) (answer : Option ℕ) → Does (on_named_prack config y key m rack answer (offered y c) output)
   acknowledging-rings rack None = refused (with_status_to config (offered y c) key m (status_of_refusal (rack_in m)) output) refl (λ p. (quiet-reply c.opening.key key _ _ _ output (own p)).labels)
@@ -219,13 +219,13 @@ caller-received P config now x key m c output (Ok received) own =
     outcome-if P config now x (offered x c) output (is_bye m) (Some Cancel) None _ _
     (gives-up P config now x y c output (with_status_to config (offered y c) key m 200 output) refl refl refl (λ p. (quiet-reply c.opening.key key _ _ _ output (own p)).labels)) (other-rings P config now x y key m c output refl refl refl own Caller)
 caller-received P config now x key m c output (Err fault) own =
-    still P config now x c output x (with_refused_request config (offered x c) key m fault output) refl refl refl (unheard-rows config (offered x c) key m fault output) (λ p. (quiet-unheard c.opening.key config (offered x c) key m fault output (own p)).labels)
+    still P config now x c output x (with_refused_request config (offered x c) key m fault output) refl refl refl (refused_request-rows config (offered x c) key m fault output) (λ p. (quiet-refused_request c.opening.key config (offered x c) key m fault output (own p)).labels)
 
 callee-received : (P : Type 0) (config : CallConfigView) (now : SnapshotView) (x : OfferedAttempt) (key : TKey) (m : MessageView) (c : Call) (output : StepOutput) (said : Result (Unit {0}) DialogueFault) → (P → (key.0 == c.opening.key.0) ≡ false) →
     AttemptStep P config now x (offered x c) output None (on_request_if said config now.at x Callee key m (offered x c) output)
 callee-received P config now x key m c output (Ok received) own = other-rings P config now x (attempt_after_request Callee m x) key m c output refl refl refl own Callee
 callee-received P config now x key m c output (Err fault) own =
-    still P config now x c output x (with_refused_request config (offered x c) key m fault output) refl refl refl (unheard-rows config (offered x c) key m fault output) (λ p. (quiet-unheard c.opening.key config (offered x c) key m fault output (own p)).labels)
+    still P config now x c output x (with_refused_request config (offered x c) key m fault output) refl refl refl (refused_request-rows config (offered x c) key m fault output) (λ p. (quiet-refused_request c.opening.key config (offered x c) key m fault output (own p)).labels)
 
 request-outcome : (P : Type 0) (config : CallConfigView) (now : SnapshotView) (x : OfferedAttempt) (side : Side) (key : TKey) (m : MessageView) (c : Call) (output : StepOutput) → (P → (key.0 == c.opening.key.0) ≡ false) →
     AttemptStep P config now x (offered x c) output (end_on_request x side m) (on_request config now.at x side key m (offered x c) output)

@@ -34,7 +34,7 @@ use Rattle.mmtel_call.specs.declared.calls.Stage.{Stage}
 use Rattle.mmtel_call.specs.declared.calls.Stage.TheVariants.{Answered, Departing, Reinviting, Stable}
 use Rattle.mmtel_call.specs.declared.signals.Signal.{Signal}
 use Rattle.mmtel_call.specs.declared.signals.Signal.TheVariants as signal
-use Rattle.mmtel_call_theorems.proofs.UnchangedCalls.{SameCall, Untouched, cancelled-rows, dismissing-rows, if-rows, key-untouched, other-untouched, timed-out-untouched, unheard-rows, unlisted-rows, untouched}
+use Rattle.mmtel_call_theorems.proofs.UnchangedCalls.{SameCall, Untouched, cancelled-rows, dismissing-rows, if-rows, key-untouched, other-untouched, refused_request-rows, timed-out-untouched, unlisted-rows, untouched}
 
 -- it is established
 pub record StaysEstablished (x : EstablishedLegs) (c : Call) (rows : List Row) (s : StepResult) (y : EstablishedLegs) (stage : Stage) : Type 0 where
@@ -132,7 +132,7 @@ check-goes : (said : Result (Unit {0}) DialogueFault) (stage : Stage) (config : 
     ContinuesOrEnds at x c output.rows (on_request_at_if said stage config at x side key m (at_stage x stage c) output)
 check-goes (Ok received) stage config at x Caller key m c output = received-goes stage config at x (with_leg Caller (leg_after_receiving (leg_of Caller x) m) x) Caller key m c output refl refl
 check-goes (Ok received) stage config at x Callee key m c output = received-goes stage config at x (with_leg Callee (leg_after_receiving (leg_of Callee x) m) x) Callee key m c output refl refl
-check-goes (Err fault) stage config at x side key m c output = stays-established at x c output.rows x stage (with_refused_request config (at_stage x stage c) key m fault output) refl refl (unheard-rows config (at_stage x stage c) key m fault output)
+check-goes (Err fault) stage config at x side key m c output = stays-established at x c output.rows x stage (with_refused_request config (at_stage x stage c) key m fault output) refl refl (refused_request-rows config (at_stage x stage c) key m fault output)
 
 -- ---- ACK, CANCEL, deadlines, timeouts
 

@@ -258,11 +258,11 @@ ends_in : (phase : Phase) (config : CallConfigView) (at : ℕ) (c : Call) (outpu
 ends_in (Offered x) config at c output e = absurd cc
 ends_in (Established x stage) config at c output e = absurd cc
 ends_in (Detached detached) config at c output e =
-    let lent : Call = record c { phase = Detached detached } in
-    let front : List Emit = map (final_of config lent) (dismissal_order c.relayed) in
-    let f = dismissing_follows config lent output in
+    let detached_call : Call = record c { phase = Detached detached } in
+    let front : List Emit = map (final_of config detached_call) (dismissal_order c.relayed) in
+    let f = dismissing_follows config detached_call output in
     let d : Dialogue = (released_leg detached.remaining).dialogue in
-    let ask : Emit = emit.Ask d.peer (request_of d (codes "BYE") (own_parts config.sip (token (output_after_dismissal config lent output)) [] [])) in
+    let ask : Emit = emit.Ask d.peer (request_of d (codes "BYE") (own_parts config.sip (token (output_after_dismissal config detached_call output)) [] [])) in
     record {
       none = refl;
       more = f.more ++ ask ∷ [];

@@ -7,7 +7,7 @@ use Rattle.std.specs.Str.{bytes_eq}
 use Rattle.mmtel_compose.specs.ReceivedMessages.{MessageView, status_of}
 use Rattle.mmtel_output.specs.Outputs.{after_draw, with_emit}
 use Rattle.mmtel_output.specs.SentInvites.{is_cancellable, with_key}
-use Rattle.mmtel_output.specs.AbandonedInvites as loose_ones
+use Rattle.mmtel_output.specs.AbandonedInvites as abandoned_invites
 use Rattle.mmtel_output.specs.AbandonedInvites.{after_provisional, ended_dialog, is_of_branch, on_response, on_success_in, with_invite}
 use Rattle.mmtel_output.specs.Sending.{with_ack, with_bye, with_cancel, with_due_cancel, with_final_ack, with_relayed_request}
 use Rattle.mmtel_output.specs.declared.outputs.StepOutput.{StepOutput}
@@ -144,10 +144,10 @@ quiet-final-acked key asked sip i m output = quiet-emit key output _ refl
 
 -- ---- responses to requests
 
-pub quiet-unheard : (key : TKey) (config : CallConfigView) (c : Call) (asked : TKey) (m : MessageView) (fault : DialogueFault) (output : StepOutput) → (asked.0 == key.0) ≡ false → Quiet key output (with_refused_request config c asked m fault output)
-quiet-unheard key config c asked m (OldCSeq last) output e = quiet-reply key asked _ _ _ output e
-quiet-unheard key config c asked m Pending output e = quiet-reply key asked _ _ _ output e
-quiet-unheard key config c asked m Unfinished output e = quiet-reply key asked _ _ _ output e
+pub quiet-refused_request : (key : TKey) (config : CallConfigView) (c : Call) (asked : TKey) (m : MessageView) (fault : DialogueFault) (output : StepOutput) → (asked.0 == key.0) ≡ false → Quiet key output (with_refused_request config c asked m fault output)
+quiet-refused_request key config c asked m (OldCSeq last) output e = quiet-reply key asked _ _ _ output e
+quiet-refused_request key config c asked m Pending output e = quiet-reply key asked _ _ _ output e
+quiet-refused_request key config c asked m Unfinished output e = quiet-reply key asked _ _ _ output e
 
 pub quiet-unlisted : (key : TKey) (config : CallConfigView) (c : Call) (asked : TKey) (m : MessageView) (output : StepOutput) → (asked.0 == key.0) ≡ false → Quiet key output (with_unlisted_response config c asked m output)
 quiet-unlisted key config c asked m output e =
@@ -158,11 +158,11 @@ quiet-unlisted key config c asked m output e =
 
 success-quiet : (key : TKey) (sip : Addr) (l : AbandonedInvite) (remote : Remote) (d : Option Dialogue) (output : StepOutput) → Quiet key output (on_success_in sip l remote d output).output
 success-quiet key sip l remote None output =
-    let d = loose_ones.dialogue_of_success l.in_dialog l.invite.early l.invite.early_cseq l.invite.dialogue remote in
+    let d = abandoned_invites.dialogue_of_success l.in_dialog l.invite.early l.invite.early_cseq l.invite.dialogue remote in
     quiet-then key output (with_ack sip d output) (with_bye sip d (with_ack sip d output)) (quiet-acked key sip d output) (quiet-bye key sip d (with_ack sip d output))
 success-quiet key sip l remote (Some d) output = quiet-acked key sip d output
 
-rest-if : (key : TKey) (before : StepOutput) (b : Bool) (one two : loose_ones.AfterResponse) → Quiet key before one.output → Quiet key before two.output → Quiet key before (if b then one else two).output
+rest-if : (key : TKey) (before : StepOutput) (b : Bool) (one two : abandoned_invites.AfterResponse) → Quiet key before one.output → Quiet key before two.output → Quiet key before (if b then one else two).output
 rest-if key before true one two e f = e
 rest-if key before false one two e f = f
 

@@ -73,21 +73,21 @@ relayed-shown config c service m output =
     shows-reply c.opening.key c.opening.invite.parsed.start c.opening.invite.parsed.lines
     (relayed_reply (contact_text config.sip) c.opening.invite.source c.opening.tag (copied_lines config c.opening c.diversions service Callee c.opening.invite.peer m) m.parsed) output (same-number c.opening.key.0)
 
-aim-uri : (o : Opening) (peer : Peer) (by : Option DueDiversionView) (target : Target) → (destination_of o peer (cause_of by) target).uri ≡ request_uri_at o by target.uri
-aim-uri o peer None target = refl
-aim-uri o peer (Some due) target = refl
+destination-uri : (o : Opening) (peer : Peer) (by : Option DueDiversionView) (target : Target) → (destination_of o peer (cause_of by) target).uri ≡ request_uri_at o by target.uri
+destination-uri o peer None target = refl
+destination-uri o peer (Some due) target = refl
 
 -- the INVITE of an attempt
 offer-labels : (config : CallConfigView) (at : ℕ) (service : Option Service) (waiting : Bool) (peer : Peer) (by : Option DueDiversionView) (target : Target) (c : Call) (output : StepOutput) →
     labels_of c.opening.key (with_attempt config at service waiting (destination_of c.opening peer (cause_of by) target) c output).out ≡ labels_of c.opening.key output.out ++ Invited (request_uri_at c.opening by target.uri) ∷ []
 offer-labels config at service waiting peer by target c output =
-    let aim = destination_of c.opening peer (cause_of by) target in
-    let ask : Emit = emit.Ask aim.peer (invite_of (attempt_dialog aim c.opening.invite.parsed c.opening.restricted output) config.sip (token (after_draw (after_draw output))) (attempt_lines config c.opening c.diversions service aim.peer) waiting c.opening.invite.parsed) in
+    let destination = destination_of c.opening peer (cause_of by) target in
+    let ask : Emit = emit.Ask destination.peer (invite_of (attempt_dialog destination c.opening.invite.parsed c.opening.restricted output) config.sip (token (after_draw (after_draw output))) (attempt_lines config c.opening c.diversions service destination.peer) waiting c.opening.invite.parsed) in
     let arm : Emit = emit.Arm c.opening.number (due.Cap (next_attempt c)) (at + max_attempt_time) in
     labels-more c.opening.key (output.out ++ ask ∷ []) arm
     ∙ append-nil (labels_of c.opening.key (output.out ++ ask ∷ []))
     ∙ labels-more c.opening.key output.out ask
-    ∙ ap (λ uri. labels_of c.opening.key output.out ++ Invited uri ∷ []) (aim-uri c.opening peer by target)
+    ∙ ap (λ uri. labels_of c.opening.key output.out ++ Invited uri ∷ []) (destination-uri c.opening peer by target)
 
 -- a target that was reached, and to which the call was not offered
 reached-before : (config : CallConfigView) (first : SnapshotView) (o : Opening) (later : ℕ → SnapshotView) (P : Type 0) (before : List precedence.OutcomeTarget) (target : precedence.OutcomeTarget) (kept : CallState) (rows : List Row) (old : List Label) (s : StepResult) (at : ℕ) → target.offer ≡ NotOffered →

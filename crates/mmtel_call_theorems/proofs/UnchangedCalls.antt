@@ -5,7 +5,7 @@ use Rattle.std.specs.Prelude.{Option, Some, None, if◌then◌else◌, codes, na
 use Rattle.mmtel_compose.specs.ReceivedMessages.{MessageView, status_of}
 use Rattle.mmtel_charging.specs.declared.rows.Row.{Row}
 use Rattle.mmtel_output.specs.SentInvites.{is_cancellable, with_key, without_at}
-use Rattle.mmtel_output.specs.AbandonedInvites as loose_ones
+use Rattle.mmtel_output.specs.AbandonedInvites as abandoned_invites
 use Rattle.mmtel_output.specs.AbandonedInvites.{after_provisional, ended_dialog, is_of_branch, on_response, on_success_in, with_invite}
 use Rattle.mmtel_output.specs.Sending.{with_cancel, with_due_cancel}
 use Rattle.mmtel_output.specs.declared.outputs.StepOutput.{StepOutput}
@@ -57,10 +57,10 @@ if-rows false one two rows e f = f
 pub cancelled-rows : (sip : Addr) (i : SentInvite) (output : StepOutput) → (with_due_cancel sip i output).rows ≡ output.rows
 cancelled-rows sip i output = if-rows (is_cancellable i) (with_cancel sip i output) output output.rows refl refl
 
-pub unheard-rows : (config : CallConfigView) (c : Call) (key : TKey) (m : MessageView) (fault : DialogueFault) (output : StepOutput) → (with_refused_request config c key m fault output).rows ≡ output.rows
-unheard-rows config c key m (OldCSeq last) output = refl
-unheard-rows config c key m Pending output = refl
-unheard-rows config c key m Unfinished output = refl
+pub refused_request-rows : (config : CallConfigView) (c : Call) (key : TKey) (m : MessageView) (fault : DialogueFault) (output : StepOutput) → (with_refused_request config c key m fault output).rows ≡ output.rows
+refused_request-rows config c key m (OldCSeq last) output = refl
+refused_request-rows config c key m Pending output = refl
+refused_request-rows config c key m Unfinished output = refl
 
 pub unlisted-rows : (config : CallConfigView) (c : Call) (key : TKey) (m : MessageView) (output : StepOutput) → (with_unlisted_response config c key m output).rows ≡ output.rows
 unlisted-rows config c key m output =
@@ -101,7 +101,7 @@ success-rows : (sip : Addr) (l : AbandonedInvite) (remote : Remote) (d : Option 
 success-rows sip l remote None output = refl
 success-rows sip l remote (Some d) output = refl
 
-rest-if : (b : Bool) (one two : loose_ones.AfterResponse) (rows : List Row) → one.output.rows ≡ rows → two.output.rows ≡ rows → (if b then one else two).output.rows ≡ rows
+rest-if : (b : Bool) (one two : abandoned_invites.AfterResponse) (rows : List Row) → one.output.rows ≡ rows → two.output.rows ≡ rows → (if b then one else two).output.rows ≡ rows
 rest-if true one two rows e f = e
 rest-if false one two rows e f = f
 

@@ -56,11 +56,11 @@ dismissal_order flights = filter (λ flight. not (is_updating flight)) flights +
 
 -- before everything else in the step the requests in flight get their final responses, and nothing is in flight after it. What follows replies to none of these: in any set of
 -- transactions that has those of the other requests of the call and of what is received, its replies are in that set
-pub record AreDismissed (config : CallConfigView) (heard_in : (own : ℕ → Bool) → Type 0) (c : Call) (output : StepOutput) (s : StepResult) : Type 0 where
+pub record AreDismissed (config : CallConfigView) (received_in : (own : ℕ → Bool) → Type 0) (c : Call) (output : StepOutput) (s : StepResult) : Type 0 where
   pub none : s.call.relayed ≡ []
   pub more : List Emit
   pub out : s.output.out ≡ output.out ++ (map (final_of config c) (dismissal_order c.relayed) ++ more)
-  pub once : (own : ℕ → Bool) → CallIsOf own (record c { relayed = [] }) → heard_in own → Each (IsRepliedIn own) more
+  pub once : (own : ℕ → Bool) → CallIsOf own (record c { relayed = [] }) → received_in own → Each (IsRepliedIn own) more
 
 -- ---- or the attempt or the call continues
 

@@ -36,7 +36,7 @@ prepares_one words old new before now outcome command spelled all gives calls as
 })
 
 -- where the arguments are no command
-no_file_called : (told : Option FileStore) → IfSome told (λ files. told ≡ Some files)
+no_file_called : (exposed : Option FileStore) → IfSome exposed (λ files. exposed ≡ Some files)
 no_file_called None = tt
 no_file_called (Some files) = refl
 

@@ -75,11 +75,11 @@ module _ (unfailed : UnfailedAreReadOut) (d : Directory) (token : List ℕ) (loa
     (driven : DriveEffect turns old new out now (Err NoMemory)) (went : RanFromStart d token loaded [] [] old.server out) where
   stopped_run : (input : LinkInput) (later : Option LinkInput) → ReceivesMore (Some input) later (events_in driven.recorded) → ReadButLast (Some input) later 0 0 → input ≡ initial_input input.events
       → AbortedRun d token loaded input.events old.keeper new.keeper
-  stopped_run input None told read begins = absurd told
-  stopped_run input (Some later) told read begins =
+  stopped_run input None exposed read begins = absurd exposed
+  stopped_run input (Some later) exposed read begins =
       let serves : RepresentsRun d token loaded [] old.server = record { fuel = went.fuel; enough = went.enough; represents = went.represents.represents } in
       let unread : input.reads ≡ [] = ap (λ (e : LinkInput). e.reads) begins in
-      let came = came_of input later (events_in driven.recorded) unread told in
+      let came = came_of input later (events_in driven.recorded) unread exposed in
       let these : later.reads ≡ read.reads ++ read.last = read.parts ∙ ap (λ (l : List ℕ). l ++ (read.reads ++ read.last)) unread in
       record {
         recorded = driven.recorded;
@@ -95,9 +95,9 @@ module _ (unfailed : UnfailedAreReadOut) (d : Directory) (token : List ℕ) (loa
   -- the same for a link of which it is known that its two counts are 0 and that none of its events was received
   stopped_known : (input later : Option LinkInput) (giving gave events : ℕ) → ReceivesMore input later (events_in driven.recorded) → ReadButLast input later giving gave
       → giving ≡ 0 → gave ≡ 0 → HasNoArrivals events input → AbortsAllOf input d token loaded old.keeper new.keeper
-  stopped_known None later giving gave events told read stood stands fresh = absurd fresh
-  stopped_known (Some input) later giving gave events told read stood stands fresh =
-      stopped_run input later told (both_zero (λ m n. ReadButLast (Some input) later m n) giving gave stood stands read) fresh.0
+  stopped_known None later giving gave events exposed read stood stands fresh = absurd fresh
+  stopped_known (Some input) later giving gave events exposed read stood stands fresh =
+      stopped_run input later exposed (both_zero (λ m n. ReadButLast (Some input) later m n) giving gave stood stands read) fresh.0
 
   pub stops_all_of : (events : ℕ) → old.link.delivery_faults ≡ 0 → new.link.delivery_faults ≡ 0 → HasNoArrivals events old.link.input → AbortsAllOf old.link.input d token loaded old.keeper new.keeper
   stops_all_of events stood stands fresh =

@@ -252,9 +252,9 @@ module _ (outcomes : CallsOfRunsReachOutcome) (charged : RunParticipantsChargedO
   ends_of_records kept left None outcome due ends = written_file kept left outcome due ends
   ends_of_records kept left (Some text) outcome due ends = ends_of_upload kept left (upload_of text) outcome due ends
 
-  checked : (told : Option FileStore) (words : List (List ℕ)) (records : List ℕ) (outcome : Report)
-      → IsOnly (Check records) words → ResultOfCheck told records outcome → EndsSo outcome → CheckRun told words written
-  checked told words records outcome spelled gives ends = record {
+  checked : (exposed : Option FileStore) (words : List (List ℕ)) (records : List ℕ) (outcome : Report)
+      → IsOnly (Check records) words → ResultOfCheck exposed records outcome → EndsSo outcome → CheckRun exposed words written
+  checked exposed words records outcome spelled gives ends = record {
     records = records;
     spelled = spelled;
     text = gives.text;
@@ -274,9 +274,9 @@ module _ (outcomes : CallsOfRunsReachOutcome) (charged : RunParticipantsChargedO
   ends_of_charges None outcome due ends = written_file old.keeper new.keeper outcome due ends
   ends_of_charges (Some config) outcome due ends = ends_of_store (directory_of config) outcome due ends
 
-  charged_by : (told : Option FileStore) (words : List (List ℕ)) (config : List ℕ) (outcome : Report)
-      → IsOnly (Charges config) words → ResultOfCharges told old.keeper new.keeper config outcome → EndsSo outcome → ChargesRun told old.keeper new.keeper words written
-  charged_by told words config outcome spelled gives ends = record {
+  charged_by : (exposed : Option FileStore) (words : List (List ℕ)) (config : List ℕ) (outcome : Report)
+      → IsOnly (Charges config) words → ResultOfCharges exposed old.keeper new.keeper config outcome → EndsSo outcome → ChargesRun exposed old.keeper new.keeper words written
+  charged_by exposed words config outcome spelled gives ends = record {
     config = config;
     spelled = spelled;
     text = gives.text;
@@ -330,10 +330,10 @@ module _ (outcomes : CallsOfRunsReachOutcome) (charged : RunParticipantsChargedO
   ends_of_serve (Some config) token turns outcome right due ends =
       ends_of_serving (directory_of config) token turns outcome (directory_suits homes apart reads config) right due ends
 
-  served : (told : Option FileStore) (words : List (List ℕ)) (config token : List ℕ) (turns : ℕ) (outcome : Report)
-      → IsOnly (Serve config token turns) words → ResultOfServe told old new config token turns outcome → EndsSo outcome
-      → ServeRun told old new words written
-  served told words config token turns outcome spelled gives ends = record {
+  served : (exposed : Option FileStore) (words : List (List ℕ)) (config token : List ℕ) (turns : ℕ) (outcome : Report)
+      → IsOnly (Serve config token turns) words → ResultOfServe exposed old new config token turns outcome → EndsSo outcome
+      → ServeRun exposed old new words written
+  served exposed words config token turns outcome spelled gives ends = record {
     config = config;
     token = token;
     turns = turns;
@@ -346,9 +346,9 @@ module _ (outcomes : CallsOfRunsReachOutcome) (charged : RunParticipantsChargedO
 
   -- ---- a whole run
 
-  replayed : (told : Option FileStore) (words : List (List ℕ)) (asked : ReplayArgs) (outcome : Report)
-      → IsOnly (Replay asked) words → ResultOfReplay told old.keeper new.keeper asked outcome → EndsSo outcome → ReplayRun told old.keeper new.keeper words written
-  replayed told words asked outcome spelled gives ends = record {
+  replayed : (exposed : Option FileStore) (words : List (List ℕ)) (asked : ReplayArgs) (outcome : Report)
+      → IsOnly (Replay asked) words → ResultOfReplay exposed old.keeper new.keeper asked outcome → EndsSo outcome → ReplayRun exposed old.keeper new.keeper words written
+  replayed exposed words asked outcome spelled gives ends = record {
     args = asked;
     spelled = spelled;
     files = record { config = gives.config; script = gives.script; exposed_config = gives.exposed_config; exposed_script = gives.exposed_script };
@@ -356,20 +356,20 @@ module _ (outcomes : CallsOfRunsReachOutcome) (charged : RunParticipantsChargedO
     out_of_memory = stopped_due (due_of_config gives.config asked.token gives.script) outcome gives.is_due ends;
   }
 
-  ran_none : (words : List (List ℕ)) (outcome : Report) (told : Option FileStore) → SpellsNone words → outcome ≡ Usage → EndsSo outcome →
-      ProgramRun told old new words written
-  ran_none words outcome told none gives ends =
+  ran_none : (words : List (List ℕ)) (outcome : Report) (exposed : Option FileStore) → SpellsNone words → outcome ≡ Usage → EndsSo outcome →
+      ProgramRun exposed old new words written
+  ran_none words outcome exposed none gives ends =
       let P : Report → Type 0 = λ r. EndsSo r in
       RanNone (record { none = none; usage = subst P gives ends })
 
-  ran_command : (told : Option FileStore) (words : List (List ℕ)) (command : Option Command) (outcome : Report)
-      → AsksFor words command → ResultOfRun told old new command outcome → EndsSo outcome → ProgramRun told old new words written
-  ran_command told words None outcome asks gives ends = ran_none words outcome told asks gives ends
-  ran_command told words (Some (Serve config token turns)) outcome asks gives ends = RanServe (served told words config token turns outcome asks gives ends)
-  ran_command told words (Some (Replay asked)) outcome asks gives ends = RanReplay (replayed told words asked outcome asks gives ends)
-  ran_command told words (Some (Check records)) outcome asks gives ends = RanCheck (checked told words records outcome asks gives ends)
-  ran_command told words (Some (Charges config)) outcome asks gives ends = RanCharges (charged_by told words config outcome asks gives ends)
-  ran_command told words (Some (Workload calls salt)) outcome asks gives ends =
+  ran_command : (exposed : Option FileStore) (words : List (List ℕ)) (command : Option Command) (outcome : Report)
+      → AsksFor words command → ResultOfRun exposed old new command outcome → EndsSo outcome → ProgramRun exposed old new words written
+  ran_command exposed words None outcome asks gives ends = ran_none words outcome exposed asks gives ends
+  ran_command exposed words (Some (Serve config token turns)) outcome asks gives ends = RanServe (served exposed words config token turns outcome asks gives ends)
+  ran_command exposed words (Some (Replay asked)) outcome asks gives ends = RanReplay (replayed exposed words asked outcome asks gives ends)
+  ran_command exposed words (Some (Check records)) outcome asks gives ends = RanCheck (checked exposed words records outcome asks gives ends)
+  ran_command exposed words (Some (Charges config)) outcome asks gives ends = RanCharges (charged_by exposed words config outcome asks gives ends)
+  ran_command exposed words (Some (Workload calls salt)) outcome asks gives ends =
       RanWork (run_workload words calls salt outcome asks gives ends)
 
   pub ran : {L K : Type 0} (before now : Ports L K) (words : List (List ℕ)) (outcome : Report)
@@ -381,7 +381,7 @@ module _ (outcomes : CallsOfRunsReachOutcome) (charged : RunParticipantsChargedO
 
 -- ---- the calls of the files
 
-where_exposed : (told : Option FileStore) (P : FileStore → Type 0) → ((shelf : FileStore) → told ≡ Some shelf → P shelf) → IfSome told P
+where_exposed : (exposed : Option FileStore) (P : FileStore → Type 0) → ((shelf : FileStore) → exposed ≡ Some shelf → P shelf) → IfSome exposed P
 where_exposed None P each = tt
 where_exposed (Some shelf) P each = each shelf refl
 
@@ -468,43 +468,43 @@ status_one P Served written usage ends = other_status P 0 written.status Served 
 status_one P (InvalidRecord line) written usage ends = other_status P 3 written.status (InvalidRecord line) ends.0 (λ w. cc) (λ w. cc) usage
 
 -- by the report
-called_all : (n status : ℕ) (told : Option FileStore) (none first last : FileStore) → status ≡ n → (n ≡ 8 → ⊥) → told ≡ Some last → HasCalledFiles status told none first last
-called_all n status told none first last is other called = record { all = λ e. called; some = λ e. absurd (not_eight n status is other e) }
+called_all : (n status : ℕ) (exposed : Option FileStore) (none first last : FileStore) → status ≡ n → (n ≡ 8 → ⊥) → exposed ≡ Some last → HasCalledFiles status exposed none first last
+called_all n status exposed none first last is other called = record { all = λ e. called; some = λ e. absurd (not_eight n status is other e) }
 
-called_done : (text : List ℕ) (told : Option FileStore) (none first last : FileStore) (written : WriteEffect)
-    → told ≡ Some last → WroteListing text written → HasCalledFiles written.status told none first last
-called_done text told none first last written called (inl whole) = called_all 0 written.status told none first last whole.0 (λ w. cc) called
-called_done text told none first last written called (inr part) = called_all 7 written.status told none first last part.0 (λ w. cc) called
+called_done : (text : List ℕ) (exposed : Option FileStore) (none first last : FileStore) (written : WriteEffect)
+    → exposed ≡ Some last → WroteListing text written → HasCalledFiles written.status exposed none first last
+called_done text exposed none first last written called (inl whole) = called_all 0 written.status exposed none first last whole.0 (λ w. cc) called
+called_done text exposed none first last written called (inr part) = called_all 7 written.status exposed none first last part.0 (λ w. cc) called
 
-has_called : (outcome : Report) (told : Option FileStore) (none first last : FileStore) (written : WriteEffect)
-    → HasReadFiles outcome told first last → WritesReport outcome written → HasCalledFiles written.status told none first last
-has_called Usage told none first last written called ends = called_all 1 written.status told none first last ends.0 (λ w. cc) called
-has_called (BadLine line) told none first last written called ends = called_all 2 written.status told none first last ends.0 (λ w. cc) called
-has_called Link told none first last written called ends = called_all 4 written.status told none first last ends.0 (λ w. cc) called
-has_called File told none first last written called ends = called_all 5 written.status told none first last ends.0 (λ w. cc) called
-has_called Keeper told none first last written called ends = called_all 6 written.status told none first last ends.0 (λ w. cc) called
-has_called Memory told none first last written called ends = record { all = λ e. absurd (e ends.0); some = λ e. inr called }
-has_called (Listing text) told none first last written called ends = called_done text told none first last written called ends
-has_called ValidRecord told none first last written called ends = called_done (codes "ok\n") told none first last written called ends
-has_called Served told none first last written called ends = called_all 0 written.status told none first last ends.0 (λ w. cc) called
-has_called (InvalidRecord line) told none first last written called ends = called_all 3 written.status told none first last ends.0 (λ w. cc) called
+has_called : (outcome : Report) (exposed : Option FileStore) (none first last : FileStore) (written : WriteEffect)
+    → HasReadFiles outcome exposed first last → WritesReport outcome written → HasCalledFiles written.status exposed none first last
+has_called Usage exposed none first last written called ends = called_all 1 written.status exposed none first last ends.0 (λ w. cc) called
+has_called (BadLine line) exposed none first last written called ends = called_all 2 written.status exposed none first last ends.0 (λ w. cc) called
+has_called Link exposed none first last written called ends = called_all 4 written.status exposed none first last ends.0 (λ w. cc) called
+has_called File exposed none first last written called ends = called_all 5 written.status exposed none first last ends.0 (λ w. cc) called
+has_called Keeper exposed none first last written called ends = called_all 6 written.status exposed none first last ends.0 (λ w. cc) called
+has_called Memory exposed none first last written called ends = record { all = λ e. absurd (e ends.0); some = λ e. inr called }
+has_called (Listing text) exposed none first last written called ends = called_done text exposed none first last written called ends
+has_called ValidRecord exposed none first last written called ends = called_done (codes "ok\n") exposed none first last written called ends
+has_called Served exposed none first last written called ends = called_all 0 written.status exposed none first last ends.0 (λ w. cc) called
+has_called (InvalidRecord line) exposed none first last written called ends = called_all 3 written.status exposed none first last ends.0 (λ w. cc) called
 
 module _ {L K : Type 0} (words : List (List ℕ)) (old new : Environment) (before now : Ports L K) (outcome : Report) (written : WriteEffect)
     (prepares : Prepares words old new before now outcome) (ends : WritesReport outcome written) where
   calls_of : (shelf : FileStore) → before.files ≡ Some shelf → CallsFilesFor shelf words written.status now.files
-  calls_of shelf told =
+  calls_of shelf exposed =
       elim prepares [
         | inl p ↦
-            let calls = subst (λ (files : Option FileStore). IfSome files (λ s. HasReadFiles outcome now.files (files_after_first s p.command) (files_after s p.command))) told p.file_calls in
+            let calls = subst (λ (files : Option FileStore). IfSome files (λ s. HasReadFiles outcome now.files (files_after_first s p.command) (files_after s p.command))) exposed p.file_calls in
             called_for shelf words written.status now.files p.command p.command_read (status_one (p.command ≡ None) outcome written p.usage ends)
             (has_called outcome now.files shelf (files_after_first shelf p.command) (files_after shelf p.command) written calls ends)
         | inr out ↦
             let P : Report → Type 0 = λ r. WritesReport r written in
-            called_short shelf words written.status now.files (out.calls ∙ told) (subst P out.memory ends).0
+            called_short shelf words written.status now.files (out.calls ∙ exposed) (subst P out.memory ends).0
       ]
 
-  pub calls_told : IfSome before.files (λ shelf. CallsFilesFor shelf words written.status now.files)
-  calls_told = where_exposed before.files (λ shelf. CallsFilesFor shelf words written.status now.files) calls_of
+  pub calls_exposed : IfSome before.files (λ shelf. CallsFilesFor shelf words written.status now.files)
+  calls_exposed = where_exposed before.files (λ shelf. CallsFilesFor shelf words written.status now.files) calls_of
 
 -- ---- the keeper, where no run calls it
 

@@ -51,8 +51,8 @@ moment_cut n (event.Web at bytes) = refl
 moment_cut n (event.Quiet at) = refl
 
 module _ (all : ReadOutHasAllBytes) (d : Directory) where
-  digest_cut : (n : ℕ) (e : Event) (kept : KeeperOutcomeView) (rows : List Row) → IsEventReadOut n e → parsed_event d (read_part n e) kept rows ≡ parsed_event d e kept rows
-  digest_cut n e kept rows read = all d n e kept rows read
+  parsed_cut : (n : ℕ) (e : Event) (kept : KeeperOutcomeView) (rows : List Row) → IsEventReadOut n e → parsed_event d (read_part n e) kept rows ≡ parsed_event d e kept rows
+  parsed_cut n e kept rows read = all d n e kept rows read
 
   upload_cut : (n : ℕ) (e : Event) (kept : KeeperOutcomeView) → IsEventReadOut n e → upload_at d.names (read_part n e) kept ≡ upload_at d.names e kept
   upload_cut n (event.Datagram from at bytes) kept read = refl
@@ -92,7 +92,7 @@ module _ (all : ReadOutHasAllBytes) (d : Directory) where
   whole_more n e events one recorded is read rest =
       let this : EventRecord = record { event = e; outcome = one.outcome; rows = one.rows; accepted = one.accepted } in
       let moment : moment_of e ≡ moment_of one.event = sym (moment_cut n e) ∙ ap moment_of (sym is) in
-      let said : parsed_record d this ≡ parsed_record d one = sym (digest_cut all d n e one.outcome one.rows read) ∙ ap (λ (x : Event). parsed_event d x one.outcome one.rows) (sym is) in
+      let said : parsed_record d this ≡ parsed_record d one = sym (parsed_cut all d n e one.outcome one.rows read) ∙ ap (λ (x : Event). parsed_event d x one.outcome one.rows) (sym is) in
       let put : upload_at d.names e one.outcome ≡ upload_at d.names one.event one.outcome =
       sym (upload_cut all d n e one.outcome read) ∙ ap (λ (x : Event). upload_at d.names x one.outcome) (sym is) in
       let call : call_of d.names one.event ≡ call_of d.names e = ap (call_of d.names) is ∙ call_cut all d n e read in
@@ -248,7 +248,7 @@ bound_still_after_handover false (row ∷ rows) held left calls since h = bound_
 
 -- the same calls are bound to the same
 same_still : (calls since : Option KeeperCalls) → since ≡ calls → IsBoundStill calls since
-same_still calls since same = ap (λ (told : Option KeeperCalls). option_map (λ (c : KeeperCalls). c.path) told) same
+same_still calls since same = ap (λ (exposed : Option KeeperCalls). option_map (λ (c : KeeperCalls). c.path) exposed) same
 
 pub bound_still : (names : WebDirectory) (recorded : List EventRecord) (old new : KeeperState) → EachKeeperResult names recorded old new → IsBoundStill old.calls new.calls
 bound_still names [] old new e = same_still old.calls new.calls e.1
@@ -281,18 +281,18 @@ all_came (e ∷ es) (n ∷ reads) end = let rest = all_came es reads end in omeg
 
 -- what came is what was received of the script's events
 pub came_of : (input later : LinkInput) (es : List Event) → input.reads ≡ [] → ReceivesMore (Some input) (Some later) es → es ≡ read_events input.events later.reads
-came_of input later es unread told =
+came_of input later es unread exposed =
     let nothing : read_events input.events input.reads ≡ [] = ap (read_events input.events) unread ∙ nothing_received input.events in
-    sym (ap (λ (l : List Event). l ++ es) nothing) ∙ (sym told.1 ∙ ap (λ (l : List Event). read_events l later.reads) told.0)
+    sym (ap (λ (l : List Event). l ++ es) nothing) ∙ (sym exposed.1 ∙ ap (λ (l : List Event). read_events l later.reads) exposed.0)
 
 -- a turn for each of them is enough for all to come
 long_enough : (input later : LinkInput) (turns count : ℕ) (closed : Bool) (es : List Event)
     → length input.events ≤ turns → input.reads ≡ [] → ReceivesMore (Some input) (Some later) es → count ≡ length es → EndsAfter turns (Some later) count (Ok closed)
     → length input.events ≤ length (read_events input.events later.reads)
-long_enough input later turns count true es enough unread told counted ends =
-    all_came input.events later.reads (ap (λ (l : List Event). slice_get l (length later.reads)) (sym told.0) ∙ ends.1)
-long_enough input later turns count false es enough unread told counted ends =
-    let all : length es ≡ length (read_events input.events later.reads) = ap length (came_of input later es unread told) in
+long_enough input later turns count true es enough unread exposed counted ends =
+    all_came input.events later.reads (ap (λ (l : List Event). slice_get l (length later.reads)) (sym exposed.0) ∙ ends.1)
+long_enough input later turns count false es enough unread exposed counted ends =
+    let all : length es ≡ length (read_events input.events later.reads) = ap length (came_of input later es unread exposed) in
     omega (arith, enough, ends, counted, all)
 
 -- no read of a script fails, so each of its connections was read to the end of its request
@@ -335,12 +335,12 @@ module _ (unfailed : UnfailedAreReadOut) (all : ReadOutHasAllBytes) (keeps : Off
     (out now : List Offer) (closed : Bool) (driven : DriveEffect turns old new out now (Ok closed)) (went : RanFromStart d token loaded [] [] old.server out) where
   offers_run : (input : LinkInput) (later : Option LinkInput) → ReceivesMore (Some input) later (events_in driven.recorded) → EndsAfter turns later (length driven.recorded) (Ok closed)
       → ReadEach (Some input) later 0 0 → input ≡ initial_input input.events → length input.events ≤ turns → OffersOfRun d token loaded input.events old.keeper new.keeper now
-  offers_run input None told ends each begins enough = absurd told
-  offers_run input (Some later) told ends each begins enough =
+  offers_run input None exposed ends each begins enough = absurd exposed
+  offers_run input (Some later) exposed ends each begins enough =
       let serves : RepresentsRun d token loaded [] old.server = record { fuel = went.fuel; enough = went.enough; represents = went.represents.represents } in
       let unread : input.reads ≡ [] = ap (λ (e : LinkInput). e.reads) begins in
-      let came = came_of input later (events_in driven.recorded) unread told in
-      let long = long_enough input later turns (length driven.recorded) closed (events_in driven.recorded) enough unread told (count_events driven.recorded) ends in
+      let came = came_of input later (events_in driven.recorded) unread exposed in
+      let long = long_enough input later turns (length driven.recorded) closed (events_in driven.recorded) enough unread exposed (count_events driven.recorded) ends in
       let read = read_out unfailed input later each.0 unread each.1 each.2 in
       let w = whole_of all d input.events later.reads driven.recorded came long read in
       let few : IsShortRun d token loaded w.whole → IsShortRun d token loaded driven.recorded = short_same d token loaded driven.recorded w.whole (sym w.read) in
@@ -370,9 +370,9 @@ module _ (unfailed : UnfailedAreReadOut) (all : ReadOutHasAllBytes) (keeps : Off
   -- the same of a link of which it is known that it has two counts of 0, and so many events
   offers_known : (input later : Option LinkInput) (giving gave events : ℕ) → ReceivesMore input later (events_in driven.recorded) → EndsAfter turns later (length driven.recorded) (Ok closed)
       → ReadEach input later giving gave → giving ≡ 0 → gave ≡ 0 → HasNoArrivals events input → events ≤ turns → OffersOfAllEvents input d token loaded old.keeper new.keeper now
-  offers_known None later giving gave events told ends each stood stands fresh enough = absurd fresh
-  offers_known (Some input) later giving gave events told ends each stood stands fresh enough =
-      offers_run input later told ends (both_zero (λ m n. ReadEach (Some input) later m n) giving gave stood stands each) fresh.0
+  offers_known None later giving gave events exposed ends each stood stands fresh enough = absurd fresh
+  offers_known (Some input) later giving gave events exposed ends each stood stands fresh enough =
+      offers_run input later exposed ends (both_zero (λ m n. ReadEach (Some input) later m n) giving gave stood stands each) fresh.0
       (no_more (length input.events) events turns fresh.1 enough)
 
   pub offers_all_of : (events : ℕ) → old.link.delivery_faults ≡ 0 → new.link.delivery_faults ≡ 0 → HasNoArrivals events old.link.input → events ≤ turns

@@ -100,18 +100,18 @@ module _ (shelf : FileStore) (old new : Environment) (words : List (List ℕ)) (
   good_run good (RanCharges c) = absurd (no_other (Charges c.config) (Replay asked) words c.spelled good.spelled refl)
   good_run good (RanWork w) = absurd (no_other (Workload w.calls w.salt) (Replay asked) words w.spelled good.spelled refl)
   good_run good (RanNone refused) = absurd (refused.none (Replay asked) good.spelled)
-  good_run good (RanOutOfMemoryFirst memory spared unheard) = inr memory.0
+  good_run good (RanOutOfMemoryFirst memory spared no_arrivals) = inr memory.0
 
 -- a keeper that can be bound, migrated and loaded is one that did not fail
-opens : (path : List ℕ) (calls since : Option KeeperCalls) (told : KeeperCalls) (refused : Bool) → IsOpening path calls since refused → calls ≡ Some told → fails_opening told ≡ refused
-opens path None since told refused opened is = absurd cc
-opens path (Some calls) since told refused opened is = let same : calls ≡ told = some_is calls told is in ap fails_opening (sym same) ∙ opened.1
+opens : (path : List ℕ) (calls since : Option KeeperCalls) (exposed : KeeperCalls) (refused : Bool) → IsOpening path calls since refused → calls ≡ Some exposed → fails_opening exposed ≡ refused
+opens path None since exposed refused opened is = absurd cc
+opens path (Some calls) since exposed refused opened is = let same : calls ≡ exposed = some_is calls exposed is in ap fails_opening (sym same) ∙ opened.1
 
 -- and so is one that can be bound and whose CDRs can be read
-asks : (path : List ℕ) (calls since : Option KeeperCalls) (told : KeeperCalls) (refused : Bool) → IsRowsCall path calls since refused → calls ≡ Some told
-    → fails_first_three told ≡ refused
-asks path None since told refused asked is = absurd cc
-asks path (Some calls) since told refused asked is = let same : calls ≡ told = some_is calls told is in ap fails_first_three (sym same) ∙ asked.1
+asks : (path : List ℕ) (calls since : Option KeeperCalls) (exposed : KeeperCalls) (refused : Bool) → IsRowsCall path calls since refused → calls ≡ Some exposed
+    → fails_first_three exposed ≡ refused
+asks path None since exposed refused asked is = absurd cc
+asks path (Some calls) since exposed refused asked is = let same : calls ≡ exposed = some_is calls exposed is in ap fails_first_three (sym same) ∙ asked.1
 
 never_failing : (store : List ℕ) (old new : KeeperState) → KeeperDoesNotFail old new → IsNotLoaded store old new → ⊥
 never_failing store old new (inl willing) not =
@@ -177,7 +177,7 @@ checks_are_written shelf old new words text written there (RanCharges c) =
 checks_are_written shelf old new words text written there (RanWork w) =
     absurd (no_other (Workload w.calls w.salt) (Check there.records) words w.spelled there.spelled refl)
 checks_are_written shelf old new words text written there (RanNone refused) = absurd (refused.none (Check there.records) there.spelled)
-checks_are_written shelf old new words text written there (RanOutOfMemoryFirst memory spared unheard) = inr memory.0
+checks_are_written shelf old new words text written there (RanOutOfMemoryFirst memory spared no_arrivals) = inr memory.0
 
 -- ---- a store whose CDRs are read
 
@@ -202,7 +202,7 @@ kept_run shelf old new words directory written kept (RanCharges c) =
 kept_run shelf old new words directory written kept (RanWork w) =
     absurd (no_other (Workload w.calls w.salt) (Charges kept.config) words w.spelled kept.spelled refl)
 kept_run shelf old new words directory written kept (RanNone refused) = absurd (refused.none (Charges kept.config) kept.spelled)
-kept_run shelf old new words directory written kept (RanOutOfMemoryFirst memory spared unheard) = inr memory
+kept_run shelf old new words directory written kept (RanOutOfMemoryFirst memory spared no_arrivals) = inr memory
 
 pub rows_are_listed : RowsAreListed
 rows_are_listed shelf old new words directory written kept willing ran =
@@ -227,9 +227,9 @@ rows_need_a_keeper shelf old new calls words directory written kept is unwilling
 -- ---- a link that is served
 
 -- a link whose call fails by its number is not bound
-binds : (directory : Directory) (calls since : Option LinkCalls) (told : LinkCalls) → IsBindCall directory calls since false → calls ≡ Some told → fails_next told ≡ false
-binds directory None since told bound is = absurd cc
-binds directory (Some calls) since told bound is = let same : calls ≡ told = some_is calls told is in ap fails_next (sym same) ∙ bound.1
+binds : (directory : Directory) (calls since : Option LinkCalls) (exposed : LinkCalls) → IsBindCall directory calls since false → calls ≡ Some exposed → fails_next exposed ≡ false
+binds directory None since exposed bound is = absurd cc
+binds directory (Some calls) since exposed bound is = let same : calls ≡ exposed = some_is calls exposed is in ap fails_next (sym same) ∙ bound.1
 
 module _ (old new : Environment) (directory : Directory) (token : List ℕ) (turns : ℕ)
     (written : WriteEffect) where
@@ -295,7 +295,7 @@ module _ (old new : Environment) (directory : Directory) (token : List ℕ) (tur
     there_run good (RanCharges c) = absurd (no_other (Charges c.config) (Serve good.config token turns) words c.spelled good.spelled refl)
     there_run good (RanWork w) = absurd (no_other (Workload w.calls w.salt) (Serve good.config token turns) words w.spelled good.spelled refl)
     there_run good (RanNone refused) = absurd (refused.none (Serve good.config token turns) good.spelled)
-    there_run good (RanOutOfMemoryFirst memory spared unheard) = inr memory.0
+    there_run good (RanOutOfMemoryFirst memory spared no_arrivals) = inr memory.0
 
 pub serves_are_served : ServesAreServed
 serves_are_served shelf old new words directory token turns written good willing stood ran =
@@ -594,7 +594,7 @@ weaker Zero Zero' Three Three' Four Four' Six Six' written z t f s e = record {
   fine = e.fine;
 }
 
-module _ (told : Option FileStore) (old new : Environment) (words : List (List ℕ)) (written : WriteEffect) where
+module _ (exposed : Option FileStore) (old new : Environment) (words : List (List ℕ)) (written : WriteEffect) where
   abbrev DoneSo : Type 0
   DoneSo = DoneAtZero old new words written
 
@@ -612,7 +612,7 @@ module _ (told : Option FileStore) (old new : Environment) (words : List (List �
     some : SpellsNone words → written.status ≡ 8
     end : EndsAny
 
-  of_serve : ServeRun told old new words written → EndsSome
+  of_serve : ServeRun exposed old new words written → EndsSome
   of_serve v = record {
     some = λ no_one. absurd (no_one (Serve v.config v.token v.turns) v.spelled.spelled);
     end = weaker (ServesOne old new words written) DoneSo ⊥ (RefusesOne words) TakingRose TakingRose KeeperRose KeeperRose written
@@ -620,7 +620,7 @@ module _ (told : Option FileStore) (old new : Environment) (words : List (List �
         (ending_serve words v.config v.token v.turns v.spelled.spelled old new written v.text v.ends);
   }
 
-  of_replay : ReplayRun told old.keeper new.keeper words written → EndsSome
+  of_replay : ReplayRun exposed old.keeper new.keeper words written → EndsSome
   of_replay r = record {
     some = λ no_one. absurd (no_one (Replay r.args) r.spelled.spelled);
     end = weaker (ListsAtZero r.args old.keeper new.keeper written) DoneSo ⊥ (RefusesOne words) ⊥ TakingRose KeeperRose KeeperRose written
@@ -629,7 +629,7 @@ module _ (told : Option FileStore) (old new : Environment) (words : List (List �
         (ending_config r.args old.keeper new.keeper written r.files.config r.files.script r.ends);
   }
 
-  of_check : CheckRun told words written → EndsSome
+  of_check : CheckRun exposed words written → EndsSome
   of_check c = record {
     some = λ no_one. absurd (no_one (Check c.records) c.spelled.spelled);
     end = weaker (ChecksOne words written) DoneSo (RefusesOne words) (RefusesOne words) ⊥ TakingRose ⊥ KeeperRose written
@@ -637,7 +637,7 @@ module _ (told : Option FileStore) (old new : Environment) (words : List (List �
         (ending_records words c.records c.spelled.spelled written c.text c.ends);
   }
 
-  of_charges : ChargesRun told old.keeper new.keeper words written → EndsSome
+  of_charges : ChargesRun exposed old.keeper new.keeper words written → EndsSome
   of_charges c = record {
     some = λ no_one. absurd (no_one (Charges c.config) c.spelled.spelled);
     end = weaker (ChargesOne old.keeper new.keeper words written) DoneSo ⊥ (RefusesOne words) ⊥ TakingRose KeeperRose KeeperRose written
@@ -660,14 +660,14 @@ module _ (told : Option FileStore) (old new : Environment) (words : List (List �
   }
 
   -- or they are none
-  ends_so : ProgramRun told old new words written → EndsSome ⊎ UnparsedRun words written
+  ends_so : ProgramRun exposed old new words written → EndsSome ⊎ UnparsedRun words written
   ends_so (RanServe v) = inl (of_serve v)
   ends_so (RanReplay r) = inl (of_replay r)
   ends_so (RanCheck c) = inl (of_check c)
   ends_so (RanCharges c) = inl (of_charges c)
   ends_so (RanWork w) = inl (of_work w)
   ends_so (RanNone refused) = inr refused
-  ends_so (RanOutOfMemoryFirst memory spared unheard) = inl (of_short memory)
+  ends_so (RanOutOfMemoryFirst memory spared no_arrivals) = inl (of_short memory)
 
 -- ---- the statements about each status
 
@@ -676,64 +676,64 @@ not_usage : (n status : ℕ) → status ≡ 1 → (n ≡ 1 → ⊥) → status �
 not_usage n status one other is = other (sym is ∙ one)
 
 pub zero_is_listed : ZeroIsListed
-zero_is_listed told old new words written ran zero =
-    elim (ends_so told old new words written ran) [
+zero_is_listed exposed old new words written ran zero =
+    elim (ends_so exposed old new words written ran) [
       | inl some ↦ some.end.zero zero
       | inr refused ↦ absurd (not_usage 0 written.status refused.usage.0 (λ w. cc) zero)
     ]
 
 pub one_is_usage : OneIsUsage
-one_is_usage told old new words written ran =
-    elim (ends_so told old new words written ran) [
+one_is_usage exposed old new words written ran =
+    elim (ends_so exposed old new words written ran) [
       | inl some ↦ (λ one. absurd (some.end.other one), λ no_one. inr (some.some no_one))
       | inr refused ↦ (λ one. refused.none, λ no_one. inl refused.usage.0)
     ]
 
 pub three_is_refused : ThreeIsRefused
-three_is_refused told old new words written ran three =
-    elim (ends_so told old new words written ran) [
+three_is_refused exposed old new words written ran three =
+    elim (ends_so exposed old new words written ran) [
       | inl some ↦ some.end.three three
       | inr refused ↦ absurd (not_usage 3 written.status refused.usage.0 (λ w. cc) three)
     ]
 
 pub four_rose : FourRose
-four_rose told old new words written ran four =
-    elim (ends_so told old new words written ran) [
+four_rose exposed old new words written ran four =
+    elim (ends_so exposed old new words written ran) [
       | inl some ↦ some.end.four four
       | inr refused ↦ absurd (not_usage 4 written.status refused.usage.0 (λ w. cc) four)
     ]
 
 pub six_rose : SixRose
-six_rose told old new words written ran six =
-    elim (ends_so told old new words written ran) [
+six_rose exposed old new words written ran six =
+    elim (ends_so exposed old new words written ran) [
       | inl some ↦ some.end.six six
       | inr refused ↦ absurd (not_usage 6 written.status refused.usage.0 (λ w. cc) six)
     ]
 
 pub seven_rose : SevenRose
-seven_rose told old new words written ran seven =
-    elim (ends_so told old new words written ran) [
+seven_rose exposed old new words written ran seven =
+    elim (ends_so exposed old new words written ran) [
       | inl some ↦ some.end.rose seven
       | inr refused ↦ absurd (not_usage 7 written.status refused.usage.0 (λ w. cc) seven)
     ]
 
 pub zero_kept : ZeroKept
-zero_kept told old new words written ran zero =
-    elim (ends_so told old new words written ran) [
+zero_kept exposed old new words written ran zero =
+    elim (ends_so exposed old new words written ran) [
       | inl some ↦ some.end.kept zero
       | inr refused ↦ absurd (not_usage 0 written.status refused.usage.0 (λ w. cc) zero)
     ]
 
 pub statuses_are_these : StatusesAreThese
-statuses_are_these told old new words written ran =
-    elim (ends_so told old new words written ran) [
+statuses_are_these exposed old new words written ran =
+    elim (ends_so exposed old new words written ran) [
       | inl some ↦ some.end.known
       | inr refused ↦ rw (refused.usage.0) refl
     ]
 
 pub no_fault_no_failure : NoFaultNoFailure
-no_fault_no_failure told old new words written ran earlier since counts files stood kept sink =
-    elim (ends_so told old new words written ran) [
+no_fault_no_failure exposed old new words written ran earlier since counts files stood kept sink =
+    elim (ends_so exposed old new words written ran) [
       | inl some ↦ some.end.fine (λ four. stood (some.end.four four)) (λ five. files (counts.rose five)) (λ six. kept (some.end.six six)) (λ seven. sink (some.end.rose seven))
       | inr refused ↦ rw (refused.usage.0) refl
     ]
@@ -741,27 +741,27 @@ no_fault_no_failure told old new words written ran earlier since counts files st
 -- ---- where memory ran out
 
 pub eight_is_out_of_memory : EightIsOutOfMemory
-eight_is_out_of_memory told old new words written (RanServe v) eight =
+eight_is_out_of_memory exposed old new words written (RanServe v) eight =
     MemoryServe (record { config = v.config; token = v.token; turns = v.turns; spelled = v.spelled.spelled; text = v.text; out_of_memory = v.out_of_memory eight })
-eight_is_out_of_memory told old new words written (RanReplay r) eight =
+eight_is_out_of_memory exposed old new words written (RanReplay r) eight =
     MemoryReplay (record { args = r.args; spelled = r.spelled.spelled; config = r.files.config; script = r.files.script; out_of_memory = r.out_of_memory eight })
-eight_is_out_of_memory told old new words written (RanCheck c) eight = MemoryCheck c.records c.spelled.spelled
-eight_is_out_of_memory told old new words written (RanCharges c) eight =
+eight_is_out_of_memory exposed old new words written (RanCheck c) eight = MemoryCheck c.records c.spelled.spelled
+eight_is_out_of_memory exposed old new words written (RanCharges c) eight =
     MemoryCharges (record { config = c.config; spelled = c.spelled.spelled; text = c.text; out_of_memory = c.out_of_memory eight })
-eight_is_out_of_memory told old new words written (RanWork w) eight = MemoryWorkload w.calls w.salt w.spelled.spelled
-eight_is_out_of_memory told old new words written (RanNone refused) eight =
+eight_is_out_of_memory exposed old new words written (RanWork w) eight = MemoryWorkload w.calls w.salt w.spelled.spelled
+eight_is_out_of_memory exposed old new words written (RanNone refused) eight =
     absurd (not_usage 8 written.status refused.usage.0 (λ w. cc) eight)
-eight_is_out_of_memory told old new words written (RanOutOfMemoryFirst memory spared unheard) eight = MemoryWords spared unheard
+eight_is_out_of_memory exposed old new words written (RanOutOfMemoryFirst memory spared no_arrivals) eight = MemoryWords spared no_arrivals
 
 pub charges_keep : ChargesKeep
-charges_keep told old new words written (RanServe v) config spelled =
+charges_keep exposed old new words written (RanServe v) config spelled =
     absurd (no_other (Serve v.config v.token v.turns) (Charges config) words v.spelled spelled refl)
-charges_keep told old new words written (RanReplay r) config spelled =
+charges_keep exposed old new words written (RanReplay r) config spelled =
     absurd (no_other (Replay r.args) (Charges config) words r.spelled spelled refl)
-charges_keep told old new words written (RanCheck c) config spelled =
+charges_keep exposed old new words written (RanCheck c) config spelled =
     absurd (no_other (Check c.records) (Charges config) words c.spelled spelled refl)
-charges_keep told old new words written (RanCharges c) config spelled = c.held
-charges_keep told old new words written (RanWork w) config spelled =
+charges_keep exposed old new words written (RanCharges c) config spelled = c.held
+charges_keep exposed old new words written (RanWork w) config spelled =
     absurd (no_other (Workload w.calls w.salt) (Charges config) words w.spelled spelled refl)
-charges_keep told old new words written (RanNone refused) config spelled = absurd (refused.none (Charges config) spelled)
-charges_keep told old new words written (RanOutOfMemoryFirst memory spared unheard) config spelled = ap (λ (k : KeeperState). k.contents) spared
+charges_keep exposed old new words written (RanNone refused) config spelled = absurd (refused.none (Charges config) spelled)
+charges_keep exposed old new words written (RanOutOfMemoryFirst memory spared no_arrivals) config spelled = ap (λ (k : KeeperState). k.contents) spared

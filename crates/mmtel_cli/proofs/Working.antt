@@ -33,7 +33,7 @@ pub counts_written : {E : Type 0} (directory : Directory) (calls salt : ℕ) (re
     → OffersOfRun directory work_token work_records events (keeper_of opening) (keeper_of held) offers
     → IfOk result (λ text. text ≡ work_text calls (length offers) (length rows) (diversions_in rows))
     → IfOk result (λ text. Counts directory calls salt text)
-counts_written directory calls salt (Ok text) events opening held offers rows received empty same run told =
+counts_written directory calls salt (Ok text) events opening held offers rows received empty same run exposed =
     let this = run_of_calls directory calls salt events opening held offers received empty run in
     record {
       held = held;
@@ -41,6 +41,6 @@ counts_written directory calls salt (Ok text) events opening held offers rows re
       exact = offers_known directory calls salt held offers this;
       rows = rows_known directory calls salt held offers this;
       run = this;
-      counts = let P : List Row → Type 0 = λ r. text ≡ work_text calls (length offers) (length r) (diversions_in r) in subst P same told;
+      counts = let P : List Row → Type 0 = λ r. text ≡ work_text calls (length offers) (length r) (diversions_in r) in subst P same exposed;
     }
-counts_written directory calls salt (Err e) events opening held offers rows received empty same run told = tt
+counts_written directory calls salt (Err e) events opening held offers rows received empty same run exposed = tt

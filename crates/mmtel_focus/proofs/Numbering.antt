@@ -107,8 +107,8 @@ module _ (config : ConferenceConfigView) (now : ℕ) where
       after_refer_keeps seat.number u (after_trying config seat.number (after_accepted_refer config key m place seat s)) ∙ after_notify_to_keeps true (own_status 100) seat.number (after_accepted_refer config key m place seat s)
   referral_keeps key m (referral.Replace r) place seat s = refl
 
-  heard_keeps : (key : TKey) (m : MessageView) (place : ℕ) (seat : ParticipantState) (s : StepResult) → Keeps s (on_request_in_order config now key m place seat s)
-  heard_keeps key m place seat s =
+  received_keeps : (key : TKey) (m : MessageView) (place : ℕ) (seat : ParticipantState) (s : StepResult) → Keeps s (on_request_in_order config now key m place seat s)
+  received_keeps key m place seat s =
       let none : StepResult = after_refusal config key m 481 place seat s in
       let options : StepResult = if is_method (codes "OPTIONS") m.parsed.start then after_response config key m 200 (allow_lines config.methods) place seat s else none in
       let refer : StepResult = if is_method (codes "REFER") m.parsed.start then on_referral config now key m (referral_in m.parsed.refer_to) place seat s else options in
@@ -118,17 +118,17 @@ module _ (config : ConferenceConfigView) (now : ℕ) where
       (if_keeps (is_method (codes "REFER") m.parsed.start) s (on_referral config now key m (referral_in m.parsed.refer_to) place seat s) options (referral_keeps key m (referral_in m.parsed.refer_to) place seat s)
       (if_keeps (is_method (codes "OPTIONS") m.parsed.start) s (after_response config key m 200 (allow_lines config.methods) place seat s) none refl refl)))
 
-  hearing_keeps : (key : TKey) (m : MessageView) (r : Result (Unit {0}) DialogueFault) (place : ℕ) (seat : ParticipantState) (s : StepResult) → Keeps s (on_checked_request config now key m r place seat s)
-  hearing_keeps key m (Err (OldCSeq last)) place seat s = refl
-  hearing_keeps key m (Err Pending) place seat s = refl
-  hearing_keeps key m (Err Unfinished) place seat s = refl
-  hearing_keeps key m (Ok received) place seat s = at_participant_keeps (on_request_in_order config now key m) (heard_keeps key m) place (with_participant place (participant_after_request m seat) s)
+  receiving_keeps : (key : TKey) (m : MessageView) (r : Result (Unit {0}) DialogueFault) (place : ℕ) (seat : ParticipantState) (s : StepResult) → Keeps s (on_checked_request config now key m r place seat s)
+  receiving_keeps key m (Err (OldCSeq last)) place seat s = refl
+  receiving_keeps key m (Err Pending) place seat s = refl
+  receiving_keeps key m (Err Unfinished) place seat s = refl
+  receiving_keeps key m (Ok received) place seat s = at_participant_keeps (on_request_in_order config now key m) (received_keeps key m) place (with_participant place (participant_after_request m seat) s)
 
   request_keeps : (key : TKey) (m : MessageView) (place : ℕ) (seat : ParticipantState) (s : StepResult) → Keeps s (on_request config now key m place seat s)
   unfolding on_request
   request_keeps key m place seat s =
       if_keeps (is_connected seat) s (on_checked_request config now key m (request_check (leg_of seat.party) m (invite_in_flight seat)) place seat s) (after_refusal config key m 481 place seat s)
-      (hearing_keeps key m (request_check (leg_of seat.party) m (invite_in_flight seat)) place seat s) refl
+      (receiving_keeps key m (request_check (leg_of seat.party) m (invite_in_flight seat)) place seat s) refl
 
   ack_keeps : (m : MessageView) (place : ℕ) (seat : ParticipantState) (s : StepResult) → Keeps s (on_ack m place seat s)
   unfolding on_ack

@@ -155,9 +155,9 @@ impl Rooms {
     /// The conference and the participant whose dialog has this Call-ID, this tag of the server and this tag of the other side (RFC 3261 §12.2.2); None exactly where no
     /// participant of a live conference has it.
     pub fn find(&self, call_id: &[u8], local: &[u8], remote: &[u8]) -> Option<(RoomNo, u64)>
-        ensures { (peers : Peers) (accounts : List AccountIdentity) (deeds : List TableOp) →
-            Represents peers accounts self.now deeds →
-            result ≡ room_and_seat_with_dialog call_id.now local.now remote.now (table_after (config_of self.now peers accounts) deeds).live }
+        ensures { (peers : Peers) (accounts : List AccountIdentity) (ops : List TableOp) →
+            Represents peers accounts self.now ops →
+            result ≡ room_and_seat_with_dialog call_id.now local.now remote.now (table_after (config_of self.now peers accounts) ops).live }
     {
         let name = DialogName {
             call_id,
@@ -169,18 +169,18 @@ impl Rooms {
 
     /// How many participants a conference has, pending invitations among them; 0 where it is not live.
     pub fn seats(&self, room: RoomNo) -> u32
-        ensures { (peers : Peers) (accounts : List AccountIdentity) (deeds : List TableOp) →
-            Represents peers accounts self.now deeds →
-            result ≡ participant_count room.0 (table_after (config_of self.now peers accounts) deeds).live }
+        ensures { (peers : Peers) (accounts : List AccountIdentity) (ops : List TableOp) →
+            Represents peers accounts self.now ops →
+            result ≡ participant_count room.0 (table_after (config_of self.now peers accounts) ops).live }
     {
         queries::participant_count(&self.live, room)
     }
 
     /// The CDRs of participants that left by a signal, as far as they were not handed over, in the order in which they were closed.
     pub fn rows_waiting(&self) -> &[Row]
-        ensures rows { (peers : Peers) (accounts : List AccountIdentity) (deeds : List TableOp) →
-            Represents peers accounts self.now deeds →
-            result.now ≡ (table_after (config_of self.now peers accounts) deeds).rows }
+        ensures rows { (peers : Peers) (accounts : List AccountIdentity) (ops : List TableOp) →
+            Represents peers accounts self.now ops →
+            result.now ≡ (table_after (config_of self.now peers accounts) ops).rows }
         ensures kept { result.now ≡ self.now.table.rows }
     {
         self.rows.items()
@@ -191,9 +191,9 @@ impl Rooms {
         requires { count ≤ length self.old.table.rows }
         ensures config { (peers : Peers) (accounts : List AccountIdentity) →
             config_of self.new peers accounts ≡ config_of self.old peers accounts }
-        ensures done { (peers : Peers) (accounts : List AccountIdentity) (deeds : List TableOp) →
-            Represents peers accounts self.old deeds →
-            Represents peers accounts self.new (Drops count ∷ deeds) }
+        ensures done { (peers : Peers) (accounts : List AccountIdentity) (ops : List TableOp) →
+            Represents peers accounts self.old ops →
+            Represents peers accounts self.new (Drops count ∷ ops) }
     {
         drop_first(&mut self.rows, count);
     }

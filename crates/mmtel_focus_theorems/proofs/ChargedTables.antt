@@ -215,9 +215,9 @@ response_rows sip key m l output =
 abbrev GoesBeside : (at : ℕ) → List Conference → Effects → TableStep → Type 0
 GoesBeside at live before moved = Moves at live before moved.live moved.effects
 
-loose_books : (at : ℕ) (sip : Addr) (key : TKey) (m : MessageView) (place : ℕ) (o : Option AbandonedInvite) (live : List Conference) (abandoned : List AbandonedInvite) (effects : Effects) → AllPlain live → GoesBeside at live effects (step_of_abandoned_response sip key m place o live abandoned effects)
-loose_books at sip key m place None live abandoned effects p = unchanged_step_books at live effects effects refl p
-loose_books at sip key m place (Some l) live abandoned effects p = record {
+abandoned_books : (at : ℕ) (sip : Addr) (key : TKey) (m : MessageView) (place : ℕ) (o : Option AbandonedInvite) (live : List Conference) (abandoned : List AbandonedInvite) (effects : Effects) → AllPlain live → GoesBeside at live effects (step_of_abandoned_response sip key m place o live abandoned effects)
+abandoned_books at sip key m place None live abandoned effects p = unchanged_step_books at live effects effects refl p
+abandoned_books at sip key m place (Some l) live abandoned effects p = record {
   rows = [];
   filed = response_rows sip key m.parsed l effects.output ∙ sym (append-nil effects.output.rows);
   booked = booked_same at (running_meters live) (running_meters live) refl;
@@ -237,7 +237,7 @@ step_by_number_books at config room seat received live effects f p =
 step_of_response_at_books : (at : ℕ) (config : ConferenceConfigView) (key : TKey) (m : MessageView) (branch : List ℕ) (o : Option ℕ) (live : List Conference) (abandoned : List AbandonedInvite) (effects : Effects) → effects.closes ≡ false → AllPlain live →
     GoesBeside at live effects (step_of_response_at config at key m branch o live abandoned effects)
 step_of_response_at_books at config key m branch None live abandoned effects f p = step_by_branch_books at config branch (of_seat.Answer key m) live effects f p
-step_of_response_at_books at config key m branch (Some place) live abandoned effects f p = loose_books at config.sip key m place (slice_get abandoned place) live abandoned effects p
+step_of_response_at_books at config key m branch (Some place) live abandoned effects f p = abandoned_books at config.sip key m place (slice_get abandoned place) live abandoned effects p
 
 step_of_response_books : (at : ℕ) (config : ConferenceConfigView) (key : TKey) (m : MessageView) (o : Option (List ℕ)) (live : List Conference) (abandoned : List AbandonedInvite) (effects : Effects) → effects.closes ≡ false → AllPlain live →
     GoesBeside at live effects (step_of_response config at key m o live abandoned effects)
@@ -493,28 +493,28 @@ closes_all room live p = conferences_after_close_by (place_of room live) live p
 moved_charged : (at : ℕ) (table later : Table) (tokens : TokensView) (after : Effects) → later.rows ≡ table.rows ++ after.output.rows → Moves at table.live (no_effects tokens) later.live after → IsCharged at table later
 moved_charged at table later tokens after e f = record { rows = f.rows; filed = e ∙ ap (λ x. table.rows ++ x) f.filed; booked = f.booked }
 
-booked_deed : (config : ConferenceConfigView) (op : TableOp) (table : Table) → AllPlain table.live → IsBookedOp op table (table_after_op config op table) × AllPlain (table_after_op config op table).live
-booked_deed config (Opens c) table p = (opens_charged config c table, all_joined table.live ((step_on_open config c table).conference ∷ []) p ((step_of_opening_books config c table).plain, tt))
-booked_deed config (Joins room c) table p =
+booked_op : (config : ConferenceConfigView) (op : TableOp) (table : Table) → AllPlain table.live → IsBookedOp op table (table_after_op config op table) × AllPlain (table_after_op config op table).live
+booked_op config (Opens c) table p = (opens_charged config c table, all_joined table.live ((step_on_open config c table).conference ∷ []) p ((step_of_opening_books config c table).plain, tt))
+booked_op config (Joins room c) table p =
     let moves = step_of_join_books config room c table p in (moved_charged c.at table (table_after_op config (Joins room c) table) c.tokens (step_on_join config room c table).effects refl moves, moves.plain)
-booked_deed config (Adopts room a) table p =
+booked_op config (Adopts room a) table p =
     let moves = adoption_books config room a table p in (moved_charged a.at table (table_after_op config (Adopts room a) table) a.tokens (step_on_adopt config room a table).effects refl moves, moves.plain)
-booked_deed config (Notifies room seat code tokens) table p =
+booked_op config (Notifies room seat code tokens) table p =
     let quiet = step_of_notify_quiet config room seat code table.live (no_effects tokens) p in
     (record { filed = ap (λ x. table.rows ++ x) quiet.filed ∙ append-nil table.rows; runs_on = quiet.runs_on }, quiet.plain)
-booked_deed config (Receives x) table p =
+booked_op config (Receives x) table p =
     let moves = signal_books x.at config x.signal table.live table.abandoned (no_effects x.tokens) refl p in (moved_charged x.at table (table_after_op config (Receives x) table) x.tokens (step_on_receive config x table).effects refl moves, moves.plain)
-booked_deed config (Leaves room seat) table p =
+booked_op config (Leaves room seat) table p =
     let g = gives room seat table.live p in (record { front = g.front; meter = g.meter; back = g.back; filed = refl; old = g.was; new = g.is; row = g.row }, g.plain)
-booked_deed config (Closes room) table p =
+booked_op config (Closes room) table p =
     let g = closes_all room table.live p in (record { front = g.front; back = g.back; filed = refl; old = g.was; new = g.is }, g.plain)
-booked_deed config (Drops count) table p = (record { remaining = refl; runs_on = refl }, p)
+booked_op config (Drops count) table p = (record { remaining = refl; runs_on = refl }, p)
 
 -- ---- whatever was done before
 
 pub always_plain : (config : ConferenceConfigView) (ops : List TableOp) → AllPlain (table_after config ops).live
 always_plain config [] = tt
-always_plain config (op ∷ ops) = (booked_deed config op (table_after config ops) (always_plain config ops)).1
+always_plain config (op ∷ ops) = (booked_op config op (table_after config ops) (always_plain config ops)).1
 
-pub deeds_charged : OperationsAreCharged
-deeds_charged config ops op = (booked_deed config op (table_after config ops) (always_plain config ops)).0
+pub ops_charged : OperationsAreCharged
+ops_charged config ops op = (booked_op config op (table_after config ops) (always_plain config ops)).0

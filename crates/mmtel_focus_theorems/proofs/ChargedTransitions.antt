@@ -115,8 +115,8 @@ referral_books at config key m (referral.Invite u) place seat s e p =
 
 -- ---- a request
 
-heard_books : (at : ℕ) (config : ConferenceConfigView) (key : TKey) (m : MessageView) → EndsBooks at (on_request_in_order config at key m)
-heard_books at config key m place seat s e p =
+received_books : (at : ℕ) (config : ConferenceConfigView) (key : TKey) (m : MessageView) → EndsBooks at (on_request_in_order config at key m)
+received_books at config key m place seat s e p =
     ends_if at (is_method (codes "INVITE") m.parsed.start) s (on_invite config at key m place seat s) other
     (goes_on at s (on_invite config at key m place seat s) (invite_books at config key m place seat s e p))
     (ends_if at (is_method (codes "BYE") m.parsed.start) s (on_bye config at key m place seat s) third (bye_books at config key m place seat s e p)
@@ -147,19 +147,19 @@ with_leg_plain (Invited before) leg e p = e ∙ p
 with_leg_plain (DialedIn before) leg e p = tt
 with_leg_plain (DialedOut before) leg e p = tt
 
-hearing_books : (at : ℕ) (config : ConferenceConfigView) (key : TKey) (m : MessageView) (r : Result (Unit {0}) DialogueFault) → EndsBooks at (on_checked_request config at key m r)
-hearing_books at config key m (Err fault) place seat s e p = fault_books at config key m fault place seat s e p
-hearing_books at config key m (Ok received) place seat s e p =
+receiving_books : (at : ℕ) (config : ConferenceConfigView) (key : TKey) (m : MessageView) (r : Result (Unit {0}) DialogueFault) → EndsBooks at (on_checked_request config at key m r)
+receiving_books at config key m (Err fault) place seat s e p = fault_books at config key m fault place seat s e p
+receiving_books at config key m (Ok received) place seat s e p =
     let leg : Leg = requests.leg_after_request m (leg_of seat.party) in
     let next : StepResult = with_participant place (participant_after_request m seat) s in
     let first = with_participant_books at place seat (participant_after_request m seat) s e (same_meter seat.party leg refl) (with_leg_plain seat.party leg refl (plain_there s.conference.participants place seat e p)) p in
-    ends_then at s next (on_checked_request config at key m (Ok received) place seat s) first (ends_at_seat at (on_request_in_order config at key m) (heard_books at config key m) place next first.plain)
+    ends_then at s next (on_checked_request config at key m (Ok received) place seat s) first (ends_at_seat at (on_request_in_order config at key m) (received_books at config key m) place next first.plain)
 
 pub request_books : (at : ℕ) (config : ConferenceConfigView) (key : TKey) (m : MessageView) → EndsBooks at (on_request config at key m)
 unfolding on_request
 request_books at config key m place seat s e p =
     ends_if at (is_connected seat) s (on_checked_request config at key m (requests.request_check (leg_of seat.party) m (invite_in_flight seat)) place seat s) (after_refusal config key m 481 place seat s)
-    (hearing_books at config key m (requests.request_check (leg_of seat.party) m (invite_in_flight seat)) place seat s e p) (ends_refused at config key m 481 place seat s e p)
+    (receiving_books at config key m (requests.request_check (leg_of seat.party) m (invite_in_flight seat)) place seat s e p) (ends_refused at config key m 481 place seat s e p)
 
 pub ack_books : (at : ℕ) (m : MessageView) → KeepsBooks at (on_ack m)
 unfolding on_ack

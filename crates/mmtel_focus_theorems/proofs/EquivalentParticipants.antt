@@ -152,20 +152,20 @@ module _ (known : Peer → Bool) where
 
   -- ---- participants after a change
 
-  told_public : (p : Party) → public_party known (party_after_notify p) ≡ party_after_notify (public_party known p)
-  told_public (Invited leg) = refl
-  told_public (DialedIn leg) = refl
-  told_public (DialedOut leg) = refl
+  notified_public : (p : Party) → public_party known (party_after_notify p) ≡ party_after_notify (public_party known p)
+  notified_public (Invited leg) = refl
+  notified_public (DialedIn leg) = refl
+  notified_public (DialedOut leg) = refl
 
-  told_peer : (p : Party) → (leg_of (party_after_notify p)).dialogue.peer ≡ (leg_of p).dialogue.peer
-  told_peer (Invited leg) = refl
-  told_peer (DialedIn leg) = refl
-  told_peer (DialedOut leg) = refl
+  notified_peer : (p : Party) → (leg_of (party_after_notify p)).dialogue.peer ≡ (leg_of p).dialogue.peer
+  notified_peer (Invited leg) = refl
+  notified_peer (DialedIn leg) = refl
+  notified_peer (DialedOut leg) = refl
 
-  pub told-seats : (v w : ParticipantState) → public_participant known v ≡ public_participant known w → public_participant known (participant_after_notify v) ≡ public_participant known (participant_after_notify w)
-  told-seats v w e =
-      with_parties v w e (party_after_notify v.party) (party_after_notify w.party) (commuting party_after_notify (public_party known) (public_party known) told_public v.party w.party (parties v w e))
-      (ap known (told_peer v.party)) (ap known (told_peer w.party))
+  pub notified-seats : (v w : ParticipantState) → public_participant known v ≡ public_participant known w → public_participant known (participant_after_notify v) ≡ public_participant known (participant_after_notify w)
+  notified-seats v w e =
+      with_parties v w e (party_after_notify v.party) (party_after_notify w.party) (commuting party_after_notify (public_party known) (public_party known) notified_public v.party w.party (parties v w e))
+      (ap known (notified_peer v.party)) (ap known (notified_peer w.party))
 
   bye_public : (v : ParticipantState) → public_party known (participant_after_bye v).party ≡ (participant_after_bye (public_participant known v)).party
   bye_public v = by v.party
@@ -187,25 +187,25 @@ module _ (known : Peer → Bool) where
   bye-seats v w e =
       with_parties v w e (participant_after_bye v).party (participant_after_bye w).party (bye_public v ∙ (ap (λ (z : ParticipantState). (participant_after_bye z).party) e ∙ sym (bye_public w))) (ap known (bye_peer v)) (ap known (bye_peer w))
 
-  heard_public : (m : MessageView) (v : ParticipantState) → public_party known (participant_after_request m v).party ≡ (participant_after_request m (public_participant known v)).party
-  heard_public m v = by v.party
+  received_public : (m : MessageView) (v : ParticipantState) → public_party known (participant_after_request m v).party ≡ (participant_after_request m (public_participant known v)).party
+  received_public m v = by v.party
     where
       by : (p : Party) → public_party known (participant_after_request m (record v { party = p })).party ≡ (participant_after_request m (public_participant known (record v { party = p }))).party
       by (Invited leg) = refl
       by (DialedIn leg) = refl
       by (DialedOut leg) = refl
 
-  heard_peer : (m : MessageView) (v : ParticipantState) → (leg_of (participant_after_request m v).party).dialogue.peer ≡ (dialogue_of v).peer
-  heard_peer m v = by v.party
+  received_peer : (m : MessageView) (v : ParticipantState) → (leg_of (participant_after_request m v).party).dialogue.peer ≡ (dialogue_of v).peer
+  received_peer m v = by v.party
     where
       by : (p : Party) → (leg_of (participant_after_request m (record v { party = p })).party).dialogue.peer ≡ (leg_of p).dialogue.peer
       by (Invited leg) = refl
       by (DialedIn leg) = refl
       by (DialedOut leg) = refl
 
-  pub heard-seats : (m : MessageView) (v w : ParticipantState) → public_participant known v ≡ public_participant known w → public_participant known (participant_after_request m v) ≡ public_participant known (participant_after_request m w)
-  heard-seats m v w e =
-      with_parties v w e (participant_after_request m v).party (participant_after_request m w).party (heard_public m v ∙ (ap (λ (z : ParticipantState). (participant_after_request m z).party) e ∙ sym (heard_public m w))) (ap known (heard_peer m v)) (ap known (heard_peer m w))
+  pub received-seats : (m : MessageView) (v w : ParticipantState) → public_participant known v ≡ public_participant known w → public_participant known (participant_after_request m v) ≡ public_participant known (participant_after_request m w)
+  received-seats m v w e =
+      with_parties v w e (participant_after_request m v).party (participant_after_request m w).party (received_public m v ∙ (ap (λ (z : ParticipantState). (participant_after_request m z).party) e ∙ sym (received_public m w))) (ap known (received_peer m v)) (ap known (received_peer m w))
 
   -- the last CSeq number is public
   last_same : (p q : Party) → public_party known p ≡ public_party known q → (leg_of p).dialogue.remote_cseq ≡ (leg_of q).dialogue.remote_cseq

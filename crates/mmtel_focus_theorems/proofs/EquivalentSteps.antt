@@ -26,7 +26,7 @@ use Rattle.mmtel_focus.specs.ConferenceConfig.{ConferenceConfigView}
 use Rattle.mmtel_focus.specs.Texts.{notify_lines, sipfrag}
 use Rattle.mmtel_focus_theorems.specs.Inputs.{AreRequests, MessagePair}
 use Rattle.mmtel_focus_theorems.specs.PublicParts.{EquivalentEffects, public_conference, public_participant, public_party, trust_of, trusts}
-use Rattle.mmtel_focus_theorems.proofs.EquivalentParticipants.{bye-seats, by_party, dialogs, invites, left-all, meters, parties, seateds, seats-set, tags, told-seats}
+use Rattle.mmtel_focus_theorems.proofs.EquivalentParticipants.{bye-seats, by_party, dialogs, invites, left-all, meters, parties, seateds, seats-set, tags, notified-seats}
 use Rattle.mmtel_focus_theorems.proofs.EquivalentOutputs.{answered-like, asked-like, with_row-like}
 use Rattle.mmtel_focus_theorems.proofs.Lists.{same_append, same_get, same_place, same_remove, same_set}
 
@@ -53,8 +53,8 @@ module _ (heads : Heads) (config : ConferenceConfigView) (keys : TKey → Bool) 
   pub room-of : (s r : StepResult) → EquivalentStepResults T s r → s.conference.number ≡ r.conference.number
   room-of s r a = ap (λ (z : Conference). z.number) a.conference
 
-  pub desk-rows : (d e : StepOutput) (s r : StepResult) → EquivalentOutputs T d e → EquivalentStepResults T s r → EquivalentStepResults T (with_output d s) (with_output e r)
-  desk-rows d e s r b a = record { conference = a.conference; effects = record { closes = a.effects.closes; abandoned = a.effects.abandoned; output = b } }
+  pub output-rows : (d e : StepOutput) (s r : StepResult) → EquivalentOutputs T d e → EquivalentStepResults T s r → EquivalentStepResults T (with_output d s) (with_output e r)
+  output-rows d e s r b a = record { conference = a.conference; effects = record { closes = a.effects.closes; abandoned = a.effects.abandoned; output = b } }
 
   pub if-rows : (b c : Bool) (one two three four : StepResult) → b ≡ c → EquivalentStepResults T one three → EquivalentStepResults T two four → EquivalentStepResults T (if b then one else two) (if c then three else four)
   if-rows b c one two three four e f g = subst (λ (d : Bool). EquivalentStepResults T (if b then one else two) (if d then three else four)) e (by b)
@@ -110,9 +110,9 @@ module _ (heads : Heads) (config : ConferenceConfigView) (keys : TKey → Bool) 
 
   after_notify-rows : (on : Bool) (line : List ℕ) (place : ℕ) (v w : ParticipantState) (s r : StepResult) → public_participant known v ≡ public_participant known w → EquivalentStepResults T s r → EquivalentStepResults T (after_notify config on line place v s) (after_notify config on line place w r)
   after_notify-rows on line place v w s r e a =
-      desk-rows (with_notify_to_party config s.conference.number on line v.party s.effects.output) (with_notify_to_party config r.conference.number on line w.party r.effects.output) (with_participant place (participant_after_notify v) s) (with_participant place (participant_after_notify w) r)
+      output-rows (with_notify_to_party config s.conference.number on line v.party s.effects.output) (with_notify_to_party config r.conference.number on line w.party r.effects.output) (with_participant place (participant_after_notify v) s) (with_participant place (participant_after_notify w) r)
       (notified-like s.conference.number r.conference.number on line v.party w.party s.effects.output r.effects.output (room-of s r a) (parties known v w e) a.effects.output)
-      (with_participant-rows place (participant_after_notify v) (participant_after_notify w) s r (told-seats known v w e) a)
+      (with_participant-rows place (participant_after_notify v) (participant_after_notify w) s r (notified-seats known v w e) a)
 
   pub after_notify_to-rows : (on : Bool) (line : List ℕ) (n m : ℕ) (s r : StepResult) → n ≡ m → EquivalentStepResults T s r → EquivalentStepResults T (after_notify_to config on line n s) (after_notify_to config on line m r)
   after_notify_to-rows on line n m s r e a =
@@ -181,7 +181,7 @@ module _ (heads : Heads) (config : ConferenceConfigView) (keys : TKey → Bool) 
   pub answered-rows : (c d : List ℕ) (key : TKey) (p : MessagePair) (code : ℕ) (named : List Line) (v w : ParticipantState) (s r : StepResult) → c ≡ d → AreRequests T key p → public_participant known v ≡ public_participant known w → EquivalentStepResults T s r →
       EquivalentStepResults T (with_output (with_contact_response c key p.one.message (tag_of v) code [] named [] s.effects.output) s) (with_output (with_contact_response d key p.other.message (tag_of w) code [] named [] r.effects.output) r)
   answered-rows c d key p code named v w s r same asked e a =
-      desk-rows (with_contact_response c key p.one.message (tag_of v) code [] named [] s.effects.output) (with_contact_response d key p.other.message (tag_of w) code [] named [] r.effects.output) s r
+      output-rows (with_contact_response c key p.one.message (tag_of v) code [] named [] s.effects.output) (with_contact_response d key p.other.message (tag_of w) code [] named [] r.effects.output) s r
       (subst (λ (x : List ℕ). EquivalentOutputs T (with_contact_response c key p.one.message (tag_of v) code [] named [] s.effects.output) (with_contact_response x key p.other.message (tag_of w) code [] named [] r.effects.output)) same
       (subst (λ (x : List ℕ). EquivalentOutputs T (with_contact_response c key p.one.message (tag_of v) code [] named [] s.effects.output) (with_contact_response c key p.other.message x code [] named [] r.effects.output)) (tags known v w e)
       (answered-like heads config keys c key p (tag_of v) code named [] s.effects.output r.effects.output asked a.effects.output))) a

@@ -30,7 +30,7 @@ use Rattle.mmtel_focus.specs.Texts.{own_status}
 use Rattle.mmtel_focus.specs.declared.faults.RoomFault.{RoomFault}
 use Rattle.mmtel_participants.specs.declared.effects.Effects.{Effects}
 use Rattle.mmtel_participants.specs.declared.participants.ParticipantState.{ParticipantState}
-use Rattle.mmtel_focus_theorems.specs.Inputs as heard
+use Rattle.mmtel_focus_theorems.specs.Inputs as inputs
 use Rattle.mmtel_focus_theorems.specs.Inputs.{AdoptionPair, AreEquivalent, AreEquivalentLegs, AreEquivalentOps, AreReceived, AreRequests, IsResponseTo, JoinRequestPair, AreEquivalentJoins, OpPair, IsResponseBy, IsResponseIn, IsOfParticipant, RoleMessage, MessagePair, SignalPair, join_request_of, one_op, one_signal, other_op, other_signal}
 use Rattle.mmtel_focus_theorems.specs.PublicParts.{EquivalentEffects, public_conference, public_participant, public_table, trust_of, trusts}
 use Rattle.mmtel_focus_theorems.proofs.EquivalentParticipants.{asked_public, seateds, seats-set}
@@ -60,13 +60,13 @@ module _ (heads : Heads) (config : ConferenceConfigView) (keys : TKey → Bool) 
   abbrev AreRooms : (one other : List Conference) → Type 0
   AreRooms = λ one other. map (public_conference known) one ≡ map (public_conference known) other
 
-  abbrev AreLoose : (one other : List AbandonedInvite) → Type 0
-  AreLoose = λ one other. map (public_abandoned known) one ≡ map (public_abandoned known) other
+  abbrev AreAbandonedEquivalent : (one other : List AbandonedInvite) → Type 0
+  AreAbandonedEquivalent = λ one other. map (public_abandoned known) one ≡ map (public_abandoned known) other
 
   unchanged_step-equivalent : (us vs : List Conference) (e f : Effects) → AreRooms us vs → EquivalentEffects T e f → EquivalentConferenceSteps T (unchanged_step us e) (unchanged_step vs f)
   unchanged_step-equivalent us vs e f a b = record { live = a; effects = b }
 
-  with_abandoned-equivalent : (ls ms : List AbandonedInvite) (s r : ConferenceStep) → AreLoose ls ms → EquivalentConferenceSteps T s r → EquivalentTableSteps T (with_abandoned ls s) (with_abandoned ms r)
+  with_abandoned-equivalent : (ls ms : List AbandonedInvite) (s r : ConferenceStep) → AreAbandonedEquivalent ls ms → EquivalentConferenceSteps T s r → EquivalentTableSteps T (with_abandoned ls s) (with_abandoned ms r)
   with_abandoned-equivalent ls ms s r a b = record { live = b.live; abandoned = a; effects = b.effects }
 
   -- ---- a step of a conference at a place
@@ -120,65 +120,65 @@ module _ (heads : Heads) (config : ConferenceConfigView) (keys : TKey → Bool) 
   conference_has_branch_public : (branch : List ℕ) (room : Conference) → conference_has_branch branch (public_conference known room) ≡ conference_has_branch branch room
   conference_has_branch_public branch room = same_any (public_participant known) (participant_has_branch branch) (asked_public known branch) room.participants
 
-  abbrev HearAlike : (now : ℕ) (x y : ParticipantSignal) (whose : ParticipantState → Bool) (u v : Conference) → Type 0
-  HearAlike = λ now x y whose u v. (place : ℕ) (i j : ParticipantState) (s r : StepResult) → position whose u.participants ≡ Some place → slice_get u.participants place ≡ Some i → position whose v.participants ≡ Some place → slice_get v.participants place ≡ Some j →
+  abbrev ReceiveEquivalent : (now : ℕ) (x y : ParticipantSignal) (whose : ParticipantState → Bool) (u v : Conference) → Type 0
+  ReceiveEquivalent = λ now x y whose u v. (place : ℕ) (i j : ParticipantState) (s r : StepResult) → position whose u.participants ≡ Some place → slice_get u.participants place ≡ Some i → position whose v.participants ≡ Some place → slice_get v.participants place ≡ Some j →
       public_participant known i ≡ public_participant known j → EquivalentStepResults T s r → EquivalentStepResults T (step_of_participant config now x place i s) (step_of_participant config now y place j r)
 
-  step_of_first-equivalent : (now : ℕ) (x y : ParticipantSignal) (whose : ParticipantState → Bool) (u v : Conference) (e k : Effects) → ((seat : ParticipantState) → whose (public_participant known seat) ≡ whose seat) → HearAlike now x y whose u v → Keeps (step_of_first config now whose x) (step_of_first config now whose y) u v e k
-  step_of_first-equivalent now x y whose u v e k same hear a =
+  step_of_first-equivalent : (now : ℕ) (x y : ParticipantSignal) (whose : ParticipantState → Bool) (u v : Conference) (e k : Effects) → ((seat : ParticipantState) → whose (public_participant known seat) ≡ whose seat) → ReceiveEquivalent now x y whose u v → Keeps (step_of_first config now whose x) (step_of_first config now whose y) u v e k
+  step_of_first-equivalent now x y whose u v e k same receive a =
       at-place heads config keys (step_of_participant config now x) (step_of_participant config now y) (position whose u.participants) (position whose v.participants) (record { conference = u; effects = e }) (record { conference = v; effects = k })
       (same_place (public_participant known) whose same u.participants v.participants (ap (λ (z : Conference). z.participants) a.conference))
-      (λ place i j f g h l q. hear place i j (record { conference = u; effects = e }) (record { conference = v; effects = k }) f h g l q a) a
+      (λ place i j f g h l q. receive place i j (record { conference = u; effects = e }) (record { conference = v; effects = k }) f h g l q a) a
 
-  step_by_number-equivalent : (now room seat : ℕ) (x y : ParticipantSignal) (us vs : List Conference) (e k : Effects) → ((u v : Conference) → HearAlike now x y (has_seat_number seat) u v) → AreRooms us vs → EquivalentEffects T e k → EquivalentConferenceSteps T (step_by_number config now room seat x us e) (step_by_number config now room seat y vs k)
-  step_by_number-equivalent now room seat x y us vs e k hear a b =
+  step_by_number-equivalent : (now room seat : ℕ) (x y : ParticipantSignal) (us vs : List Conference) (e k : Effects) → ((u v : Conference) → ReceiveEquivalent now x y (has_seat_number seat) u v) → AreRooms us vs → EquivalentEffects T e k → EquivalentConferenceSteps T (step_by_number config now room seat x us e) (step_by_number config now room seat y vs k)
+  step_by_number-equivalent now room seat x y us vs e k receive a b =
       stepped-equivalent (step_of_first config now (has_seat_number seat) x) (step_of_first config now (has_seat_number seat) y) (place_of room us) (place_of room vs) us vs e k (room_place room us vs a)
-      (λ place u v f g h i. step_of_first-equivalent now x y (has_seat_number seat) u v e k (λ z. refl) (hear u v)) a b
+      (λ place u v f g h i. step_of_first-equivalent now x y (has_seat_number seat) u v e k (λ z. refl) (receive u v)) a b
 
   step_by_branch-equivalent : (now : ℕ) (branch : List ℕ) (x y : ParticipantSignal) (us vs : List Conference) (e k : Effects) →
-      ((at : ℕ) (u v : Conference) → position (conference_has_branch branch) us ≡ Some at → slice_get us at ≡ Some u → position (conference_has_branch branch) vs ≡ Some at → slice_get vs at ≡ Some v → HearAlike now x y (participant_has_branch branch) u v) →
+      ((at : ℕ) (u v : Conference) → position (conference_has_branch branch) us ≡ Some at → slice_get us at ≡ Some u → position (conference_has_branch branch) vs ≡ Some at → slice_get vs at ≡ Some v → ReceiveEquivalent now x y (participant_has_branch branch) u v) →
       AreRooms us vs → EquivalentEffects T e k → EquivalentConferenceSteps T (step_by_branch config now branch x us e) (step_by_branch config now branch y vs k)
-  step_by_branch-equivalent now branch x y us vs e k hear a b =
+  step_by_branch-equivalent now branch x y us vs e k receive a b =
       stepped-equivalent (step_of_first config now (participant_has_branch branch) x) (step_of_first config now (participant_has_branch branch) y) (position (conference_has_branch branch) us) (position (conference_has_branch branch) vs) us vs e k (same_place (public_conference known) (conference_has_branch branch) (conference_has_branch_public branch) us vs a)
-      (λ at u v f g h i. step_of_first-equivalent now x y (participant_has_branch branch) u v e k (asked_public known branch) (hear at u v f h g i)) a b
+      (λ at u v f g h i. step_of_first-equivalent now x y (participant_has_branch branch) u v e k (asked_public known branch) (receive at u v f h g i)) a b
 
   -- ---- what each participant receives
 
-  request-hears : (now : ℕ) (key : TKey) (p : MessagePair) (whose : ParticipantState → Bool) (u v : Conference) → AreRequests T key p → HearAlike now (of_seat.Request key p.one.message) (of_seat.Request key p.other.message) whose u v
+  request-receives : (now : ℕ) (key : TKey) (p : MessagePair) (whose : ParticipantState → Bool) (u v : Conference) → AreRequests T key p → ReceiveEquivalent now (of_seat.Request key p.one.message) (of_seat.Request key p.other.message) whose u v
   unfolding step_of_participant
-  request-hears now key p whose u v asked place i j s r f g h k e a = request-rows heads config keys now key p asked place i j s r e a
+  request-receives now key p whose u v asked place i j s r f g h k e a = request-rows heads config keys now key p asked place i j s r e a
 
-  ack-hears : (now : ℕ) (p : MessagePair) (whose : ParticipantState → Bool) (u v : Conference) → AreEquivalent p → HearAlike now (of_seat.Ack p.one.message) (of_seat.Ack p.other.message) whose u v
+  ack-receives : (now : ℕ) (p : MessagePair) (whose : ParticipantState → Bool) (u v : Conference) → AreEquivalent p → ReceiveEquivalent now (of_seat.Ack p.one.message) (of_seat.Ack p.other.message) whose u v
   unfolding step_of_participant
-  ack-hears now p whose u v said place i j s r f g h k e a = ack-rows heads config keys p said place i j s r e a
+  ack-receives now p whose u v said place i j s r f g h k e a = ack-rows heads config keys p said place i j s r e a
 
-  due-hears : (now : ℕ) (what : RoomWord) (whose : ParticipantState → Bool) (u v : Conference) → HearAlike now (of_seat.Due what) (of_seat.Due what) whose u v
+  due-receives : (now : ℕ) (what : RoomWord) (whose : ParticipantState → Bool) (u v : Conference) → ReceiveEquivalent now (of_seat.Due what) (of_seat.Due what) whose u v
   unfolding step_of_participant
-  due-hears now what whose u v place i j s r f g h k e a = due-rows heads config keys now what place i j s r e a
+  due-receives now what whose u v place i j s r f g h k e a = due-rows heads config keys now what place i j s r e a
 
-  silent-hears : (now : ℕ) (whose : ParticipantState → Bool) (u v : Conference) → HearAlike now of_seat.Silent of_seat.Silent whose u v
+  silent-receives : (now : ℕ) (whose : ParticipantState → Bool) (u v : Conference) → ReceiveEquivalent now of_seat.Silent of_seat.Silent whose u v
   unfolding step_of_participant
-  silent-hears now whose u v place i j s r f g h k e a = silence-rows heads config keys now place i j s r e a
+  silent-receives now whose u v place i j s r f g h k e a = silence-rows heads config keys now place i j s r e a
 
-  answer-hears : (now : ℕ) (key : TKey) (p : MessagePair) (whose : ParticipantState → Bool) (u v : Conference) → AreEquivalent p →
+  answer-receives : (now : ℕ) (key : TKey) (p : MessagePair) (whose : ParticipantState → Bool) (u v : Conference) → AreEquivalent p →
       ((place : ℕ) (i : ParticipantState) → position whose u.participants ≡ Some place → slice_get u.participants place ≡ Some i → IsOfParticipant T key p.one i) → ((place : ℕ) (i : ParticipantState) → position whose v.participants ≡ Some place → slice_get v.participants place ≡ Some i → IsOfParticipant T key p.other i) →
-      HearAlike now (of_seat.Answer key p.one.message) (of_seat.Answer key p.other.message) whose u v
+      ReceiveEquivalent now (of_seat.Answer key p.one.message) (of_seat.Answer key p.other.message) whose u v
   unfolding step_of_participant
-  answer-hears now key p whose u v said one other place i j s r f g h k e a = answer-rows heads config keys now key p said place i j s r (one place i f g) (other place j h k) e a
+  answer-receives now key p whose u v said one other place i j s r f g h k e a = answer-rows heads config keys now key p said place i j s r (one place i f g) (other place j h k) e a
 
   -- ---- abandoned INVITEs
 
-  loose_place : (branch : List ℕ) (ls ms : List AbandonedInvite) → AreLoose ls ms → position (is_of_branch branch) ls ≡ position (is_of_branch branch) ms
-  loose_place branch ls ms a = same_place (public_abandoned known) (is_of_branch branch) (λ l. refl) ls ms a
+  abandoned_place : (branch : List ℕ) (ls ms : List AbandonedInvite) → AreAbandonedEquivalent ls ms → position (is_of_branch branch) ls ≡ position (is_of_branch branch) ms
+  abandoned_place branch ls ms a = same_place (public_abandoned known) (is_of_branch branch) (λ l. refl) ls ms a
 
-  without-loose : (o p : Option ℕ) (ls ms : List AbandonedInvite) → o ≡ p → AreLoose ls ms → AreLoose (without o ls) (without p ms)
-  without-loose o p ls ms e a = subst (λ (q : Option ℕ). AreLoose (without o ls) (without q ms)) e (by o)
+  without-abandoned : (o p : Option ℕ) (ls ms : List AbandonedInvite) → o ≡ p → AreAbandonedEquivalent ls ms → AreAbandonedEquivalent (without o ls) (without p ms)
+  without-abandoned o p ls ms e a = subst (λ (q : Option ℕ). AreAbandonedEquivalent (without o ls) (without q ms)) e (by o)
     where
-      by : (q : Option ℕ) → AreLoose (without q ls) (without q ms)
+      by : (q : Option ℕ) → AreAbandonedEquivalent (without q ls) (without q ms)
       by None = a
       by (Some place) = sym (rest_of (public_abandoned known) place ls) ∙ (ap (λ (l : List AbandonedInvite). without_at place l) a ∙ rest_of (public_abandoned known) place ms)
 
-  listed : (o p : Option AbandonedInvite) → option_map (public_abandoned known) o ≡ option_map (public_abandoned known) p → AreLoose (option_to_list o) (option_to_list p)
+  listed : (o p : Option AbandonedInvite) → option_map (public_abandoned known) o ≡ option_map (public_abandoned known) p → AreAbandonedEquivalent (option_to_list o) (option_to_list p)
   listed None None e = refl
   listed None (Some m) e = absurd cc
   listed (Some l) None e = absurd cc
@@ -187,51 +187,51 @@ module _ (heads : Heads) (config : ConferenceConfigView) (keys : TKey → Bool) 
       ap (λ (z : AbandonedInvite). z ∷ []) same
 
   module _ (now : ℕ) (key : TKey) (p : MessagePair) (said : AreEquivalent p) where
-    loose-alike : (place : ℕ) (o q : Option AbandonedInvite) (us vs : List Conference) (ls ms : List AbandonedInvite) (e k : Effects) → option_map (public_abandoned known) o ≡ option_map (public_abandoned known) q →
+    abandoned-alike : (place : ℕ) (o q : Option AbandonedInvite) (us vs : List Conference) (ls ms : List AbandonedInvite) (e k : Effects) → option_map (public_abandoned known) o ≡ option_map (public_abandoned known) q →
         ((l : AbandonedInvite) → o ≡ Some l → IsResponseOf T key l.invite.dialogue.peer p.one.role p.one.message) → ((l : AbandonedInvite) → q ≡ Some l → IsResponseOf T key l.invite.dialogue.peer p.other.role p.other.message) →
-        AreRooms us vs → AreLoose ls ms → EquivalentEffects T e k → EquivalentTableSteps T (step_of_abandoned_response config.sip key p.one.message place o us ls e) (step_of_abandoned_response config.sip key p.other.message place q vs ms k)
-    loose-alike place None None us vs ls ms e k same f g a b c = record { live = a; abandoned = b; effects = c }
-    loose-alike place None (Some m) us vs ls ms e k same f g a b c = absurd cc
-    loose-alike place (Some l) None us vs ls ms e k same f g a b c = absurd cc
-    loose-alike place (Some l) (Some m) us vs ls ms e k same f g a b c =
+        AreRooms us vs → AreAbandonedEquivalent ls ms → EquivalentEffects T e k → EquivalentTableSteps T (step_of_abandoned_response config.sip key p.one.message place o us ls e) (step_of_abandoned_response config.sip key p.other.message place q vs ms k)
+    abandoned-alike place None None us vs ls ms e k same f g a b c = record { live = a; abandoned = b; effects = c }
+    abandoned-alike place None (Some m) us vs ls ms e k same f g a b c = absurd cc
+    abandoned-alike place (Some l) None us vs ls ms e k same f g a b c = absurd cc
+    abandoned-alike place (Some l) (Some m) us vs ls ms e k same f g a b c =
         let here : public_abandoned known l ≡ public_abandoned known m = cc in
         let rests : RestsEquivalent T (on_response config.sip key p.one.message.parsed l e.output) (on_response config.sip key p.other.message.parsed m k.output) = left-like heads config keys key p l m e.output k.output (f l refl) (g m refl) said here c.output in
         record {
           live = a;
           abandoned = same_append (public_abandoned known) (without_at place ls) (without_at place ms) (option_to_list (on_response config.sip key p.one.message.parsed l e.output).remaining) (option_to_list (on_response config.sip key p.other.message.parsed m k.output).remaining)
-              (without-loose (Some place) (Some place) ls ms refl b) (listed (on_response config.sip key p.one.message.parsed l e.output).remaining (on_response config.sip key p.other.message.parsed m k.output).remaining rests.remaining);
+              (without-abandoned (Some place) (Some place) ls ms refl b) (listed (on_response config.sip key p.one.message.parsed l e.output).remaining (on_response config.sip key p.other.message.parsed m k.output).remaining rests.remaining);
           effects = record { closes = c.closes; abandoned = c.abandoned; output = rests.output };
         }
 
     answered_at-alike : (branch : List ℕ) (x y : Table) (o : Option ℕ) (e k : Effects) → position (is_of_branch branch) x.abandoned ≡ o → position (is_of_branch branch) y.abandoned ≡ o → IsResponseIn T key p.one branch x → IsResponseIn T key p.other branch y →
-        AreRooms x.live y.live → AreLoose x.abandoned y.abandoned → EquivalentEffects T e k → EquivalentTableSteps T (step_of_response_at config now key p.one.message branch o x.live x.abandoned e) (step_of_response_at config now key p.other.message branch o y.live y.abandoned k)
+        AreRooms x.live y.live → AreAbandonedEquivalent x.abandoned y.abandoned → EquivalentEffects T e k → EquivalentTableSteps T (step_of_response_at config now key p.one.message branch o x.live x.abandoned e) (step_of_response_at config now key p.other.message branch o y.live y.abandoned k)
     answered_at-alike branch x y None e k i j f g a b c =
         with_abandoned-equivalent x.abandoned y.abandoned (step_by_branch config now branch (of_seat.Answer key p.one.message) x.live e) (step_by_branch config now branch (of_seat.Answer key p.other.message) y.live k) b
         (step_by_branch-equivalent now branch (of_seat.Answer key p.one.message) (of_seat.Answer key p.other.message) x.live y.live e k
-        (λ at u v l m n q. answer-hears now key p (participant_has_branch branch) u v said (λ place seat h z. f.seat at place u seat l m h z) (λ place seat h z. g.seat at place v seat n q h z)) a c)
+        (λ at u v l m n q. answer-receives now key p (participant_has_branch branch) u v said (λ place seat h z. f.seat at place u seat l m h z) (λ place seat h z. g.seat at place v seat n q h z)) a c)
     answered_at-alike branch x y (Some place) e k i j f g a b c =
-        loose-alike place (slice_get x.abandoned place) (slice_get y.abandoned place) x.live y.live x.abandoned y.abandoned e k (same_get (public_abandoned known) x.abandoned y.abandoned b place) (λ l is. f.abandoned place l i is) (λ l is. g.abandoned place l j is) a b c
+        abandoned-alike place (slice_get x.abandoned place) (slice_get y.abandoned place) x.live y.live x.abandoned y.abandoned e k (same_get (public_abandoned known) x.abandoned y.abandoned b place) (λ l is. f.abandoned place l i is) (λ l is. g.abandoned place l j is) a b c
 
-    answered_by-alike : (o : Option (List ℕ)) (x y : Table) (e k : Effects) → IsResponseBy T key p.one o x → IsResponseBy T key p.other o y → AreRooms x.live y.live → AreLoose x.abandoned y.abandoned → EquivalentEffects T e k →
+    answered_by-alike : (o : Option (List ℕ)) (x y : Table) (e k : Effects) → IsResponseBy T key p.one o x → IsResponseBy T key p.other o y → AreRooms x.live y.live → AreAbandonedEquivalent x.abandoned y.abandoned → EquivalentEffects T e k →
         EquivalentTableSteps T (step_of_response config now key p.one.message o x.live x.abandoned e) (step_of_response config now key p.other.message o y.live y.abandoned k)
     answered_by-alike None x y e k f g a b c = record { live = a; abandoned = b; effects = c }
     answered_by-alike (Some branch) x y e k f g a b c =
-        let same : position (is_of_branch branch) x.abandoned ≡ position (is_of_branch branch) y.abandoned = loose_place branch x.abandoned y.abandoned b in
+        let same : position (is_of_branch branch) x.abandoned ≡ position (is_of_branch branch) y.abandoned = abandoned_place branch x.abandoned y.abandoned b in
         subst (λ (o : Option ℕ). EquivalentTableSteps T (step_of_response_at config now key p.one.message branch (position (is_of_branch branch) x.abandoned) x.live x.abandoned e) (step_of_response_at config now key p.other.message branch o y.live y.abandoned k)) same
         (answered_at-alike branch x y (position (is_of_branch branch) x.abandoned) e k refl (sym same) f g a b c)
 
-  step_of_timeout_at-equivalent : (now : ℕ) (branch : List ℕ) (o : Option ℕ) (x y : Table) (e k : Effects) → AreRooms x.live y.live → AreLoose x.abandoned y.abandoned → EquivalentEffects T e k →
+  step_of_timeout_at-equivalent : (now : ℕ) (branch : List ℕ) (o : Option ℕ) (x y : Table) (e k : Effects) → AreRooms x.live y.live → AreAbandonedEquivalent x.abandoned y.abandoned → EquivalentEffects T e k →
       EquivalentTableSteps T (step_of_timeout_at config now branch o x.live x.abandoned e) (step_of_timeout_at config now branch o y.live y.abandoned k)
   step_of_timeout_at-equivalent now branch None x y e k a b c =
       with_abandoned-equivalent x.abandoned y.abandoned (step_by_branch config now branch of_seat.Silent x.live e) (step_by_branch config now branch of_seat.Silent y.live k) b
-      (step_by_branch-equivalent now branch of_seat.Silent of_seat.Silent x.live y.live e k (λ at u v l m n q. silent-hears now (participant_has_branch branch) u v) a c)
-  step_of_timeout_at-equivalent now branch (Some place) x y e k a b c = record { live = a; abandoned = without-loose (Some place) (Some place) x.abandoned y.abandoned refl b; effects = c }
+      (step_by_branch-equivalent now branch of_seat.Silent of_seat.Silent x.live y.live e k (λ at u v l m n q. silent-receives now (participant_has_branch branch) u v) a c)
+  step_of_timeout_at-equivalent now branch (Some place) x y e k a b c = record { live = a; abandoned = without-abandoned (Some place) (Some place) x.abandoned y.abandoned refl b; effects = c }
 
-  step_of_timeout-equivalent : (now : ℕ) (o : Option (List ℕ)) (x y : Table) (e k : Effects) → AreRooms x.live y.live → AreLoose x.abandoned y.abandoned → EquivalentEffects T e k →
+  step_of_timeout-equivalent : (now : ℕ) (o : Option (List ℕ)) (x y : Table) (e k : Effects) → AreRooms x.live y.live → AreAbandonedEquivalent x.abandoned y.abandoned → EquivalentEffects T e k →
       EquivalentTableSteps T (step_of_timeout config now o x.live x.abandoned e) (step_of_timeout config now o y.live y.abandoned k)
   step_of_timeout-equivalent now None x y e k a b c = record { live = a; abandoned = b; effects = c }
   step_of_timeout-equivalent now (Some branch) x y e k a b c =
-      subst (λ (o : Option ℕ). EquivalentTableSteps T (step_of_timeout_at config now branch (position (is_of_branch branch) x.abandoned) x.live x.abandoned e) (step_of_timeout_at config now branch o y.live y.abandoned k)) (loose_place branch x.abandoned y.abandoned b)
+      subst (λ (o : Option ℕ). EquivalentTableSteps T (step_of_timeout_at config now branch (position (is_of_branch branch) x.abandoned) x.live x.abandoned e) (step_of_timeout_at config now branch o y.live y.abandoned k)) (abandoned_place branch x.abandoned y.abandoned b)
       (step_of_timeout_at-equivalent now branch (position (is_of_branch branch) x.abandoned) x y e k a b c)
 
   -- ---- any signal
@@ -240,25 +240,25 @@ module _ (heads : Heads) (config : ConferenceConfigView) (keys : TKey → Bool) 
   unfolding awaited_request_branch
   branch_same p said = ap (λ (m : MessageView). if is_awaited_response m.parsed.cseq then branch_in m.parsed.vias else None) said
 
-  step_of_signal-equivalent : (now : ℕ) (z : SignalPair) (x y : Table) (e k : Effects) → AreReceived T z x y → AreRooms x.live y.live → AreLoose x.abandoned y.abandoned → EquivalentEffects T e k →
+  step_of_signal-equivalent : (now : ℕ) (z : SignalPair) (x y : Table) (e k : Effects) → AreReceived T z x y → AreRooms x.live y.live → AreAbandonedEquivalent x.abandoned y.abandoned → EquivalentEffects T e k →
       EquivalentTableSteps T (step_of_signal config now (one_signal z) x.live x.abandoned e) (step_of_signal config now (other_signal z) y.live y.abandoned k)
   unfolding step_of_signal
-  step_of_signal-equivalent now (heard.Request room seat key said) x y e k h a b c =
+  step_of_signal-equivalent now (inputs.Request room seat key said) x y e k h a b c =
       with_abandoned-equivalent x.abandoned y.abandoned (step_by_number config now room.0 seat (of_seat.Request key said.one.message) x.live e) (step_by_number config now room.0 seat (of_seat.Request key said.other.message) y.live k) b
-      (step_by_number-equivalent now room.0 seat (of_seat.Request key said.one.message) (of_seat.Request key said.other.message) x.live y.live e k (λ u v. request-hears now key said (has_seat_number seat) u v h) a c)
-  step_of_signal-equivalent now (heard.Ack room seat said) x y e k h a b c =
+      (step_by_number-equivalent now room.0 seat (of_seat.Request key said.one.message) (of_seat.Request key said.other.message) x.live y.live e k (λ u v. request-receives now key said (has_seat_number seat) u v h) a c)
+  step_of_signal-equivalent now (inputs.Ack room seat said) x y e k h a b c =
       with_abandoned-equivalent x.abandoned y.abandoned (step_by_number config now room.0 seat (of_seat.Ack said.one.message) x.live e) (step_by_number config now room.0 seat (of_seat.Ack said.other.message) y.live k) b
-      (step_by_number-equivalent now room.0 seat (of_seat.Ack said.one.message) (of_seat.Ack said.other.message) x.live y.live e k (λ u v. ack-hears now said (has_seat_number seat) u v h) a c)
-  step_of_signal-equivalent now (heard.Answer key said) x y e k h a b c =
+      (step_by_number-equivalent now room.0 seat (of_seat.Ack said.one.message) (of_seat.Ack said.other.message) x.live y.live e k (λ u v. ack-receives now said (has_seat_number seat) u v h) a c)
+  step_of_signal-equivalent now (inputs.Answer key said) x y e k h a b c =
       let same : awaited_request_branch said.one.message ≡ awaited_request_branch said.other.message = branch_same said h.0 in
       subst (λ (o : Option (List ℕ)). EquivalentTableSteps T (step_of_response config now key said.one.message (awaited_request_branch said.one.message) x.live x.abandoned e) (step_of_response config now key said.other.message o y.live y.abandoned k)) same
       (answered_by-alike now key said h.0 (awaited_request_branch said.one.message) x y e k h.1 (subst (λ (o : Option (List ℕ)). IsResponseBy T key said.other o y) (sym same) h.2) a b c)
-  step_of_signal-equivalent now (heard.Silent branch method) x y e k h a b c = step_of_timeout-equivalent now (timed_out_branch branch method) x y e k a b c
-  step_of_signal-equivalent now (heard.Due room seat what) x y e k h a b c =
+  step_of_signal-equivalent now (inputs.Silent branch method) x y e k h a b c = step_of_timeout-equivalent now (timed_out_branch branch method) x y e k a b c
+  step_of_signal-equivalent now (inputs.Due room seat what) x y e k h a b c =
       with_abandoned-equivalent x.abandoned y.abandoned (step_by_number config now room.0 seat (of_seat.Due what) x.live e) (step_by_number config now room.0 seat (of_seat.Due what) y.live k) b
-      (step_by_number-equivalent now room.0 seat (of_seat.Due what) (of_seat.Due what) x.live y.live e k (λ u v. due-hears now what (has_seat_number seat) u v) a c)
-  step_of_signal-equivalent now (heard.Over key) x y e k h a b c =
-      record { live = a; abandoned = without-loose (position (is_abandoned_key key) x.abandoned) (position (is_abandoned_key key) y.abandoned) x.abandoned y.abandoned (same_place (public_abandoned known) (is_abandoned_key key) (λ l. refl) x.abandoned y.abandoned b) b; effects = c }
+      (step_by_number-equivalent now room.0 seat (of_seat.Due what) (of_seat.Due what) x.live y.live e k (λ u v. due-receives now what (has_seat_number seat) u v) a c)
+  step_of_signal-equivalent now (inputs.Over key) x y e k h a b c =
+      record { live = a; abandoned = without-abandoned (position (is_abandoned_key key) x.abandoned) (position (is_abandoned_key key) y.abandoned) x.abandoned y.abandoned (same_place (public_abandoned known) (is_abandoned_key key) (λ l. refl) x.abandoned y.abandoned b) b; effects = c }
 
   -- ---- a leg enters a conference
 
@@ -325,8 +325,8 @@ module _ (heads : Heads) (config : ConferenceConfigView) (keys : TKey → Bool) 
   lives : (x y : Table) → Tables x y → AreRooms x.live y.live
   lives x y a = ap (λ (z : Table). z.live) a
 
-  looses : (x y : Table) → Tables x y → AreLoose x.abandoned y.abandoned
-  looses x y a = ap (λ (z : Table). z.abandoned) a
+  abandons : (x y : Table) → Tables x y → AreAbandonedEquivalent x.abandoned y.abandoned
+  abandons x y a = ap (λ (z : Table). z.abandoned) a
 
   no_effects-equivalent : (tokens : TokensView) → EquivalentEffects T (no_effects tokens) (no_effects tokens)
   no_effects-equivalent tokens = record { closes = refl; abandoned = refl; output = record { tokens = refl; rows = refl; out = refl } }
@@ -339,13 +339,13 @@ module _ (heads : Heads) (config : ConferenceConfigView) (keys : TKey → Bool) 
       ∙ ap (λ (l : List Row). record y { live = map (public_conference known) r.live; abandoned = map (public_abandoned known) (r.abandoned ++ r.effects.abandoned); rows = y.rows ++ l }) a.effects.output.rows))
 
   stepped-tables : (s r : ConferenceStep) (x y : Table) → EquivalentConferenceSteps T s r → Tables x y → Tables (with_step (with_abandoned x.abandoned s) x) (with_step (with_abandoned y.abandoned r) y)
-  stepped-tables s r x y a b = moved-equivalent (with_abandoned x.abandoned s) (with_abandoned y.abandoned r) x y (with_abandoned-equivalent x.abandoned y.abandoned s r (looses x y b) a) b
+  stepped-tables s r x y a b = moved-equivalent (with_abandoned x.abandoned s) (with_abandoned y.abandoned r) x y (with_abandoned-equivalent x.abandoned y.abandoned s r (abandons x y b) a) b
 
   -- the effects of an operation, and the table after it
   abbrev pub Done : OpPair → (x y : Table) → Type 0
   Done = λ d x y. EquivalentEffects T (effects_of config (one_op d) x) (effects_of config (other_op d) y) × Tables (table_after_op config (one_op d) x) (table_after_op config (other_op d) y)
 
-  opened-equivalent : (c : JoinRequestPair) (x y : Table) → AreEquivalentJoins T c → Tables x y → Done (heard.Opens c) x y
+  opened-equivalent : (c : JoinRequestPair) (x y : Table) → AreEquivalentJoins T c → Tables x y → Done (inputs.Opens c) x y
   opened-equivalent c x y h a =
       let s : StepResult = record { conference = new_conference (next_room_number x); effects = no_effects c.tokens } in
       let r : StepResult = record { conference = new_conference (next_room_number y); effects = no_effects c.tokens } in
@@ -362,21 +362,21 @@ module _ (heads : Heads) (config : ConferenceConfigView) (keys : TKey → Bool) 
   stepped-done : (s r : ConferenceStep) (x y : Table) → EquivalentConferenceSteps T s r → Tables x y → EquivalentEffects T s.effects r.effects × Tables (with_step (with_abandoned x.abandoned s) x) (with_step (with_abandoned y.abandoned r) y)
   stepped-done s r x y a b = (a.effects, stepped-tables s r x y a b)
 
-  step_of_join-equivalent : (room : ℕ) (c : JoinRequestPair) (x y : Table) → AreEquivalentJoins T c → Tables x y → Done (heard.Joins room c) x y
+  step_of_join-equivalent : (room : ℕ) (c : JoinRequestPair) (x y : Table) → AreEquivalentJoins T c → Tables x y → Done (inputs.Joins room c) x y
   unfolding step_of_join
   step_of_join-equivalent room c x y h a =
       stepped-done (step_of_join config c.at room c.legs.one c.account c.key c.invites.one.message x.live (no_effects c.tokens)) (step_of_join config c.at room c.legs.other c.account c.key c.invites.other.message y.live (no_effects c.tokens)) x y
       (step_if_access-equivalent (after_join config c.at c.legs.one c.account c.key c.invites.one.message) (after_join config c.at c.legs.other c.account c.key c.invites.other.message) (access room x.live) (access room y.live) x.live y.live (no_effects c.tokens) (no_effects c.tokens) (access_same known room x.live y.live (lives x y a))
       (λ u v k. after_join-rows heads config keys c.at c.legs.one c.legs.other c.account c.key c.invites (record { conference = u; effects = no_effects c.tokens }) (record { conference = v; effects = no_effects c.tokens }) h.legs h.invites k) (lives x y a) (no_effects-equivalent c.tokens)) a
 
-  after_adoption-equivalent : (room : ℕ) (d : AdoptionPair) (x y : Table) → AreEquivalentLegs T d.legs → Tables x y → Done (heard.Adopts room d) x y
+  after_adoption-equivalent : (room : ℕ) (d : AdoptionPair) (x y : Table) → AreEquivalentLegs T d.legs → Tables x y → Done (inputs.Adopts room d) x y
   unfolding step_of_adoption
   after_adoption-equivalent room d x y h a =
       stepped-done (step_of_adoption config d.at room d.legs.one d.account d.by x.live (no_effects d.tokens)) (step_of_adoption config d.at room d.legs.other d.account d.by y.live (no_effects d.tokens)) x y
       (step_if_access-equivalent (after_adoption config d.at d.legs.one d.account d.by) (after_adoption config d.at d.legs.other d.account d.by) (access room x.live) (access room y.live) x.live y.live (no_effects d.tokens) (no_effects d.tokens) (access_same known room x.live y.live (lives x y a))
       (λ u v k. after_adoption-rows heads config keys d.at d.legs.one d.legs.other d.account d.by (record { conference = u; effects = no_effects d.tokens }) (record { conference = v; effects = no_effects d.tokens }) h k) (lives x y a) (no_effects-equivalent d.tokens)) a
 
-  step_of_notify-equivalent : (room seat code : ℕ) (tokens : TokensView) (x y : Table) → Tables x y → Done (heard.Notifies room seat code tokens) x y
+  step_of_notify-equivalent : (room seat code : ℕ) (tokens : TokensView) (x y : Table) → Tables x y → Done (inputs.Notifies room seat code tokens) x y
   unfolding step_of_notify
   step_of_notify-equivalent room seat code tokens x y a =
       stepped-done (step_of_notify config room seat code x.live (no_effects tokens)) (step_of_notify config room seat code y.live (no_effects tokens)) x y (at (place_of room x.live) (place_of room y.live) (room_place room x.live y.live (lives x y a))) a
@@ -391,20 +391,20 @@ module _ (heads : Heads) (config : ConferenceConfigView) (keys : TKey → Bool) 
       at : (o p : Option ℕ) → o ≡ p → EquivalentConferenceSteps T (open_result_in (after_notify_to config (is_provisional code) (own_status code) seat) o x.live (no_effects tokens)) (open_result_in (after_notify_to config (is_provisional code) (own_status code) seat) p y.live (no_effects tokens))
       at o p e = subst (λ (q : Option ℕ). EquivalentConferenceSteps T (open_result_in (after_notify_to config (is_provisional code) (own_status code) seat) o x.live (no_effects tokens)) (open_result_in (after_notify_to config (is_provisional code) (own_status code) seat) q y.live (no_effects tokens))) e (by o)
 
-  heard-equivalent : (at : ℕ) (tokens : TokensView) (z : SignalPair) (x y : Table) → AreReceived T z x y → Tables x y → Done (heard.Receives at tokens z) x y
-  heard-equivalent at tokens z x y h a =
-      let moved : EquivalentTableSteps T (step_of_signal config at (one_signal z) x.live x.abandoned (no_effects tokens)) (step_of_signal config at (other_signal z) y.live y.abandoned (no_effects tokens)) = step_of_signal-equivalent at z x y (no_effects tokens) (no_effects tokens) h (lives x y a) (looses x y a) (no_effects-equivalent tokens) in
+  received-equivalent : (at : ℕ) (tokens : TokensView) (z : SignalPair) (x y : Table) → AreReceived T z x y → Tables x y → Done (inputs.Receives at tokens z) x y
+  received-equivalent at tokens z x y h a =
+      let moved : EquivalentTableSteps T (step_of_signal config at (one_signal z) x.live x.abandoned (no_effects tokens)) (step_of_signal config at (other_signal z) y.live y.abandoned (no_effects tokens)) = step_of_signal-equivalent at z x y (no_effects tokens) (no_effects tokens) h (lives x y a) (abandons x y a) (no_effects-equivalent tokens) in
       (moved.effects, moved-equivalent (step_of_signal config at (one_signal z) x.live x.abandoned (no_effects tokens)) (step_of_signal config at (other_signal z) y.live y.abandoned (no_effects tokens)) x y moved a)
 
   with_lives : (us vs : List Conference) (x y : Table) → AreRooms us vs → Tables x y → Tables (record x { live = us }) (record y { live = vs })
   with_lives us vs x y a b = ap (λ (z : Table). record z { live = map (public_conference known) us }) b ∙ ap (λ (l : List Conference). record (public_table known y) { live = l }) a
 
-  pub deed-equivalent : (d : OpPair) (x y : Table) → AreEquivalentOps T d x y → Tables x y → Done d x y
-  deed-equivalent (heard.Opens c) x y h a = opened-equivalent c x y h a
-  deed-equivalent (heard.Joins room c) x y h a = step_of_join-equivalent room c x y h a
-  deed-equivalent (heard.Adopts room d) x y h a = after_adoption-equivalent room d x y h a
-  deed-equivalent (heard.Notifies room seat code tokens) x y h a = step_of_notify-equivalent room seat code tokens x y a
-  deed-equivalent (heard.Receives at tokens z) x y h a = heard-equivalent at tokens z x y h a
-  deed-equivalent (heard.Leaves room seat) x y h a = (no_effects-equivalent no_tokens, with_lives (conferences_after_leave room seat x.live) (conferences_after_leave room seat y.live) x y (left-alike room seat x.live y.live (lives x y a)) a)
-  deed-equivalent (heard.Closes room) x y h a = (no_effects-equivalent no_tokens, with_lives (conferences_after_close room x.live) (conferences_after_close room y.live) x y (closed-alike room x.live y.live (lives x y a)) a)
-  deed-equivalent (heard.Drops count) x y h a = (no_effects-equivalent no_tokens, ap (λ (z : Table). record z { rows = drop count z.rows }) a)
+  pub op-equivalent : (d : OpPair) (x y : Table) → AreEquivalentOps T d x y → Tables x y → Done d x y
+  op-equivalent (inputs.Opens c) x y h a = opened-equivalent c x y h a
+  op-equivalent (inputs.Joins room c) x y h a = step_of_join-equivalent room c x y h a
+  op-equivalent (inputs.Adopts room d) x y h a = after_adoption-equivalent room d x y h a
+  op-equivalent (inputs.Notifies room seat code tokens) x y h a = step_of_notify-equivalent room seat code tokens x y a
+  op-equivalent (inputs.Receives at tokens z) x y h a = received-equivalent at tokens z x y h a
+  op-equivalent (inputs.Leaves room seat) x y h a = (no_effects-equivalent no_tokens, with_lives (conferences_after_leave room seat x.live) (conferences_after_leave room seat y.live) x y (left-alike room seat x.live y.live (lives x y a)) a)
+  op-equivalent (inputs.Closes room) x y h a = (no_effects-equivalent no_tokens, with_lives (conferences_after_close room x.live) (conferences_after_close room y.live) x y (closed-alike room x.live y.live (lives x y a)) a)
+  op-equivalent (inputs.Drops count) x y h a = (no_effects-equivalent no_tokens, ap (λ (z : Table). record z { rows = drop count z.rows }) a)

@@ -56,10 +56,10 @@ use Rattle.mmtel_focus.specs.ConferenceConfig.{ConferenceConfigView}
 use Rattle.mmtel_focus.specs.Texts.{answer_in, contact_and_sdp_lines, contact_value, own_status, sdp_lines, status_line}
 use Rattle.mmtel_focus_theorems.specs.Inputs.{AreEquivalent, AreRequests, IsOfInvite, IsOfParticipant, MessagePair}
 use Rattle.mmtel_focus_theorems.specs.PublicParts.{public_conference, public_invite, public_participant, public_party, trust_of, trusts}
-use Rattle.mmtel_focus_theorems.proofs.EquivalentParticipants.{acknowledged-seats, agreed-invites, as_left, by_invite, by_party, bys, cancelled-invites, dialogs, full_rooms, has_outstanding_number_same, heard-seats, invite_with_provisional-invites, invites, legs, numbers, parties, peers, seateds, seats-set, tags, waitings, with_invites, with_parties, with_pending_ack-seats}
+use Rattle.mmtel_focus_theorems.proofs.EquivalentParticipants.{acknowledged-seats, agreed-invites, as_left, by_invite, by_party, bys, cancelled-invites, dialogs, full_rooms, has_outstanding_number_same, invite_with_provisional-invites, invites, legs, numbers, parties, peers, received-seats, seateds, seats-set, tags, waitings, with_invites, with_parties, with_pending_ack-seats}
 use Rattle.mmtel_focus_theorems.proofs.EquivalentOutputs.{answered-like, asked-like, final-like, same-like, with_ack-like, with_due_cancel-like, with_remote-like}
 use Rattle.mmtel_focus_theorems.proofs.Lists.{commuting, same_append, same_set}
-use Rattle.mmtel_focus_theorems.proofs.EquivalentSteps.{EquivalentStepResults, answered-rows, at-seat, after_close_with-rows, desk-rows, after_dismissal-rows, if-rows, after_leave-rows, with_participant-rows, room-of, seats-in, after_notify_referrer-rows, after_notify_to-rows, tokens_same}
+use Rattle.mmtel_focus_theorems.proofs.EquivalentSteps.{EquivalentStepResults, answered-rows, at-seat, after_close_with-rows, output-rows, after_dismissal-rows, if-rows, after_leave-rows, with_participant-rows, room-of, seats-in, after_notify_referrer-rows, after_notify_to-rows, tokens_same}
 
 module _ (heads : Heads) (config : ConferenceConfigView) (keys : TKey → Bool) where
   abbrev T : Trust
@@ -203,7 +203,7 @@ module _ (heads : Heads) (config : ConferenceConfigView) (keys : TKey → Bool) 
     again-rows : Row (after_reinvite config now key p.one.message) (after_reinvite config now key p.other.message)
     again-rows place v w s r e a =
         let counted : next_number s.conference.last_number ≡ next_number r.conference.last_number = ap (λ (z : Conference). next_number z.last_number) a.conference in
-        desk-rows heads config keys (with_accepted_invite config now s.conference.number v.number (next_number s.conference.last_number) key p.one.message (tag_of v) s.effects.output) (with_accepted_invite config now r.conference.number w.number (next_number r.conference.last_number) key p.other.message (tag_of w) r.effects.output)
+        output-rows heads config keys (with_accepted_invite config now s.conference.number v.number (next_number s.conference.last_number) key p.one.message (tag_of v) s.effects.output) (with_accepted_invite config now r.conference.number w.number (next_number r.conference.last_number) key p.other.message (tag_of w) r.effects.output)
         (with_next_number (with_participant place (with_pending_ack (next_number s.conference.last_number) v) s)) (with_next_number (with_participant place (with_pending_ack (next_number r.conference.last_number) w) r))
         (with_accepted_invite-like now (s.conference.number, v.number, next_number s.conference.last_number, tag_of v) (r.conference.number, w.number, next_number r.conference.last_number, tag_of w) key p s.effects.output r.effects.output
         (ap (λ (z : Conference). (z.number, v.number, next_number z.last_number, tag_of v)) a.conference ∙ (ap (λ (n : ℕ). (r.conference.number, n, next_number r.conference.last_number, tag_of v)) (numbers known v w e) ∙ ap (λ (t : List ℕ). (r.conference.number, w.number, next_number r.conference.last_number, t)) (tags known v w e)))
@@ -241,8 +241,8 @@ module _ (heads : Heads) (config : ConferenceConfigView) (keys : TKey → Bool) 
     abbrev method_same : (name : List ℕ) → is_method name p.one.message.parsed.start ≡ is_method name p.other.message.parsed.start
     method_same name = ap (λ (m : MessageView). is_method name m.parsed.start) asked.equivalent
 
-    heard-rows : Row (on_request_in_order config now key p.one.message) (on_request_in_order config now key p.other.message)
-    heard-rows place v w s r e a =
+    received-rows : Row (on_request_in_order config now key p.one.message) (on_request_in_order config now key p.other.message)
+    received-rows place v w s r e a =
         let m : MessageView = p.one.message in
         let n : MessageView = p.other.message in
         let last : StepResult = after_refusal config key m 481 place v s in
@@ -260,21 +260,21 @@ module _ (heads : Heads) (config : ConferenceConfigView) (keys : TKey → Bool) 
         (if-rows heads config keys (is_method (codes "OPTIONS") m.parsed.start) (is_method (codes "OPTIONS") n.parsed.start) (after_response config key m 200 (allow_lines config.methods) place v s) last (after_response config key n 200 (allow_lines config.methods) place w r) last' (method_same (codes "OPTIONS"))
         (answered_with-rows 200 (allow_lines config.methods) place v w s r e a) (refused-rows 481 place v w s r e a))))
 
-    unheard-rows : (fault : DialogueFault) → Row (after_out_of_order config key p.one.message fault) (after_out_of_order config key p.other.message fault)
-    unheard-rows (OldCSeq last) place v w s r e a = refused-rows 500 place v w s r e a
-    unheard-rows Pending place v w s r e a = refused-rows 491 place v w s r e a
-    unheard-rows Unfinished place v w s r e a = answered_with-rows 500 retry_after_lines place v w s r e a
+    refused_request-rows : (fault : DialogueFault) → Row (after_out_of_order config key p.one.message fault) (after_out_of_order config key p.other.message fault)
+    refused_request-rows (OldCSeq last) place v w s r e a = refused-rows 500 place v w s r e a
+    refused_request-rows Pending place v w s r e a = refused-rows 491 place v w s r e a
+    refused_request-rows Unfinished place v w s r e a = answered_with-rows 500 retry_after_lines place v w s r e a
 
-    hearing-rows : (x : Result (Unit {0}) DialogueFault) → Row (on_checked_request config now key p.one.message x) (on_checked_request config now key p.other.message x)
-    hearing-rows (Err fault) place v w s r e a = unheard-rows fault place v w s r e a
-    hearing-rows (Ok received) place v w s r e a =
+    receiving-rows : (x : Result (Unit {0}) DialogueFault) → Row (on_checked_request config now key p.one.message x) (on_checked_request config now key p.other.message x)
+    receiving-rows (Err fault) place v w s r e a = refused_request-rows fault place v w s r e a
+    receiving-rows (Ok received) place v w s r e a =
         at-seat heads config keys (on_request_in_order config now key p.one.message) (on_request_in_order config now key p.other.message) place (with_participant place (participant_after_request p.one.message v) s) (with_participant place (participant_after_request p.other.message w) r)
-        (λ x y h k same. heard-rows place x y (with_participant place (participant_after_request p.one.message v) s) (with_participant place (participant_after_request p.other.message w) r) same put_alike) put_alike
+        (λ x y h k same. received-rows place x y (with_participant place (participant_after_request p.one.message v) s) (with_participant place (participant_after_request p.other.message w) r) same put_alike) put_alike
       where
         put_alike : EquivalentStepResults T (with_participant place (participant_after_request p.one.message v) s) (with_participant place (participant_after_request p.other.message w) r)
         put_alike =
             with_participant-rows heads config keys place (participant_after_request p.one.message v) (participant_after_request p.other.message w) s r
-            (heard-seats known p.one.message v w e ∙ ap (λ (m : MessageView). public_participant known (participant_after_request m w)) asked.equivalent) a
+            (received-seats known p.one.message v w e ∙ ap (λ (m : MessageView). public_participant known (participant_after_request m w)) asked.equivalent) a
 
     busy_same : (v w : ParticipantState) → public_participant known v ≡ public_participant known w → invite_in_flight v ≡ invite_in_flight w
     busy_same v w e =
@@ -291,7 +291,7 @@ module _ (heads : Heads) (config : ConferenceConfigView) (keys : TKey → Bool) 
         if-rows heads config keys (is_connected v) (is_connected w) (on_checked_request config now key p.one.message (request_check (leg_of v.party) p.one.message (invite_in_flight v)) place v s) (after_refusal config key p.one.message 481 place v s)
         (on_checked_request config now key p.other.message (request_check (leg_of w.party) p.other.message (invite_in_flight w)) place w r) (after_refusal config key p.other.message 481 place w r) (seateds known v w e)
         (subst (λ x. EquivalentStepResults T (on_checked_request config now key p.one.message (request_check (leg_of v.party) p.one.message (invite_in_flight v)) place v s) (on_checked_request config now key p.other.message x place w r)) (says_same v w e)
-        (hearing-rows (request_check (leg_of v.party) p.one.message (invite_in_flight v)) place v w s r e a))
+        (receiving-rows (request_check (leg_of v.party) p.one.message (invite_in_flight v)) place v w s r e a))
         (refused-rows 481 place v w s r e a)
 
   -- ---- ACK
@@ -336,7 +336,7 @@ module _ (heads : Heads) (config : ConferenceConfigView) (keys : TKey → Bool) 
       let y : StepResult = with_output (with_invite_cancel config.sip w.invite r.effects.output) r in
       let put_alike : EquivalentStepResults T (with_participant place (record v { invite = invite_after_due_cancel v.invite }) x) (with_participant place (record w { invite = invite_after_due_cancel w.invite }) y) =
       asking-rows (invite_after_due_cancel v.invite) (invite_after_due_cancel w.invite) place v w x y e (cancelled-invites known (known (dialogue_of v).peer) (known (dialogue_of w).peer) v.invite w.invite (invites known v w e))
-      (desk-rows heads config keys (with_invite_cancel config.sip v.invite s.effects.output) (with_invite_cancel config.sip w.invite r.effects.output) s r (cancelled-by (known (dialogue_of v).peer) (known (dialogue_of w).peer) v.invite w.invite s.effects.output r.effects.output (invites known v w e) a.effects.output) a) in
+      (output-rows heads config keys (with_invite_cancel config.sip v.invite s.effects.output) (with_invite_cancel config.sip w.invite r.effects.output) s r (cancelled-by (known (dialogue_of v).peer) (known (dialogue_of w).peer) v.invite w.invite s.effects.output r.effects.output (invites known v w e) a.effects.output) a) in
       at-seat heads config keys (after_end config now (own_status 408)) (after_end config now (own_status 408)) place (with_participant place (record v { invite = invite_after_due_cancel v.invite }) x) (with_participant place (record w { invite = invite_after_due_cancel w.invite }) y)
       (λ i j h k same. without-rows now (own_status 408) place i j (with_participant place (record v { invite = invite_after_due_cancel v.invite }) x) (with_participant place (record w { invite = invite_after_due_cancel w.invite }) y) same put_alike) put_alike
 
@@ -405,7 +405,7 @@ module _ (heads : Heads) (config : ConferenceConfigView) (keys : TKey → Bool) 
         let b : List ℕ = token s.effects.output in
         let o : Option Invite = accepted_invite (to_tag_of p.one.message) (ack_text config.sip (dialogue_of v) b) v.invite in
         let q : Option Invite = accepted_invite (to_tag_of p.other.message) (ack_text config.sip (dialogue_of w) (token r.effects.output)) w.invite in
-        desk-rows heads config keys (with_ack config.sip (dialogue_of v) s.effects.output) (with_ack config.sip (dialogue_of w) r.effects.output) (with_participant place (record v { invite = o }) s) (with_participant place (record w { invite = q }) r)
+        output-rows heads config keys (with_ack config.sip (dialogue_of v) s.effects.output) (with_ack config.sip (dialogue_of w) r.effects.output) (with_participant place (record v { invite = o }) s) (with_participant place (record w { invite = q }) r)
         (with_ack-like heads config keys (dialogue_of v) (dialogue_of w) s.effects.output r.effects.output (dialogs known v w e) a.effects.output)
         (asking-rows o q place v w s r e
         (agreed-invites known config.sip (dialogue_of v) (dialogue_of w) (to_tag_of p.one.message) b v.invite w.invite (dialogs known v w e) (invites known v w e)
@@ -436,7 +436,7 @@ module _ (heads : Heads) (config : ConferenceConfigView) (keys : TKey → Bool) 
         let y : StepResult = with_output (with_failure_ack config.sip key p.other.message w.invite r.effects.output) r in
         subst (λ (l : List ℕ). EquivalentStepResults T (after_invite_end config now (line_of p.one.message) place v x) (after_invite_end config now l place w y)) (ap line_of said)
         (unasked-rows now (line_of p.one.message) place v w x y e
-        (desk-rows heads config keys (with_failure_ack config.sip key p.one.message v.invite s.effects.output) (with_failure_ack config.sip key p.other.message w.invite r.effects.output) s r
+        (output-rows heads config keys (with_failure_ack config.sip key p.one.message v.invite s.effects.output) (with_failure_ack config.sip key p.other.message w.invite r.effects.output) s r
         (final-by (known (dialogue_of v).peer) (known (dialogue_of w).peer) v.invite w.invite s.effects.output r.effects.output f.invite g.invite (invites known v w e) a.effects.output) a))
 
     -- ---- a retransmitted 2xx
@@ -448,7 +448,7 @@ module _ (heads : Heads) (config : ConferenceConfigView) (keys : TKey → Bool) 
     repeat-rows u i t k place v w s r tag ack e a =
         if-rows heads config keys (is_success (status_of p.one.message.parsed.start) && bytes_eq (to_tag_of p.one.message) u) (is_success (status_of p.other.message.parsed.start) && bytes_eq (to_tag_of p.other.message) i) (after_ack_retransmission t v s) s (after_ack_retransmission k w r) r
         (ap (λ (m : MessageView). is_success (status_of m.parsed.start) && bytes_eq (to_tag_of m) u) said ∙ ap (λ (z : List ℕ). is_success (status_of p.other.message.parsed.start) && bytes_eq (to_tag_of p.other.message) z) tag)
-        (desk-rows heads config keys (with_emit (emit.Plain (dialogue_of v).peer t) s.effects.output) (with_emit (emit.Plain (dialogue_of w).peer k) r.effects.output) s r
+        (output-rows heads config keys (with_emit (emit.Plain (dialogue_of v).peer t) s.effects.output) (with_emit (emit.Plain (dialogue_of w).peer k) r.effects.output) s r
         (again-like (dialogue_of v).peer (dialogue_of w).peer t k s.effects.output r.effects.output (peers known v w e) ack a.effects.output) a) a
 
     -- ---- any response

@@ -132,8 +132,8 @@ module _ (config : ConferenceConfigView) (accounts : List AccountIdentity) where
   bye-same : (now : ℕ) (key : TKey) (m : MessageView) (place : ℕ) (v : ParticipantState) (s : StepResult) → on_bye config now key m place v s ≡ on_bye far now key m place v s
   bye-same now key m place v s = after_close_with-same now v.number (after_leave now false place v (after_refusal config key m 200 place v s))
 
-  heard-same : (now : ℕ) (key : TKey) (m : MessageView) (place : ℕ) (v : ParticipantState) (s : StepResult) → RefersEqually config far m → on_request_in_order config now key m place v s ≡ on_request_in_order far now key m place v s
-  heard-same now key m place v s e =
+  received-same : (now : ℕ) (key : TKey) (m : MessageView) (place : ℕ) (v : ParticipantState) (s : StepResult) → RefersEqually config far m → on_request_in_order config now key m place v s ≡ on_request_in_order far now key m place v s
+  received-same now key m place v s e =
       let last : StepResult = after_refusal config key m 481 place v s in
       let options : StepResult = if is_method (codes "OPTIONS") m.parsed.start then after_response config key m 200 (allow_lines config.methods) place v s else last in
       let refer : ConferenceConfigView → StepResult = λ z. on_referral z now key m (referral_in m.parsed.refer_to) place v s in
@@ -145,19 +145,19 @@ module _ (config : ConferenceConfigView) (accounts : List AccountIdentity) where
       (λ is. bye-same now key m place v s)
       (if-same (is_method (codes "REFER") m.parsed.start) (refer config) options (refer far) options (λ is. referral-same now key m (referral_in m.parsed.refer_to) place v s (λ u to. e u is to)) refl))
 
-  hearing-same : (now : ℕ) (key : TKey) (m : MessageView) (x : Result (Unit {0}) DialogueFault) (place : ℕ) (v : ParticipantState) (s : StepResult) → RefersEqually config far m →
+  receiving-same : (now : ℕ) (key : TKey) (m : MessageView) (x : Result (Unit {0}) DialogueFault) (place : ℕ) (v : ParticipantState) (s : StepResult) → RefersEqually config far m →
       on_checked_request config now key m x place v s ≡ on_checked_request far now key m x place v s
-  hearing-same now key m (Err (OldCSeq last)) place v s e = refl
-  hearing-same now key m (Err Pending) place v s e = refl
-  hearing-same now key m (Err Unfinished) place v s e = refl
-  hearing-same now key m (Ok received) place v s e =
-      at-same (on_request_in_order config now key m) (on_request_in_order far now key m) (λ at w r. heard-same now key m at w r e) (Some place) (with_participant place (participant_after_request m v) s)
+  receiving-same now key m (Err (OldCSeq last)) place v s e = refl
+  receiving-same now key m (Err Pending) place v s e = refl
+  receiving-same now key m (Err Unfinished) place v s e = refl
+  receiving-same now key m (Ok received) place v s e =
+      at-same (on_request_in_order config now key m) (on_request_in_order far now key m) (λ at w r. received-same now key m at w r e) (Some place) (with_participant place (participant_after_request m v) s)
 
   request-same : (now : ℕ) (key : TKey) (m : MessageView) (place : ℕ) (v : ParticipantState) (s : StepResult) → RefersEqually config far m → on_request config now key m place v s ≡ on_request far now key m place v s
   unfolding on_request
   request-same now key m place v s e =
       if-same (is_connected v) (on_checked_request config now key m (request_check (leg_of v.party) m (invite_in_flight v)) place v s) (after_refusal config key m 481 place v s)
-      (on_checked_request far now key m (request_check (leg_of v.party) m (invite_in_flight v)) place v s) (after_refusal far key m 481 place v s) (λ is. hearing-same now key m (request_check (leg_of v.party) m (invite_in_flight v)) place v s e) refl
+      (on_checked_request far now key m (request_check (leg_of v.party) m (invite_in_flight v)) place v s) (after_refusal far key m 481 place v s) (λ is. receiving-same now key m (request_check (leg_of v.party) m (invite_in_flight v)) place v s e) refl
 
   -- ---- the results of the INVITE to a participant
 
@@ -338,20 +338,20 @@ signal-whole one other (signal.Silent branch method) a = tt
 signal-whole one other (signal.Due room seat what) a = tt
 signal-whole one other (signal.Over key) a = tt
 
-deed-whole : (one other : ConferenceConfigView) (op : TableOp) → OpLooksUpEqually one other op → OpLooksUpEqually one (record one { accounts = other.accounts }) op
-deed-whole one other (histories.Opens coming) a = tt
-deed-whole one other (histories.Joins room coming) a = tt
-deed-whole one other (histories.Adopts room adoption) a = tt
-deed-whole one other (histories.Notifies room seat code tokens) a = tt
-deed-whole one other (histories.Receives received) a = signal-whole one other received.signal a
-deed-whole one other (histories.Leaves room seat) a = tt
-deed-whole one other (histories.Closes room) a = tt
-deed-whole one other (histories.Drops count) a = tt
+op-whole : (one other : ConferenceConfigView) (op : TableOp) → OpLooksUpEqually one other op → OpLooksUpEqually one (record one { accounts = other.accounts }) op
+op-whole one other (histories.Opens coming) a = tt
+op-whole one other (histories.Joins room coming) a = tt
+op-whole one other (histories.Adopts room adoption) a = tt
+op-whole one other (histories.Notifies room seat code tokens) a = tt
+op-whole one other (histories.Receives received) a = signal-whole one other received.signal a
+op-whole one other (histories.Leaves room seat) a = tt
+op-whole one other (histories.Closes room) a = tt
+op-whole one other (histories.Drops count) a = tt
 
-pub deeds_see_look_ups_alone : OperationsSeeLookupsAlone
-deeds_see_look_ups_alone = record {
-  effects = λ one other op table equal looks. subst (λ (z : ConferenceConfigView). effects_of one op table ≡ effects_of z op table) (whole one other equal) (effects-same one other.accounts op table (deed-whole one other op looks));
-  tables = λ one other op table equal looks. subst (λ (z : ConferenceConfigView). table_after_op one op table ≡ table_after_op z op table) (whole one other equal) (table_after_op-same one other.accounts op table (deed-whole one other op looks));
+pub ops_see_look_ups_alone : OperationsSeeLookupsAlone
+ops_see_look_ups_alone = record {
+  effects = λ one other op table equal looks. subst (λ (z : ConferenceConfigView). effects_of one op table ≡ effects_of z op table) (whole one other equal) (effects-same one other.accounts op table (op-whole one other op looks));
+  tables = λ one other op table equal looks. subst (λ (z : ConferenceConfigView). table_after_op one op table ≡ table_after_op z op table) (whole one other equal) (table_after_op-same one other.accounts op table (op-whole one other op looks));
 }
 
 -- ---- one configuration
@@ -364,18 +364,18 @@ signal-looks config (signal.Silent branch method) = tt
 signal-looks config (signal.Due room seat what) = tt
 signal-looks config (signal.Over key) = tt
 
-deed-looks : (config : ConferenceConfigView) (op : TableOp) → OpLooksUpEqually config config op
-deed-looks config (histories.Opens coming) = tt
-deed-looks config (histories.Joins room coming) = tt
-deed-looks config (histories.Adopts room adoption) = tt
-deed-looks config (histories.Notifies room seat code tokens) = tt
-deed-looks config (histories.Receives received) = signal-looks config received.signal
-deed-looks config (histories.Leaves room seat) = tt
-deed-looks config (histories.Closes room) = tt
-deed-looks config (histories.Drops count) = tt
+op-looks : (config : ConferenceConfigView) (op : TableOp) → OpLooksUpEqually config config op
+op-looks config (histories.Opens coming) = tt
+op-looks config (histories.Joins room coming) = tt
+op-looks config (histories.Adopts room adoption) = tt
+op-looks config (histories.Notifies room seat code tokens) = tt
+op-looks config (histories.Receives received) = signal-looks config received.signal
+op-looks config (histories.Leaves room seat) = tt
+op-looks config (histories.Closes room) = tt
+op-looks config (histories.Drops count) = tt
 
 pub one_is_equivalent : OneIsEquivalent
 one_is_equivalent = record {
   equal = λ config. record { sip = refl; mixer = refl; methods = refl; peers = refl };
-  lookups = λ config op. deed-looks config op;
+  lookups = λ config op. op-looks config op;
 }

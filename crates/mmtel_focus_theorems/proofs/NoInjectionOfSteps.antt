@@ -114,9 +114,9 @@ after_notify_no_injection config on line place seat s e is =
 pub after_notify_to_no_injection : (config : ConferenceConfigView) (on : Bool) (line : List ℕ) (number : ℕ) (s : StepResult) → StepHasNoInjection s → StepHasNoInjection (after_notify_to config on line number s)
 after_notify_to_no_injection config on line number s is = at_place_no_injection (after_notify config on line) (after_notify_no_injection config on line) (place_of number s.conference.participants) s is
 
-pub told_by_clean : (config : ConferenceConfigView) (on : Bool) (line : List ℕ) (by : Option ℕ) (s : StepResult) → StepHasNoInjection s → StepHasNoInjection (after_notify_referrer config on line by s)
-told_by_clean config on line None s is = is
-told_by_clean config on line (Some number) s is = after_notify_to_no_injection config on line number s is
+pub notified_by_clean : (config : ConferenceConfigView) (on : Bool) (line : List ℕ) (by : Option ℕ) (s : StepResult) → StepHasNoInjection s → StepHasNoInjection (after_notify_referrer config on line by s)
+notified_by_clean config on line None s is = is
+notified_by_clean config on line (Some number) s is = after_notify_to_no_injection config on line number s is
 
 -- ---- a participant leaves
 

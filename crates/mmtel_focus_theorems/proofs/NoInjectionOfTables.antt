@@ -131,10 +131,10 @@ without_no_injection (Some place) abandoned e = without_at_no_injection place ab
 unchanged_step_no_injection : (live : List Conference) (abandoned : List AbandonedInvite) (effects : Effects) → Each ConferenceHasNoInjection live → Each (AbandonedHasNoInjection []) abandoned → EffectsHaveNoInjection effects → TableStepHasNoInjection (table.with_abandoned abandoned (unchanged_step live effects))
 unchanged_step_no_injection live abandoned effects is e had = record { live_in = is; abandoned_in = e; effects_in = had }
 
-loose_row : (sip : Addr) (key : TKey) (m : MessageView) (place : ℕ) (o : Option AbandonedInvite) (live : List Conference) (abandoned : List AbandonedInvite) (effects : Effects) → ParsedHasNoInjection m.parsed → IfSome o (AbandonedHasNoInjection []) → Each ConferenceHasNoInjection live → Each (AbandonedHasNoInjection []) abandoned → EffectsHaveNoInjection effects →
+abandoned_row : (sip : Addr) (key : TKey) (m : MessageView) (place : ℕ) (o : Option AbandonedInvite) (live : List Conference) (abandoned : List AbandonedInvite) (effects : Effects) → ParsedHasNoInjection m.parsed → IfSome o (AbandonedHasNoInjection []) → Each ConferenceHasNoInjection live → Each (AbandonedHasNoInjection []) abandoned → EffectsHaveNoInjection effects →
     TableStepHasNoInjection (step_of_abandoned_response sip key m place o live abandoned effects)
-loose_row sip key m place None live abandoned effects h f is e had = unchanged_step_no_injection live abandoned effects is e had
-loose_row sip key m place (Some l) live abandoned effects h f is e had =
+abandoned_row sip key m place None live abandoned effects h f is e had = unchanged_step_no_injection live abandoned effects is e had
+abandoned_row sip key m place (Some l) live abandoned effects h f is e had =
     let rest : AfterResponse = on_response sip key m.parsed l effects.output in
     let is_rest = late_response_no_injection [] sip key m.parsed l effects.output (parsed_no_injection m.parsed h) f had.output_in in
     record {
@@ -148,7 +148,7 @@ loose_row sip key m place (Some l) live abandoned effects h f is e had =
 step_of_response_at_no_injection : (config : ConferenceConfigView) (at : ℕ) (key : TKey) (m : MessageView) (branch : List ℕ) (o : Option ℕ) (live : List Conference) (abandoned : List AbandonedInvite) (effects : Effects) → ParsedHasNoInjection m.parsed → Each ConferenceHasNoInjection live → Each (AbandonedHasNoInjection []) abandoned → EffectsHaveNoInjection effects →
     TableStepHasNoInjection (step_of_response_at config at key m branch o live abandoned effects)
 step_of_response_at_no_injection config at key m branch None live abandoned effects h is e had = beside_no_injection abandoned (step_by_branch config at branch (of_seat.Answer key m) live effects) e (step_by_branch_no_injection config at branch (of_seat.Answer key m) live effects h is had)
-step_of_response_at_no_injection config at key m branch (Some place) live abandoned effects h is e had = loose_row config.sip key m place (slice_get abandoned place) live abandoned effects h (each_get (AbandonedHasNoInjection []) abandoned place e) is e had
+step_of_response_at_no_injection config at key m branch (Some place) live abandoned effects h is e had = abandoned_row config.sip key m place (slice_get abandoned place) live abandoned effects h (each_get (AbandonedHasNoInjection []) abandoned place e) is e had
 
 step_of_response_no_injection : (config : ConferenceConfigView) (at : ℕ) (key : TKey) (m : MessageView) (o : Option (List ℕ)) (live : List Conference) (abandoned : List AbandonedInvite) (effects : Effects) → ParsedHasNoInjection m.parsed → Each ConferenceHasNoInjection live → Each (AbandonedHasNoInjection []) abandoned → EffectsHaveNoInjection effects →
     TableStepHasNoInjection (step_of_response config at key m o live abandoned effects)

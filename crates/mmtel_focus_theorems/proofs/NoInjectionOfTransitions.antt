@@ -62,7 +62,7 @@ use Rattle.mmtel_call_theorems.proofs.NoInjection.ReceivedMessages.{ParsedMessag
 use Rattle.mmtel_call_theorems.proofs.NoInjection.CallState.{allowed_no_injection, once_no_injection}
 use Rattle.mmtel_call_theorems.proofs.NoInjection.Reading.{name_text_no_injection}
 use Rattle.mmtel_call_theorems.proofs.NoInjection.Sending.{InvitationHasNoInjection, RemoteHasNoInjection, ack_text_no_injection, acked_no_injection, answered_no_injection, asked_no_injection, cancelled_no_injection, each_append, emit_no_injection, final_acked_no_injection, met_no_injection, phrase_no_injection, remote_no_injection, replied_no_injection, token_no_injection}
-use Rattle.mmtel_focus_theorems.proofs.NoInjectionOfSteps.{ConferenceHasNoInjection, InviteHasNoInjection, IsFreeOfInjection, KeepsNoInjection, ParticipantHasNoInjection, PartyHasNoInjection, StepHasNoInjection, after_close_with_no_injection, after_dismissal_no_injection, after_leave_no_injection, after_notify_to_no_injection, at_participant_no_injection, if_step, told_by_clean, with_leg_no_injection, with_output_no_injection, with_participant_no_injection}
+use Rattle.mmtel_focus_theorems.proofs.NoInjectionOfSteps.{ConferenceHasNoInjection, InviteHasNoInjection, IsFreeOfInjection, KeepsNoInjection, ParticipantHasNoInjection, PartyHasNoInjection, StepHasNoInjection, after_close_with_no_injection, after_dismissal_no_injection, after_leave_no_injection, after_notify_to_no_injection, at_participant_no_injection, if_step, notified_by_clean, with_leg_no_injection, with_output_no_injection, with_participant_no_injection}
 use Rattle.mmtel_focus_theorems.proofs.NoInjectionOfTexts.{ReferralHasNoInjection, contact_no_injection, described_clean, from_no_injection, referral_no_injection, sdp_no_injection, target_no_injection}
 
 -- ---- responses
@@ -204,8 +204,8 @@ referral_row config at key m (referral.Invite u) h f place seat s e is =
 
 -- ---- a request
 
-heard_row : (config : ConferenceConfigView) (at : ℕ) (key : TKey) (m : MessageView) → ReceivedMessageNoInjection m → KeepsNoInjection (on_request_in_order config at key m)
-heard_row config at key m h place seat s e is =
+received_row : (config : ConferenceConfigView) (at : ℕ) (key : TKey) (m : MessageView) → ReceivedMessageNoInjection m → KeepsNoInjection (on_request_in_order config at key m)
+received_row config at key m h place seat s e is =
     if_step (is_method (codes "INVITE") m.parsed.start) (on_invite config at key m place seat s) other (invite_no_injection config at key m h place seat s e is)
     (if_step (is_method (codes "BYE") m.parsed.start) (on_bye config at key m place seat s) third (bye_row config at key m h place seat s e is)
     (if_step (is_method (codes "REFER") m.parsed.start) referred fourth (referral_row config at key m (referral_in m.parsed.refer_to) h (referral_no_injection m.parsed.refer_to) place seat s e is)
@@ -229,17 +229,17 @@ fault_no_injection config key m (OldCSeq last) h place seat s e is = after_refus
 fault_no_injection config key m Pending h place seat s e is = after_refusal_no_injection config key m 491 h place seat s e is
 fault_no_injection config key m Unfinished h place seat s e is = with_lines_no_injection config key m 500 retry_after_lines h refl place seat s e is
 
-hearing_no_injection : (config : ConferenceConfigView) (at : ℕ) (key : TKey) (m : MessageView) (r : Result (Unit {0}) DialogueFault) → ReceivedMessageNoInjection m → KeepsNoInjection (on_checked_request config at key m r)
-hearing_no_injection config at key m (Err fault) h place seat s e is = fault_no_injection config key m fault h place seat s e is
-hearing_no_injection config at key m (Ok received) h place seat s e is =
-    at_participant_no_injection (on_request_in_order config at key m) (heard_row config at key m h) place (with_participant place (participant_after_request m seat) s)
+receiving_no_injection : (config : ConferenceConfigView) (at : ℕ) (key : TKey) (m : MessageView) (r : Result (Unit {0}) DialogueFault) → ReceivedMessageNoInjection m → KeepsNoInjection (on_checked_request config at key m r)
+receiving_no_injection config at key m (Err fault) h place seat s e is = fault_no_injection config key m fault h place seat s e is
+receiving_no_injection config at key m (Ok received) h place seat s e is =
+    at_participant_no_injection (on_request_in_order config at key m) (received_row config at key m h) place (with_participant place (participant_after_request m seat) s)
     (with_participant_no_injection place (participant_after_request m seat) s (record { party_in = with_leg_no_injection seat.party (requests.leg_after_request m (leg_of seat.party)) e.party_in; invite_in = e.invite_in }) is)
 
 pub request_row : (config : ConferenceConfigView) (at : ℕ) (key : TKey) (m : MessageView) → ReceivedMessageNoInjection m → KeepsNoInjection (on_request config at key m)
 unfolding on_request
 request_row config at key m h place seat s e is =
     if_step (is_connected seat) (on_checked_request config at key m (requests.request_check (leg_of seat.party) m (invite_in_flight seat)) place seat s) (after_refusal config key m 481 place seat s)
-    (hearing_no_injection config at key m (requests.request_check (leg_of seat.party) m (invite_in_flight seat)) h place seat s e is) (after_refusal_no_injection config key m 481 h place seat s e is)
+    (receiving_no_injection config at key m (requests.request_check (leg_of seat.party) m (invite_in_flight seat)) h place seat s e is) (after_refusal_no_injection config key m 481 h place seat s e is)
 
 pub ack_row : (m : MessageView) → KeepsNoInjection (on_ack m)
 unfolding on_ack
@@ -278,12 +278,12 @@ success_no_injection config at m h place seat s e is =
     let remote : Remote = remote_of Callee m.parsed.lines in
     let other : ParticipantState = connected_participant s.conference.number at remote seat in
     let next : StepResult = with_participant place other s in
-    told_by_clean config false (own_status 200) seat.by (at_participant (after_own_ack config (to_tag_of m)) place next)
+    notified_by_clean config false (own_status 200) seat.by (at_participant (after_own_ack config (to_tag_of m)) place next)
     (at_participant_no_injection (after_own_ack config (to_tag_of m)) (after_own_ack_no_injection config (to_tag_of m)) place next
     (with_participant_no_injection place other s (record { party_in = connected_party_no_injection s.conference.number at seat.account remote seat.party (remote_no_injection Callee m.parsed.lines h.lines_in) e.party_in; invite_in = e.invite_in }) is))
 
 without_no_injection : (config : ConferenceConfigView) (at : ℕ) (line : List ℕ) → KeepsNoInjection (after_end config at line)
-without_no_injection config at line place seat s e is = told_by_clean config false line seat.by (after_dismissal config at place seat s) (after_dismissal_no_injection config at place seat s e is)
+without_no_injection config at line place seat s e is = notified_by_clean config false line seat.by (after_dismissal config at place seat s) (after_dismissal_no_injection config at place seat s e is)
 
 then_without : (config : ConferenceConfigView) (at : ℕ) (line : List ℕ) (place : ℕ) (seat : ParticipantState) (invite : Option Invite) (s : StepResult) → ParticipantHasNoInjection seat → IfSome invite InviteHasNoInjection → StepHasNoInjection s → StepHasNoInjection (at_participant (after_end config at line) place (with_participant place (record seat { invite = invite }) s))
 then_without config at line place seat invite s e f is =

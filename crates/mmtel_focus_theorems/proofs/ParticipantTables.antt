@@ -112,16 +112,16 @@ module _ (P : ChargedParticipant → Type 0) (at : ℕ) where
   -- ---- signals
 
   -- a signal that any participant may receive
-  heard_by_due : (config : ConferenceConfigView) (whose : ParticipantState → Bool) (received : ParticipantSignal) → Keeps P at (step_of_participant config at received) → (s : StepResult) → Holds P at s → Holds P at (table.step_of_first config at whose received s)
-  heard_by_due config whose received k s h = at_place_holds P at (step_of_participant config at received) k (position whose s.conference.participants) s h
+  received_by_due : (config : ConferenceConfigView) (whose : ParticipantState → Bool) (received : ParticipantSignal) → Keeps P at (step_of_participant config at received) → (s : StepResult) → Holds P at s → Holds P at (table.step_of_first config at whose received s)
+  received_by_due config whose received k s h = at_place_holds P at (step_of_participant config at received) k (position whose s.conference.participants) s h
 
   step_by_branch_due : (config : ConferenceConfigView) (branch : List ℕ) (received : ParticipantSignal) (live : List Conference) (effects : Effects) → Keeps P at (step_of_participant config at received) → Stands live effects → Goes (step_by_branch config at branch received live effects)
   step_by_branch_due config branch received live effects k h =
-      step_result_in_due (table.step_of_first config at (participant_has_branch branch) received) (position (conference_has_branch branch) live) live effects (λ place e room f held. heard_by_due config (participant_has_branch branch) received k (begin room effects) held) h
+      step_result_in_due (table.step_of_first config at (participant_has_branch branch) received) (position (conference_has_branch branch) live) live effects (λ place e room f held. received_by_due config (participant_has_branch branch) received k (begin room effects) held) h
 
   step_by_number_due : (config : ConferenceConfigView) (room seat : ℕ) (received : ParticipantSignal) (live : List Conference) (effects : Effects) → Keeps P at (step_of_participant config at received) → Stands live effects → Goes (step_by_number config at room seat received live effects)
   step_by_number_due config room seat received live effects k h =
-      step_result_in_due (table.step_of_first config at (has_seat_number seat) received) (place_of room live) live effects (λ place e room f held. heard_by_due config (has_seat_number seat) received k (begin room effects) held) h
+      step_result_in_due (table.step_of_first config at (has_seat_number seat) received) (place_of room live) live effects (λ place e room f held. received_by_due config (has_seat_number seat) received k (begin room effects) held) h
 
   -- a request, by which a party may be invited
   requested_due : (config : ConferenceConfigView) (room : RoomNo) (seat : ℕ) (key : TKey) (m : MessageView) (live : List Conference) (effects : Effects) →
@@ -145,10 +145,10 @@ module _ (P : ChargedParticipant → Type 0) (at : ℕ) where
   unfolding step_of_participant
   silent_due config metered place seat s e h = silence_holds P at metered config place seat s e h
 
-  loose_due : (config : ConferenceConfigView) (key : TKey) (m : MessageView) (place : ℕ) (o : Option AbandonedInvite) (live : List Conference) (abandoned : List AbandonedInvite) (effects : Effects) → Stands live effects →
+  abandoned_due : (config : ConferenceConfigView) (key : TKey) (m : MessageView) (place : ℕ) (o : Option AbandonedInvite) (live : List Conference) (abandoned : List AbandonedInvite) (effects : Effects) → Stands live effects →
       Stands (step_of_abandoned_response config.sip key m place o live abandoned effects).live (step_of_abandoned_response config.sip key m place o live abandoned effects).effects
-  loose_due config key m place None live abandoned effects h = h
-  loose_due config key m place (Some l) live abandoned effects h = (h.0, subst (Each (IsRowOf P at)) (sym (response_rows config.sip key m.parsed l effects.output)) h.1)
+  abandoned_due config key m place None live abandoned effects h = h
+  abandoned_due config key m place (Some l) live abandoned effects h = (h.0, subst (Each (IsRowOf P at)) (sym (response_rows config.sip key m.parsed l effects.output)) h.1)
 
   abbrev GoesOn : TableStep → Type 0
   GoesOn moved = Stands moved.live moved.effects
@@ -156,7 +156,7 @@ module _ (P : ChargedParticipant → Type 0) (at : ℕ) where
   module _ (config : ConferenceConfigView) (metered : (place : ChargedParticipant) → P place → IsMetered place) (live : List Conference) (abandoned : List AbandonedInvite) (effects : Effects) (h : Stands live effects) where
     answered_at_due : (key : TKey) (m : MessageView) (branch : List ℕ) → IsAgreedNow P at m → (o : Option ℕ) → GoesOn (step_of_response_at config at key m branch o live abandoned effects)
     answered_at_due key m branch answers None = step_by_branch_due config branch (of_seat.Answer key m) live effects (answer_due config key m metered answers) h
-    answered_at_due key m branch answers (Some place) = loose_due config key m place (slice_get abandoned place) live abandoned effects h
+    answered_at_due key m branch answers (Some place) = abandoned_due config key m place (slice_get abandoned place) live abandoned effects h
 
     answered_by_due : (key : TKey) (m : MessageView) → IsAgreedNow P at m → (o : Option (List ℕ)) → GoesOn (step_of_response config at key m o live abandoned effects)
     answered_by_due key m answers None = h

@@ -298,8 +298,8 @@ module _ (P : ChargedParticipant → Type 0) (at : ℕ) where
     abbrev pub IsReferred : MessageView → Type 0
     IsReferred m = (uri : Uri) → is_method (codes "REFER") m.parsed.start ≡ true → referral_in m.parsed.refer_to ≡ referral.Invite (Some uri) → IsInvitedNext uri
 
-    heard_holds : (key : TKey) (m : MessageView) → IsReferred m → (place : ℕ) (seat : ParticipantState) (s : StepResult) → slice_get s.conference.participants place ≡ Some seat → IsOf number taken s → Holds s → Holds (on_request_in_order config at key m place seat s)
-    heard_holds key m gives place seat s e is h =
+    received_holds : (key : TKey) (m : MessageView) → IsReferred m → (place : ℕ) (seat : ParticipantState) (s : StepResult) → slice_get s.conference.participants place ≡ Some seat → IsOf number taken s → Holds s → Holds (on_request_in_order config at key m place seat s)
+    received_holds key m gives place seat s e is h =
         if_holds (is_method (codes "INVITE") m.parsed.start) _ _ (invite_holds config key m place seat s e h)
         (if_holds (is_method (codes "BYE") m.parsed.start) _ _ (with_bye_holds config key m place seat s e h)
         (by (is_method (codes "REFER") m.parsed.start) refl))
@@ -316,31 +316,31 @@ module _ (P : ChargedParticipant → Type 0) (at : ℕ) where
     fault_holds key m Pending place seat s e h = h
     fault_holds key m Unfinished place seat s e h = h
 
-    heard_place : (m : MessageView) (seat : ParticipantState) (party : Party) →
+    received_place : (m : MessageView) (seat : ParticipantState) (party : Party) →
         charged_participant_of number (record seat { party = with_leg (requests.leg_after_request m (leg_of party)) party }) ≡ charged_participant_of number (record seat { party = party })
-    heard_place m seat (Invited leg) = refl
-    heard_place m seat (DialedIn leg) = refl
-    heard_place m seat (DialedOut leg) = refl
+    received_place m seat (Invited leg) = refl
+    received_place m seat (DialedIn leg) = refl
+    received_place m seat (DialedOut leg) = refl
 
-    hearing_holds : (key : TKey) (m : MessageView) (r : Result (Unit {0}) DialogueFault) → IsReferred m → (place : ℕ) (seat : ParticipantState) (s : StepResult) → slice_get s.conference.participants place ≡ Some seat → IsOf number taken s → Holds s →
+    receiving_holds : (key : TKey) (m : MessageView) (r : Result (Unit {0}) DialogueFault) → IsReferred m → (place : ℕ) (seat : ParticipantState) (s : StepResult) → slice_get s.conference.participants place ≡ Some seat → IsOf number taken s → Holds s →
         Holds (on_checked_request config at key m r place seat s)
-    hearing_holds key m (Err fault) gives place seat s e is h = fault_holds key m fault place seat s e h
-    hearing_holds key m (Ok received) gives place seat s e is h = by (slice_get next.conference.participants place) refl
+    receiving_holds key m (Err fault) gives place seat s e is h = fault_holds key m fault place seat s e h
+    receiving_holds key m (Ok received) gives place seat s e is h = by (slice_get next.conference.participants place) refl
       where
         next : StepResult
         next = with_participant place (requests.participant_after_request m seat) s
 
         held : Holds next
-        held = with_participant_holds place seat (requests.participant_after_request m seat) s e (subst (λ (n : RoomNo). charged_participant_of n (requests.participant_after_request m seat) ≡ charged_participant_of n seat) (sym is.named) (heard_place m seat seat.party)) h
+        held = with_participant_holds place seat (requests.participant_after_request m seat) s e (subst (λ (n : RoomNo). charged_participant_of n (requests.participant_after_request m seat) ≡ charged_participant_of n seat) (sym is.named) (received_place m seat seat.party)) h
 
         by : (o : Option ParticipantState) → slice_get next.conference.participants place ≡ o → Holds (by_participant (on_request_in_order config at key m place) o next)
         by None f = held
-        by (Some other) f = heard_holds key m gives place other next f (record { named = is.named; counts = is.counts }) held
+        by (Some other) f = received_holds key m gives place other next f (record { named = is.named; counts = is.counts }) held
 
     pub request_holds : (key : TKey) (m : MessageView) → IsReferred m → (place : ℕ) (seat : ParticipantState) (s : StepResult) → slice_get s.conference.participants place ≡ Some seat → IsOf number taken s → Holds s → Holds (on_request config at key m place seat s)
     unfolding on_request
     request_holds key m gives place seat s e is h =
-        if_holds (is_connected seat) _ (after_refusal config key m 481 place seat s) (hearing_holds key m (request_check (leg_of seat.party) m (invite_in_flight seat)) gives place seat s e is h) h
+        if_holds (is_connected seat) _ (after_refusal config key m 481 place seat s) (receiving_holds key m (request_check (leg_of seat.party) m (invite_in_flight seat)) gives place seat s e is h) h
 
   pub ack_holds : (m : MessageView) → Keeps (on_ack m)
   unfolding on_ack

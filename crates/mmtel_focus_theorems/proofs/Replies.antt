@@ -85,9 +85,9 @@ module _ (own : ℕ → Bool) where
   emit_in : (e : Emit) (output : StepOutput) → IsRepliedIn own e → Sends output → Sends (with_emit e output)
   emit_in e output is had = each_append (IsRepliedIn own) output.out (e ∷ []) had (is, tt)
 
-  if_desk : (b : Bool) (one two : StepOutput) → Sends one → Sends two → Sends (if b then one else two)
-  if_desk true one two e f = e
-  if_desk false one two e f = f
+  if_output : (b : Bool) (one two : StepOutput) → Sends one → Sends two → Sends (if b then one else two)
+  if_output true one two e f = e
+  if_output false one two e f = f
 
   -- ---- a transition at the place of its participant
 
@@ -218,8 +218,8 @@ module _ (own : ℕ → Bool) where
 
   -- ---- a request
 
-  heard_row : (config : ConferenceConfigView) (at : ℕ) (key : TKey) (m : MessageView) → Own key → Keeps (on_request_in_order config at key m)
-  heard_row config at key m h place seat s is =
+  received_row : (config : ConferenceConfigView) (at : ℕ) (key : TKey) (m : MessageView) → Own key → Keeps (on_request_in_order config at key m)
+  received_row config at key m h place seat s is =
       if_step (is_method (codes "INVITE") m.parsed.start) (on_invite config at key m place seat s) other (invite_in config at key m h place seat s is)
       (if_step (is_method (codes "BYE") m.parsed.start) (on_bye config at key m place seat s) third (with_bye_row config at key m h place seat s is)
       (if_step (is_method (codes "REFER") m.parsed.start) referred_to fourth (referral_row config at key m (referral_in m.parsed.refer_to) h place seat s is)
@@ -243,15 +243,15 @@ module _ (own : ℕ → Bool) where
   fault_in config key m Pending h place seat s is = after_refusal_in config key m 491 h place seat s is
   fault_in config key m Unfinished h place seat s is = with_lines_in config key m 500 retry_after_lines h place seat s is
 
-  hearing_in : (config : ConferenceConfigView) (at : ℕ) (key : TKey) (m : MessageView) (r : Result (Unit {0}) DialogueFault) → Own key → Keeps (on_checked_request config at key m r)
-  hearing_in config at key m (Err fault) h place seat s is = fault_in config key m fault h place seat s is
-  hearing_in config at key m (Ok received) h place seat s is = at_participant_in (on_request_in_order config at key m) (heard_row config at key m h) place (with_participant place (participant_after_request m seat) s) is
+  receiving_in : (config : ConferenceConfigView) (at : ℕ) (key : TKey) (m : MessageView) (r : Result (Unit {0}) DialogueFault) → Own key → Keeps (on_checked_request config at key m r)
+  receiving_in config at key m (Err fault) h place seat s is = fault_in config key m fault h place seat s is
+  receiving_in config at key m (Ok received) h place seat s is = at_participant_in (on_request_in_order config at key m) (received_row config at key m h) place (with_participant place (participant_after_request m seat) s) is
 
   request_row : (config : ConferenceConfigView) (at : ℕ) (key : TKey) (m : MessageView) → Own key → Keeps (on_request config at key m)
   unfolding on_request
   request_row config at key m h place seat s is =
       if_step (is_connected seat) (on_checked_request config at key m (requests.request_check (leg_of seat.party) m (invite_in_flight seat)) place seat s) (after_refusal config key m 481 place seat s)
-      (hearing_in config at key m (requests.request_check (leg_of seat.party) m (invite_in_flight seat)) h place seat s is) (after_refusal_in config key m 481 h place seat s is)
+      (receiving_in config at key m (requests.request_check (leg_of seat.party) m (invite_in_flight seat)) h place seat s is) (after_refusal_in config key m 481 h place seat s is)
 
   ack_row : (m : MessageView) → Keeps (on_ack m)
   unfolding on_ack
@@ -305,12 +305,12 @@ module _ (own : ℕ → Bool) where
   unfolding on_timeout
   silence_row config at place seat s is = if_step (is_invite_outstanding seat.invite) (after_invite_end config at (own_status 408) place seat s) s (then_without config at (own_status 408) place seat None s is) is
 
-  with_due_cancel_desk : (sip : Addr) (i : SentInvite) (output : StepOutput) → Sends output → Sends (with_due_cancel sip i output)
-  with_due_cancel_desk sip i output had = if_desk (is_cancellable i) (with_cancel sip i output) output (emit_in _ output tt had) had
+  with_due_cancel_output : (sip : Addr) (i : SentInvite) (output : StepOutput) → Sends output → Sends (with_due_cancel sip i output)
+  with_due_cancel_output sip i output had = if_output (is_cancellable i) (with_cancel sip i output) output (emit_in _ output tt had) had
 
   with_invite_cancel_own : (sip : Addr) (o : Option Invite) (output : StepOutput) → Sends output → Sends (with_invite_cancel sip o output)
   with_invite_cancel_own sip None output had = had
-  with_invite_cancel_own sip (Some (Outstanding number i)) output had = with_due_cancel_desk sip i output had
+  with_invite_cancel_own sip (Some (Outstanding number i)) output had = with_due_cancel_output sip i output had
   with_invite_cancel_own sip (Some (Accepted branch tag ack)) output had = had
 
   after_ringing_limit_in : (config : ConferenceConfigView) (at : ℕ) → Keeps (after_ringing_limit config at)
@@ -362,14 +362,14 @@ module _ (own : ℕ → Bool) where
   stays_rooms row None live effects k had = had
   stays_rooms row (Some place) live effects k had = stays_room row place (slice_get live place) live effects k had
 
-  heard_by_in : (config : ConferenceConfigView) (at : ℕ) (whose : ParticipantState → Bool) (received : ParticipantSignal) → SeatIsOf received → KeepsRooms (table.step_of_first config at whose received)
-  heard_by_in config at whose received h s is = at_place_in (step_of_participant config at received) (step_of_participant_in config at received h) (position whose s.conference.participants) s is
+  received_by_in : (config : ConferenceConfigView) (at : ℕ) (whose : ParticipantState → Bool) (received : ParticipantSignal) → SeatIsOf received → KeepsRooms (table.step_of_first config at whose received)
+  received_by_in config at whose received h s is = at_place_in (step_of_participant config at received) (step_of_participant_in config at received h) (position whose s.conference.participants) s is
 
   step_by_number_own : (config : ConferenceConfigView) (at : ℕ) (room seat : ℕ) (received : ParticipantSignal) (live : List Conference) (effects : Effects) → SeatIsOf received → Sends effects.output → Sends (step_by_number config at room seat received live effects).effects.output
-  step_by_number_own config at room seat received live effects h had = in_rooms (table.step_of_first config at (has_seat_number seat) received) (place_of room live) live effects (heard_by_in config at (has_seat_number seat) received h) had
+  step_by_number_own config at room seat received live effects h had = in_rooms (table.step_of_first config at (has_seat_number seat) received) (place_of room live) live effects (received_by_in config at (has_seat_number seat) received h) had
 
   step_by_branch_in : (config : ConferenceConfigView) (at : ℕ) (branch : List ℕ) (received : ParticipantSignal) (live : List Conference) (effects : Effects) → SeatIsOf received → Sends effects.output → Sends (step_by_branch config at branch received live effects).effects.output
-  step_by_branch_in config at branch received live effects h had = in_rooms (table.step_of_first config at (participant_has_branch branch) received) (position (conference_has_branch branch) live) live effects (heard_by_in config at (participant_has_branch branch) received h) had
+  step_by_branch_in config at branch received live effects h had = in_rooms (table.step_of_first config at (participant_has_branch branch) received) (position (conference_has_branch branch) live) live effects (received_by_in config at (participant_has_branch branch) received h) had
 
   -- ---- abandoned INVITEs
 
@@ -392,14 +392,14 @@ module _ (own : ℕ → Bool) where
       (if_rest (nat_lt (status_of m.start) 300) (left_ones.on_success sip known (remote_of Callee m.lines) output) (record { remaining = None; output = with_final_ack sip key l.invite m output })
       (success_rest sip known (remote_of Callee m.lines) (ended_dialog known (remote_of Callee m.lines).tag) output had) (emit_in _ output tt had))
 
-  loose_row : (sip : Addr) (key : TKey) (m : MessageView) (place : ℕ) (o : Option AbandonedInvite) (live : List Conference) (abandoned : List AbandonedInvite) (effects : Effects) → Sends effects.output → Sends (step_of_abandoned_response sip key m place o live abandoned effects).effects.output
-  loose_row sip key m place None live abandoned effects had = had
-  loose_row sip key m place (Some l) live abandoned effects had = late_response sip key m.parsed l effects.output had
+  abandoned_row : (sip : Addr) (key : TKey) (m : MessageView) (place : ℕ) (o : Option AbandonedInvite) (live : List Conference) (abandoned : List AbandonedInvite) (effects : Effects) → Sends effects.output → Sends (step_of_abandoned_response sip key m place o live abandoned effects).effects.output
+  abandoned_row sip key m place None live abandoned effects had = had
+  abandoned_row sip key m place (Some l) live abandoned effects had = late_response sip key m.parsed l effects.output had
 
   with_contact_response_in : (config : ConferenceConfigView) (at : ℕ) (key : TKey) (m : MessageView) (branch : List ℕ) (o : Option ℕ) (live : List Conference) (abandoned : List AbandonedInvite) (effects : Effects) → Sends effects.output →
       Sends (table.step_of_response_at config at key m branch o live abandoned effects).effects.output
   with_contact_response_in config at key m branch None live abandoned effects had = step_by_branch_in config at branch (of_seat.Answer key m) live effects tt had
-  with_contact_response_in config at key m branch (Some place) live abandoned effects had = loose_row config.sip key m place (slice_get abandoned place) live abandoned effects had
+  with_contact_response_in config at key m branch (Some place) live abandoned effects had = abandoned_row config.sip key m place (slice_get abandoned place) live abandoned effects had
 
   step_of_response_in : (config : ConferenceConfigView) (at : ℕ) (key : TKey) (m : MessageView) (o : Option (List ℕ)) (live : List Conference) (abandoned : List AbandonedInvite) (effects : Effects) → Sends effects.output →
       Sends (step_of_response config at key m o live abandoned effects).effects.output
@@ -442,15 +442,15 @@ module _ (own : ℕ → Bool) where
   after_notify_of_in config room seat code tokens t =
       stays_rooms (after_notify_to config (is_provisional code) (own_status code) seat) (place_of room t.live) t.live (no_effects tokens) (λ s e. after_notify_to_in config (is_provisional code) (own_status code) seat s e) tt
 
-  deed_in : (config : ConferenceConfigView) (op : TableOp) (t : Table) → OpIsOf own op → Sends (effects_of config op t).output
-  deed_in config (Opens c) t h = after_join_in config c.at c.leg c.account c.key c.invite (record { conference = new_conference (next_room_number t); effects = no_effects c.tokens }) h tt
-  deed_in config (Joins room c) t h = step_of_join_in config room c t h
-  deed_in config (Adopts room a) t h = adoption_in config room a t
-  deed_in config (Notifies room seat code tokens) t h = after_notify_of_in config room seat code tokens t
-  deed_in config (Receives x) t h = signal_in config x.at x.signal t.live t.abandoned (no_effects x.tokens) h tt
-  deed_in config (Leaves room seat) t h = tt
-  deed_in config (Closes room) t h = tt
-  deed_in config (Drops count) t h = tt
+  op_in : (config : ConferenceConfigView) (op : TableOp) (t : Table) → OpIsOf own op → Sends (effects_of config op t).output
+  op_in config (Opens c) t h = after_join_in config c.at c.leg c.account c.key c.invite (record { conference = new_conference (next_room_number t); effects = no_effects c.tokens }) h tt
+  op_in config (Joins room c) t h = step_of_join_in config room c t h
+  op_in config (Adopts room a) t h = adoption_in config room a t
+  op_in config (Notifies room seat code tokens) t h = after_notify_of_in config room seat code tokens t
+  op_in config (Receives x) t h = signal_in config x.at x.signal t.live t.abandoned (no_effects x.tokens) h tt
+  op_in config (Leaves room seat) t h = tt
+  op_in config (Closes room) t h = tt
+  op_in config (Drops count) t h = tt
 
 pub conferences_reply_in_their_own : ConferencesReplyInTheirOwn
-conferences_reply_in_their_own own config op t h = deed_in own config op t h
+conferences_reply_in_their_own own config op t h = op_in own config op t h

@@ -27,18 +27,18 @@ ghost use Rattle.mmtel_leg.specs.declared.dialogues.Dialogue.{Dialogue};
 
 /// Whatever operations a leg undergoes, the CSeq numbers of its requests rise by one from the last one that it had at its beginning, as long as 64 bits suffice for them.
 pub fn numbers_rise_by_one()
-    ensures counted { (leg : Leg) (deeds : List LegOperation) → leg.dialogue.local_cseq + length (requests leg deeds) < 2 ^ 64 → IsCountedFrom leg.dialogue.local_cseq (requests leg deeds) }
-    ensures last { (leg : Leg) (deeds : List LegOperation) → leg.dialogue.local_cseq + length (requests leg deeds) < 2 ^ 64 →
-        (after_operations leg deeds).dialogue.local_cseq ≡ leg.dialogue.local_cseq + length (requests leg deeds) }
+    ensures counted { (leg : Leg) (ops : List LegOperation) → leg.dialogue.local_cseq + length (requests leg ops) < 2 ^ 64 → IsCountedFrom leg.dialogue.local_cseq (requests leg ops) }
+    ensures last { (leg : Leg) (ops : List LegOperation) → leg.dialogue.local_cseq + length (requests leg ops) < 2 ^ 64 →
+        (after_operations leg ops).dialogue.local_cseq ≡ leg.dialogue.local_cseq + length (requests leg ops) }
 {}
 
 /// The ACK that follows an INVITE has that INVITE's number, whatever else was sent, received or swapped in between: of an INVITE that the server made in the dialog, and of the
 /// one with which a callee's dialog began.
 pub fn acks_have_their_invites_number()
-    ensures made { (leg : Leg) (invite ack : RequestPartsView) (deeds : List LegOperation) → list_all is_not_invite deeds ≡ true →
-        HaveOneNumber (request_of leg.dialogue (codes "INVITE") invite) (ack_of (after_operations (after_operation leg (SendsRequest (codes "INVITE") invite)) deeds).dialogue ack) }
-    ensures begun { (peer : Peer) (invite : Message Start) (n : ℕ) (meter : Option MeterView) (ack : RequestPartsView) (deeds : List LegOperation) → number_in invite.lines ≡ Some n →
-        list_all is_not_invite deeds ≡ true → HasNumber n (ack_of (callee_after peer invite meter deeds) ack) }
+    ensures made { (leg : Leg) (invite ack : RequestPartsView) (ops : List LegOperation) → list_all is_not_invite ops ≡ true →
+        HaveOneNumber (request_of leg.dialogue (codes "INVITE") invite) (ack_of (after_operations (after_operation leg (SendsRequest (codes "INVITE") invite)) ops).dialogue ack) }
+    ensures begun { (peer : Peer) (invite : Message Start) (n : ℕ) (meter : Option MeterView) (ack : RequestPartsView) (ops : List LegOperation) → number_in invite.lines ≡ Some n →
+        list_all is_not_invite ops ≡ true → HasNumber n (ack_of (callee_after peer invite meter ops) ack) }
 {}
 
 /// The CSeq of what is built is parsed again as the number and the method, where the number is one of RFC 3261 (below 2^31, §8.1.1.5) and the method a token.
@@ -50,17 +50,17 @@ pub fn numbers_read_back()
 /// The tags by which the other side finds its dialog (RFC 3261 §12): in what is built in a dialog, From is parsed with the server's tag and To with the other side's, whatever
 /// operations there were since the dialog began, and whether it is a request or an ACK.
 pub fn tags_read_back()
-    ensures caller_from { (peer : Peer) (invite : Message Start) (tag : List ℕ) (meter : Option MeterView) (deeds : List LegOperation) (number : ℕ) (method : List ℕ) (given : RequestPartsView)
+    ensures caller_from { (peer : Peer) (invite : Message Start) (tag : List ℕ) (meter : Option MeterView) (ops : List LegOperation) (number : ℕ) (method : List ℕ) (given : RequestPartsView)
         (to : NameAddr) → name_addr_of (field (codes "To") invite.lines) ≡ Some to → IsUntagged to → IsValue tag →
-        tag_in (codes "From") (request_numbered (caller_after peer invite tag meter deeds) number method given).lines ≡ tag }
-    ensures caller_to { (peer : Peer) (invite : Message Start) (tag : List ℕ) (meter : Option MeterView) (deeds : List LegOperation) (number : ℕ) (method : List ℕ) (given : RequestPartsView) →
-        tag_in (codes "To") (request_numbered (caller_after peer invite tag meter deeds) number method given).lines ≡ tag_in (codes "From") invite.lines }
-    ensures callee_from { (peer : Peer) (invite : Message Start) (meter : Option MeterView) (deeds : List LegOperation) (number : ℕ) (method : List ℕ) (given : RequestPartsView) →
-        tag_in (codes "From") (request_numbered (callee_after peer invite meter deeds) number method given).lines ≡ tag_in (codes "From") invite.lines }
-    ensures callee_to { (peer : Peer) (invite : Message Start) (meter : Option MeterView) (deeds : List LegOperation) (number : ℕ) (method : List ℕ) (given : RequestPartsView) (to : NameAddr) →
+        tag_in (codes "From") (request_numbered (caller_after peer invite tag meter ops) number method given).lines ≡ tag }
+    ensures caller_to { (peer : Peer) (invite : Message Start) (tag : List ℕ) (meter : Option MeterView) (ops : List LegOperation) (number : ℕ) (method : List ℕ) (given : RequestPartsView) →
+        tag_in (codes "To") (request_numbered (caller_after peer invite tag meter ops) number method given).lines ≡ tag_in (codes "From") invite.lines }
+    ensures callee_from { (peer : Peer) (invite : Message Start) (meter : Option MeterView) (ops : List LegOperation) (number : ℕ) (method : List ℕ) (given : RequestPartsView) →
+        tag_in (codes "From") (request_numbered (callee_after peer invite meter ops) number method given).lines ≡ tag_in (codes "From") invite.lines }
+    ensures callee_to { (peer : Peer) (invite : Message Start) (meter : Option MeterView) (ops : List LegOperation) (number : ℕ) (method : List ℕ) (given : RequestPartsView) (to : NameAddr) →
         name_addr_of (field (codes "To") invite.lines) ≡ Some to → IsUntagged to →
-        ((callee_after peer invite meter deeds).remote_tag ≡ []) ⊎ IsValue (callee_after peer invite meter deeds).remote_tag →
-        tag_in (codes "To") (request_numbered (callee_after peer invite meter deeds) number method given).lines ≡ (callee_after peer invite meter deeds).remote_tag }
+        ((callee_after peer invite meter ops).remote_tag ≡ []) ⊎ IsValue (callee_after peer invite meter ops).remote_tag →
+        tag_in (codes "To") (request_numbered (callee_after peer invite meter ops) number method given).lines ≡ (callee_after peer invite meter ops).remote_tag }
     ensures tagged { (value : List ℕ) (n : NameAddr) (tag : List ℕ) → name_addr_of value ≡ Some n → IsValue tag →
         name_addr_of (tagged_value value tag) ≡ Some (record n { params = n.params ++ record { name = codes "tag"; value = Some tag } ∷ [] }) }
     ensures values { (name : List ℕ) (m : Message Start) → (tag_in name m.lines ≡ []) ⊎ IsValue (tag_in name m.lines) }
@@ -77,15 +77,15 @@ pub fn five_fields_read_back()
 
 /// A dialog on the other side that has received no higher number than the leg's last one accepts each request of the leg, one after another: none is out of order.
 pub fn requests_are_in_order()
-    ensures received { (leg : Leg) (deeds : List LegOperation) (other : Dialogue) → leg.dialogue.local_cseq < 2 ^ 64 → IsNotBelow other.remote_cseq (Some leg.dialogue.local_cseq) →
-        ReceivesEach other (requests leg deeds) }
+    ensures received { (leg : Leg) (ops : List LegOperation) (other : Dialogue) → leg.dialogue.local_cseq < 2 ^ 64 → IsNotBelow other.remote_cseq (Some leg.dialogue.local_cseq) →
+        ReceivesEach other (requests leg ops) }
 {}
 
 /// A refused request changes nothing of a leg, and the last number that was accepted never falls.
 pub fn refusals_change_nothing()
     ensures refused { (leg : Leg) (request : Message Start) (busy : InFlight) (fault : DialogueFault) → receive_result leg.dialogue request busy ≡ Err fault →
         after_operation leg (ReceivesRequest request busy) ≡ leg }
-    ensures last { (leg : Leg) (deeds : List LegOperation) → IsNotBelow leg.dialogue.remote_cseq (after_operations leg deeds).dialogue.remote_cseq }
+    ensures last { (leg : Leg) (ops : List LegOperation) → IsNotBelow leg.dialogue.remote_cseq (after_operations leg ops).dialogue.remote_cseq }
 {}
 
 /// A request identifies its dialog in its lines: they are found by their names.
@@ -111,11 +111,11 @@ pub fn the_last_response_decides()
 
 /// No request that is received or sent, and no swap of meters, after a leg is confirmed changes its target or its routes.
 pub fn the_route_stays()
-    ensures target { (leg : Leg) (deeds : List LegOperation) → list_all is_of_confirmed deeds ≡ true → (after_operations leg deeds).dialogue.target ≡ leg.dialogue.target }
-    ensures routes { (leg : Leg) (deeds : List LegOperation) → list_all is_of_confirmed deeds ≡ true → (after_operations leg deeds).dialogue.routes ≡ leg.dialogue.routes }
+    ensures target { (leg : Leg) (ops : List LegOperation) → list_all is_of_confirmed ops ≡ true → (after_operations leg ops).dialogue.target ≡ leg.dialogue.target }
+    ensures routes { (leg : Leg) (ops : List LegOperation) → list_all is_of_confirmed ops ≡ true → (after_operations leg ops).dialogue.routes ≡ leg.dialogue.routes }
 {}
 
 /// Every meter that a leg was given, when it was made or later, is handed back by a swap or when the leg ends, in that order.
 pub fn meters_come_back()
-    ensures all { (leg : Leg) (deeds : List LegOperation) → meters_handed_back leg deeds ++ (after_operations leg deeds).meter ∷ [] ≡ leg.meter ∷ meters_put_in deeds }
+    ensures all { (leg : Leg) (ops : List LegOperation) → meters_handed_back leg ops ++ (after_operations leg ops).meter ∷ [] ≡ leg.meter ∷ meters_put_in ops }
 {}

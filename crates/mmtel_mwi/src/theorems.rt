@@ -10,13 +10,13 @@ ghost use Rattle.mmtel_mwi.specs.declared.subscriptions.Subscription.{Subscripti
 
 /// A theorem, without code: the counts of a mailbox are those that were uploaded last for it, whatever else was done and whatever was uploaded for others.
 pub fn the_last_upload_counts()
-    ensures counts { (deeds : List TableOp) (account : Account) → counts_in account (table_after deeds) ≡ last_counts deeds account }
+    ensures counts { (ops : List TableOp) (account : Account) → counts_in account (table_after ops) ≡ last_counts ops account }
 {}
 
 /// A theorem, without code: the body of a NOTIFY is the summary of what was uploaded last for the mailbox to which its subscriber subscribed.
 pub fn notifies_have_the_last_counts()
-    ensures body { (sip : Addr) (deeds : List TableOp) (last : Bool) (branch : List ℕ) (now : ℕ) (s : Subscription) →
-        (notify_request_of sip last branch now (table_after deeds) s).body ≡ summary (last_counts deeds s.account) }
+    ensures body { (sip : Addr) (ops : List TableOp) (last : Bool) (branch : List ℕ) (now : ℕ) (s : Subscription) →
+        (notify_request_of sip last branch now (table_after ops) s).body ≡ summary (last_counts ops s.account) }
 {}
 
 /// A theorem, without code: a SUBSCRIBE within a dialog makes no further subscription, ends none, and changes nobody's mailbox.
@@ -26,5 +26,5 @@ pub fn a_refresh_makes_no_subscription()
 
 /// A theorem, without code: over every list of operations subscriptions have ascending numbers, none above the number of subscriptions that were made: no number is given twice.
 pub fn numbers_are_given_once()
-    ensures ascending { (deeds : List TableOp) → AreNumberedTo (table_after deeds).made 0 (table_after deeds).live }
+    ensures ascending { (ops : List TableOp) → AreNumberedTo (table_after ops).made 0 (table_after ops).live }
 {}

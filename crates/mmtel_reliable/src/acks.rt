@@ -71,7 +71,7 @@ impl Acks {
     pub fn relay(&mut self, rseq: u32) -> Option<u32>
         ensures number { result ≡ own_number rseq self.old }
         ensures after { self.new ≡ after_relay rseq self.old }
-        ensures represents { (deeds : List AcksOperation) → Represents self.old deeds → Represents self.new (Relays rseq ∷ deeds) }
+        ensures represents { (ops : List AcksOperation) → Represents self.old ops → Represents self.new (Relays rseq ∷ ops) }
     {
         if !comes_next(rseq, self.last_relayed)
             || self.waiting.len() >= MOST_WAITING
@@ -98,7 +98,7 @@ impl Acks {
     pub fn acked(&mut self, rack: &Rack) -> Option<u32>
         ensures number { result ≡ callee_number rack.now self.old }
         ensures after { self.new ≡ after_ack rack.now self.old }
-        ensures represents { (deeds : List AcksOperation) → Represents self.old deeds → Represents self.new (Acknowledges rack.now ∷ deeds) }
+        ensures represents { (ops : List AcksOperation) → Represents self.old ops → Represents self.new (Acknowledges rack.now ∷ ops) }
     {
         match self.waiting.front() {
             Some(first) if is_acknowledged_by(rack, self.cseq, *first) => {
@@ -113,7 +113,7 @@ impl Acks {
     /// Leaves the attempt: none of its responses waits any longer, and the next callee may begin with any number. Own numbers continue.
     pub fn next_attempt(&mut self)
         ensures after { self.new ≡ next_attempt self.old }
-        ensures represents { (deeds : List AcksOperation) → Represents self.old deeds → Represents self.new (LeavesAttempt ∷ deeds) }
+        ensures represents { (ops : List AcksOperation) → Represents self.old ops → Represents self.new (LeavesAttempt ∷ ops) }
     {
         self.waiting.clear();
         self.last_relayed = None;

@@ -59,18 +59,18 @@ module _ (d : Directory) (full : Bool) (m : ParsedMessage) where
       (pick Offers (is_register m) (registration_disposition d.names.accounts m) _ registers
       (pick Offers (is_subscribe m) Subscribe (Respond (plain_response 481)) (λ e. absurd (false_true e)) (λ e. absurd (false_true e))))))
 
-  dialog : (holder : DialogOwner) → is_for_conference (entry_into holder) ≡ true → Offers
+  dialog : (owner : DialogOwner) → is_for_conference (entry_into owner) ≡ true → Offers
   dialog (InCall call side) e = absurd (false_true e)
   dialog (InConference room seat) e = absurd (false_true e)
   dialog (InSubscription sub) e = absurd (false_true e)
 
-  enters : (holder : DialogOwner) → is_for_conference (in_dialog_disposition holder m) ≡ true → Offers
-  enters holder = pick Offers (is_subscribe m && is_of_no_subscription holder) (Respond (plain_response 481)) (entry_into holder) (λ e. absurd (false_true e)) (dialog holder)
+  enters : (owner : DialogOwner) → is_for_conference (in_dialog_disposition owner m) ≡ true → Offers
+  enters owner = pick Offers (is_subscribe m && is_of_no_subscription owner) (Respond (plain_response 481)) (entry_into owner) (λ e. absurd (false_true e)) (dialog owner)
 
   by_refusal : (named : Option DialogOwner) (o : Option StatusResponse) → is_for_conference (disposition_by d full named m o) ≡ true → Offers
   by_refusal named (Some answer) e = absurd (false_true e)
   by_refusal None None e = by_its_method e
-  by_refusal (Some holder) None e = enters holder e
+  by_refusal (Some owner) None e = enters owner e
 
 pub for_audio : ConferencesAreForAudio
 unfolding disposition

@@ -30,7 +30,7 @@ use Rattle.mmtel_call.specs.Opening.{call_after_opening, caller_of, new_call, un
 use Rattle.mmtel_call.specs.Reliable.{named_rseq, on_named_prack, on_rack, on_refused_prack, own_rseq_for, rack_in, with_reliable_response}
 use Rattle.mmtel_call.specs.Reinvites.{ends_dialog, on_accepted_reinvite, on_cancel_across, on_provisional_across, on_response_across}
 use Rattle.mmtel_call.specs.Requests.{is_bye, is_invite, is_prack, is_update, with_refused_request, with_unlisted_response}
-use Rattle.mmtel_call.specs.Ringing.{attempt_after_request as trial_heard, call_without_attempt, end_before_answer, on_answer, on_caller_cancel, on_cancel, on_due, on_failure, on_valid_request, with_attempt_cancel, with_no_reply_timer, with_no_reply_timer_in}
+use Rattle.mmtel_call.specs.Ringing.{attempt_after_request as attempt_received, call_without_attempt, end_before_answer, on_answer, on_caller_cancel, on_cancel, on_due, on_failure, on_valid_request, with_attempt_cancel, with_no_reply_timer, with_no_reply_timer_in}
 use Rattle.mmtel_call.specs.Ringing.{offered_request_check, on_attempt_timeout, on_numbered_provisional, on_other, on_prack_of, on_provisional, on_provisional_by, on_request_if, on_response, on_timeout}
 use Rattle.mmtel_call.specs.Ringing.{on_trying}
 use Rattle.mmtel_call.specs.Sending.{with_relay_to_caller, with_status_to, with_status_to_caller}
@@ -54,7 +54,7 @@ use Rattle.mmtel_call.specs.declared.signals.Signal.{Signal}
 use Rattle.mmtel_call.specs.declared.signals.Signal.TheVariants as signal
 use Rattle.mmtel_output.specs.Outputs.{after_draw, empty_output, token}
 use Rattle.mmtel_output.specs.SentInvites.{is_cancellable, with_key, with_provisional}
-use Rattle.mmtel_output.specs.AbandonedInvites.{after_due_cancel, after_provisional, is_of_branch, on_response as loose_response, on_success_in, with_invite}
+use Rattle.mmtel_output.specs.AbandonedInvites.{after_due_cancel, after_provisional, is_of_branch, on_response as abandoned_response, on_success_in, with_invite}
 use Rattle.mmtel_output.specs.Sending.{with_cancel, with_due_cancel, with_final_ack}
 use Rattle.mmtel_output.specs.declared.outputs.StepOutput.{StepOutput}
 use Rattle.mmtel_output.specs.declared.sent_invites.SentInvite.{SentInvite}
@@ -146,8 +146,8 @@ in_order-on config c key m d = with_unlisted_response-on (is_method (codes "OPTI
 
 -- ---- the route
 
-told-on : (b : Bool) (d e : StepOutput) → On d e → On d (if b then e else d)
-told-on b d e x = either b d e d x (none d)
+notified-on : (b : Bool) (d e : StepOutput) → On d e → On d (if b then e else d)
+notified-on b d e x = either b d e d x (none d)
 
 abbrev DivertsOn : (left : ℕ) → CallConfigView → SnapshotView → Leg → Type 0
 DivertsOn left config now caller = (service : Option Service) (due : DueDiversionView) (c : Call) (d : StepOutput) → On d (divert left config now caller service due c d).output
@@ -176,7 +176,7 @@ divert-on zero config now caller service due c d =
 divert-on (suc left) config now caller service due c d =
     let target = diversion_target config due in
     let next = call_after_diversion target now.at left service due c in
-    let told : On d (with_notification_of config due next d) = told-on due.forward.notify_caller d _ (none d) in
+    let told : On d (with_notification_of config due next d) = notified-on due.forward.notify_caller d _ (none d) in
     let inner : On (with_notification_of config due next d) (at_target (divert left config now caller) config now caller (Some due.cause) target next (with_notification_of config due next d)).output =
     target-on left config now caller (divert-on left config now caller) (Some due.cause) target next (with_notification_of config due next d) in
     let onward : Call → StepOutput → StepResult = diversion_step (at_target (divert left config now caller) config now caller (Some due.cause) target) config target now.at left service due in
@@ -294,7 +294,7 @@ step_of_receiver-on config at x Caller key m c d =
 step_of_receiver-on config at x Callee key m c d = other_offered-on config x Callee key m c d
 
 request_if-on : (r : Result (Unit {0}) DialogueFault) (config : CallConfigView) (at : ℕ) (x : OfferedAttempt) (side : Side) (key : TKey) (m : MessageView) (c : Call) (d : StepOutput) → On d (on_request_if r config at x side key m c d).output
-request_if-on (Ok received) config at x side key m c d = step_of_receiver-on config at (trial_heard side m x) side key m (record c { phase = Offered (trial_heard side m x) }) d
+request_if-on (Ok received) config at x side key m c d = step_of_receiver-on config at (attempt_received side m x) side key m (record c { phase = Offered (attempt_received side m x) }) d
 request_if-on (Err fault) config at x side key m c d = with_refused_request-on config c key m fault d
 
 -- ---- once it is answered
@@ -340,7 +340,7 @@ cancel_at-on (Reinviting asking q) config x invite c d = either_step (invite.0 =
 
 across-on : (config : CallConfigView) (at : ℕ) (x : EstablishedLegs) (side : Side) (q : Reinvite) (key : TKey) (m : MessageView) (code : ℕ) (c : Call) (d : StepOutput) → On d (on_response_across config at x side q key m code c d).output
 across-on config at x side q key m code c d =
-    either_step (nat_lt code 200) d (on_provisional_across config x side q key c d) _ (told-on q.cancel_due d (with_due_cancel config.sip (with_provisional key q.invite) d) (with_due_cancel-on config.sip (with_provisional key q.invite) d))
+    either_step (nat_lt code 200) d (on_provisional_across config x side q key c d) _ (notified-on q.cancel_due d (with_due_cancel config.sip (with_provisional key q.invite) d) (with_due_cancel-on config.sip (with_provisional key q.invite) d))
     (either_step (nat_lt code 300) d (on_accepted_reinvite config at x side q key m c d) _ (none d)
     (either_step (ends_dialog code) d _ _ (twice d) (none d)))
 
@@ -372,21 +372,21 @@ late-on : (b : Bool) (sip : Addr) (l : AbandonedInvite) (d : StepOutput) → l.i
 late-on true sip l d e = rw e (none d)
 late-on false sip l d e = rw e (none d)
 
-loose_by : (b c : Bool) (d : StepOutput) (r s t : Rattle.mmtel_output.specs.AbandonedInvites.AfterResponse) → On d r.output → On d s.output → On d t.output → On d (if b then r else if c then s else t).output
-loose_by true c d r s t x y z = x
-loose_by false true d r s t x y z = y
-loose_by false false d r s t x y z = z
+abandoned_by : (b c : Bool) (d : StepOutput) (r s t : Rattle.mmtel_output.specs.AbandonedInvites.AfterResponse) → On d r.output → On d s.output → On d t.output → On d (if b then r else if c then s else t).output
+abandoned_by true c d r s t x y z = x
+abandoned_by false true d r s t x y z = y
+abandoned_by false false d r s t x y z = z
 
-pub loose-on : (sip : Addr) (key : TKey) (m : ParsedMessage) (l : AbandonedInvite) (d : StepOutput) → On d (loose_response sip key m l d).output
-loose-on sip key m l d =
-    loose_by (nat_lt (status_of m.start) 200) (nat_lt (status_of m.start) 300) d _ _ _
+pub abandoned-on : (sip : Addr) (key : TKey) (m : ParsedMessage) (l : AbandonedInvite) (d : StepOutput) → On d (abandoned_response sip key m l d).output
+abandoned-on sip key m l d =
+    abandoned_by (nat_lt (status_of m.start) 200) (nat_lt (status_of m.start) 300) d _ _ _
     (late-on l.invite.cancelled sip (after_provisional key m l) d refl)
     (success-on sip (with_invite l (with_key key l.invite)) (remote_of Callee m.lines) _ d)
     (none d)
 
 on_response_abandoned-on : (config : CallConfigView) (key : TKey) (m : MessageView) (at : ℕ) (o : Option AbandonedInvite) (c : Call) (d : StepOutput) → On d (on_response_abandoned config key m at o c d).output
 on_response_abandoned-on config key m at None c d = none d
-on_response_abandoned-on config key m at (Some l) c d = loose-on config.sip key m.parsed l d
+on_response_abandoned-on config key m at (Some l) c d = abandoned-on config.sip key m.parsed l d
 
 again-on : (t : AnsweredInvite) (o : Option (List ℕ)) (d : StepOutput) → On d (with_retransmitted_ack t o d)
 again-on t None d = none d
@@ -396,8 +396,8 @@ step_of_signal-on : (config : CallConfigView) (key : TKey) (m : MessageView) (at
 step_of_signal-on config key m at None c d = none d
 step_of_signal-on config key m at (Some t) c d =
     either_step (not (is_success (status_of m.parsed.start))) d (step_result c d) _ (none d)
-    (either_step (is_fork t m) d (on_forked_response config key m at t c d) (on_retransmitted_success t c d) (loose-on config.sip key m.parsed (as_abandoned t) d)
-    (told-on (is_stable c.phase) d (with_retransmitted_ack t t.invite.ack d) (again-on t t.invite.ack d)))
+    (either_step (is_fork t m) d (on_forked_response config key m at t c d) (on_retransmitted_success t c d) (abandoned-on config.sip key m.parsed (as_abandoned t) d)
+    (notified-on (is_stable c.phase) d (with_retransmitted_ack t t.invite.ack d) (again-on t t.invite.ack d)))
 
 -- what is in flight
 on_accepted_reinvite-on : (kind : RelayedKind) (config : CallConfigView) (at : ℕ) (side : Side) (request response : MessageView) (c : Call) (d : StepOutput) → On d (agreed_in_flight kind config at side request response c d).output

@@ -363,19 +363,19 @@ module _ (d : Directory) (token : List ℕ) (start : RunState) where
     answering_adds (Some (heard.AckOf2xx message)) w e = acknowledging_adds (dialog_owner_in d s.parsed w) w e
     answering_adds (Some heard.Stray) w e = alone w e
 
-    hearing_adds : (o : Option transaction.Heard) (w : RunState) → AddsParticipants d start w → AddsParticipants d start (with_received_action at s o w)
-    hearing_adds None w e = e
-    hearing_adds (Some taken) w e = unmoved _ w refl refl refl e
+    receiving_adds : (o : Option transaction.Heard) (w : RunState) → AddsParticipants d start w → AddsParticipants d start (with_received_action at s o w)
+    receiving_adds None w e = e
+    receiving_adds (Some taken) w e = unmoved _ w refl refl refl e
 
-    told_adds : (w : RunState) → AddsParticipants d start w → Adds d start (after_message d token at s w)
-    told_adds w e =
+    after_message_adds : (w : RunState) → AddsParticipants d start w → Adds d start (after_message d token at s w)
+    after_message_adds w e =
         let said = hear_result w.actions s.peer (message_in s.parsed) in
-        answering_adds said (with_received_action at s said w) (hearing_adds said w e)
+        answering_adds said (with_received_action at s said w) (receiving_adds said w e)
 
   after_parsed_event_adds : (at : ℕ) (x : ParsedEvent) (w : RunState) → AddsParticipants d start w → Adds d start (after_parsed_event d token at x w)
   after_parsed_event_adds at Nothing w e = alone w e
   after_parsed_event_adds at (Refused peer source reply) w e = alone _ (unmoved _ w refl refl refl e)
-  after_parsed_event_adds at (Received said) w e = told_adds at said w e
+  after_parsed_event_adds at (Received said) w e = after_message_adds at said w e
   after_parsed_event_adds at (WebRequested request kept rows) w e =
       beside _ (after_web_reply d at request kept rows w) (after_mailbox_upload_stays d token at (counts_put_in d.names request kept) (after_web_reply d at request kept rows w)) (unmoved _ w refl refl refl e)
 
@@ -478,6 +478,6 @@ none_waits_by [] w same = same
 none_waits_by (row ∷ rows) w same = refl
 
 pub none_waits : NoneWaits
-none_waits d token at digest state =
-    let left : RunState = after_parsed_event d token at digest (record (with_next_step state) { clock = at }) in
+none_waits d token at parsed_input state =
+    let left : RunState = after_parsed_event d token at parsed_input (record (with_next_step state) { clock = at }) in
     none_waits_by left.waiting left refl

@@ -51,21 +51,21 @@ use Rattle.mmtel_types.specs.declared.numbers.Account.{Account}
 use Rattle.mmtel_types.specs.declared.numbers.Peer.{Peer}
 use Rattle.mmtel_types.specs.declared.numbers.RoomNo.{RoomNo}
 use Rattle.mmtel_types.specs.declared.sides.Side.TheVariants.{Callee}
-use Rattle.mmtel_run_definitions.proofs.CallDraws.{On, loose-on, none, once, then_on, thrice, with_due_cancel-on}
+use Rattle.mmtel_run_definitions.proofs.CallDraws.{On, abandoned-on, none, once, then_on, thrice, with_due_cancel-on}
 use Rattle.mmtel_run_definitions.specs.ShortRuns.{ConferencesDrawOn, tokens_of_op}
 
 -- from one step of a conference to another
-abbrev desk_of : StepResult → StepOutput
-desk_of s = s.effects.output
+abbrev output_of_step : StepResult → StepOutput
+output_of_step s = s.effects.output
 
 abbrev Draws : StepResult → StepResult → Type 0
-Draws s t = On (desk_of s) (desk_of t)
+Draws s t = On (output_of_step s) (output_of_step t)
 
 stays : (s : StepResult) → Draws s s
-stays s = none (desk_of s)
+stays s = none (output_of_step s)
 
 then_draws : (s t u : StepResult) → Draws s t → Draws t u → Draws s u
-then_draws s t u a b = then_on (desk_of s) (desk_of t) (desk_of u) a b
+then_draws s t u a b = then_on (output_of_step s) (output_of_step t) (output_of_step u) a b
 
 draws_if : (b : Bool) (s t u : StepResult) → Draws s t → Draws s u → Draws s (if b then t else u)
 draws_if true s t u a b = a
@@ -89,13 +89,13 @@ at_place_draws row k (Some place) s = at_participant_draws row k place s
 
 -- ---- a participant is notified
 
-party_told : (config : ConferenceConfigView) (room : RoomNo) (goes_on : Bool) (line : List ℕ) (party : Party) (d : StepOutput) → On d (with_notify_to_party config room goes_on line party d)
-party_told config room goes_on line (Invited leg) d = none d
-party_told config room goes_on line (DialedIn leg) d = once d
-party_told config room goes_on line (DialedOut leg) d = once d
+party_notified : (config : ConferenceConfigView) (room : RoomNo) (goes_on : Bool) (line : List ℕ) (party : Party) (d : StepOutput) → On d (with_notify_to_party config room goes_on line party d)
+party_notified config room goes_on line (Invited leg) d = none d
+party_notified config room goes_on line (DialedIn leg) d = once d
+party_notified config room goes_on line (DialedOut leg) d = once d
 
 after_notify_draws : (config : ConferenceConfigView) (goes_on : Bool) (line : List ℕ) → TransitionDraws (after_notify config goes_on line)
-after_notify_draws config goes_on line place seat s = party_told config s.conference.number goes_on line seat.party (desk_of s)
+after_notify_draws config goes_on line place seat s = party_notified config s.conference.number goes_on line seat.party (output_of_step s)
 
 after_notify_to_draws : (config : ConferenceConfigView) (goes_on : Bool) (line : List ℕ) (number : ℕ) (s : StepResult) → Draws s (after_notify_to config goes_on line number s)
 after_notify_to_draws config goes_on line number s = at_place_draws (after_notify config goes_on line) (after_notify_draws config goes_on line) (place_of number s.conference.participants) s
@@ -147,7 +147,7 @@ failure_draws config by code s = after_notify_to_draws config false (own_status 
 
 after_invite_if_peer_draws : (config : ConferenceConfigView) (now by : ℕ) (o : Option Peer) (u : Uri) (s : StepResult) → Draws s (after_invite_if_peer config now by o u s)
 after_invite_if_peer_draws config now by None u s = failure_draws config by 404 s
-after_invite_if_peer_draws config now by (Some peer) u s = draws_if (is_full s.conference) s (after_failure_notify config by 503 s) (after_invite config now by peer u s) (failure_draws config by 503 s) (thrice (desk_of s))
+after_invite_if_peer_draws config now by (Some peer) u s = draws_if (is_full s.conference) s (after_failure_notify config by 503 s) (after_invite config now by peer u s) (failure_draws config by 503 s) (thrice (output_of_step s))
 
 after_refer_draws : (config : ConferenceConfigView) (now by : ℕ) (o : Option Uri) (s : StepResult) → Draws s (after_refer config now by o s)
 unfolding after_refer
@@ -156,7 +156,7 @@ after_refer_draws config now by (Some u) s = after_invite_if_peer_draws config n
 
 after_adoption_draws : (config : ConferenceConfigView) (now : ℕ) (leg : Released) (account : Option Account) (by : ℕ) (s : StepResult) → Draws s (after_adoption config now leg account by s)
 unfolding after_adoption
-after_adoption_draws config now leg account by s = once (desk_of s)
+after_adoption_draws config now leg account by s = once (output_of_step s)
 
 -- ---- the requests of a participant
 
@@ -214,7 +214,7 @@ after_invite_end_draws : (config : ConferenceConfigView) (now : ℕ) (line : Lis
 after_invite_end_draws config now line place seat s = at_participant_draws (after_end config now line) (after_end_draws config now line) place (with_participant place (record seat { invite = None }) s)
 
 after_own_ack_draws : (config : ConferenceConfigView) (tag : List ℕ) → TransitionDraws (after_own_ack config tag)
-after_own_ack_draws config tag place seat s = once (desk_of s)
+after_own_ack_draws config tag place seat s = once (output_of_step s)
 
 on_success_draws : (config : ConferenceConfigView) (now : ℕ) (m : MessageView) → TransitionDraws (on_success config now m)
 on_success_draws config now m place seat s =
@@ -295,8 +295,8 @@ step_of_participant_draws config now (of_seat.Due what) place seat s = on_due_dr
 abbrev StepDraws : (row : StepResult → StepResult) → Type 0
 StepDraws row = (s : StepResult) → Draws s (row s)
 
-heard_draws : (config : ConferenceConfigView) (now : ℕ) (whose : ParticipantState → Bool) (x : ParticipantSignal) → StepDraws (table.step_of_first config now whose x)
-heard_draws config now whose x s = at_place_draws (step_of_participant config now x) (step_of_participant_draws config now x) (position whose s.conference.participants) s
+received_draws : (config : ConferenceConfigView) (now : ℕ) (whose : ParticipantState → Bool) (x : ParticipantSignal) → StepDraws (table.step_of_first config now whose x)
+received_draws config now whose x s = at_place_draws (step_of_participant config now x) (step_of_participant_draws config now x) (position whose s.conference.participants) s
 
 stepped_on : (row : StepResult → StepResult) → StepDraws row → (place : ℕ) (o : Option Conference) (rooms : List Conference) (e : Effects) → On e.output (step_result_at row place o rooms e).effects.output
 stepped_on row k place None rooms e = none e.output
@@ -322,18 +322,18 @@ step_if_access_on row k (Err fault) rooms e = none e.output
 
 module _ (config : ConferenceConfigView) (now : ℕ) (rooms : List Conference) (abandoned : List AbandonedInvite) (e : Effects) where
   in_on : (room seat : ℕ) (x : ParticipantSignal) → On e.output (step_by_number config now room seat x rooms e).effects.output
-  in_on room seat x = step_result_in_on (table.step_of_first config now (has_seat_number seat) x) (heard_draws config now (has_seat_number seat) x) (table.place_of room rooms) rooms e
+  in_on room seat x = step_result_in_on (table.step_of_first config now (has_seat_number seat) x) (received_draws config now (has_seat_number seat) x) (table.place_of room rooms) rooms e
 
   of_on : (branch : List ℕ) (x : ParticipantSignal) → On e.output (step_by_branch config now branch x rooms e).effects.output
-  of_on branch x = step_result_in_on (table.step_of_first config now (participant_has_branch branch) x) (heard_draws config now (participant_has_branch branch) x) (position (conference_has_branch branch) rooms) rooms e
+  of_on branch x = step_result_in_on (table.step_of_first config now (participant_has_branch branch) x) (received_draws config now (participant_has_branch branch) x) (position (conference_has_branch branch) rooms) rooms e
 
-  loose_answered : (key : TKey) (m : MessageView) (place : ℕ) (o : Option AbandonedInvite) → On e.output (step_of_abandoned_response config.sip key m place o rooms abandoned e).effects.output
-  loose_answered key m place None = none e.output
-  loose_answered key m place (Some l) = loose-on config.sip key m.parsed l e.output
+  abandoned_answered : (key : TKey) (m : MessageView) (place : ℕ) (o : Option AbandonedInvite) → On e.output (step_of_abandoned_response config.sip key m place o rooms abandoned e).effects.output
+  abandoned_answered key m place None = none e.output
+  abandoned_answered key m place (Some l) = abandoned-on config.sip key m.parsed l e.output
 
   step_of_response_at_on : (key : TKey) (m : MessageView) (branch : List ℕ) (o : Option ℕ) → On e.output (step_of_response_at config now key m branch o rooms abandoned e).effects.output
   step_of_response_at_on key m branch None = of_on branch (of_seat.Answer key m)
-  step_of_response_at_on key m branch (Some place) = loose_answered key m place (slice_get abandoned place)
+  step_of_response_at_on key m branch (Some place) = abandoned_answered key m place (slice_get abandoned place)
 
   step_of_response_on : (key : TKey) (m : MessageView) (o : Option (List ℕ)) → On e.output (step_of_response config now key m o rooms abandoned e).effects.output
   step_of_response_on key m None = none e.output
@@ -371,17 +371,17 @@ unfolding step_of_notify
 step_of_notify_on config room seat code rooms e =
     open_result_in_on (after_notify_to config (is_provisional code) (own_status code) seat) (after_notify_to_draws config (is_provisional code) (own_status code) seat) (table.place_of room rooms) rooms e
 
-deed_on : (config : ConferenceConfigView) (op : TableOp) (t : Table) → On (no_effects (tokens_of_op op)).output (effects_of config op t).output
-deed_on config (rooms.Opens c) t =
+op_on : (config : ConferenceConfigView) (op : TableOp) (t : Table) → On (no_effects (tokens_of_op op)).output (effects_of config op t).output
+op_on config (rooms.Opens c) t =
     let s : StepResult = record { conference = new_conference (next_room_number t); effects = no_effects c.tokens } in
     after_join_draws config c.at c.leg c.account c.key c.invite s
-deed_on config (rooms.Joins room c) t = step_of_join_on config c.at room c.leg c.account c.key c.invite t.live (no_effects c.tokens)
-deed_on config (rooms.Adopts room a) t = step_of_adoption_on config a.at room a.leg a.account a.by t.live (no_effects a.tokens)
-deed_on config (rooms.Notifies room seat code tokens) t = step_of_notify_on config room seat code t.live (no_effects tokens)
-deed_on config (rooms.Receives x) t = step_of_signal_on config x.at t.live t.abandoned (no_effects x.tokens) x.signal
-deed_on config (rooms.Leaves room seat) t = none (no_effects rooms.no_tokens).output
-deed_on config (rooms.Closes room) t = none (no_effects rooms.no_tokens).output
-deed_on config (rooms.Drops count) t = none (no_effects rooms.no_tokens).output
+op_on config (rooms.Joins room c) t = step_of_join_on config c.at room c.leg c.account c.key c.invite t.live (no_effects c.tokens)
+op_on config (rooms.Adopts room a) t = step_of_adoption_on config a.at room a.leg a.account a.by t.live (no_effects a.tokens)
+op_on config (rooms.Notifies room seat code tokens) t = step_of_notify_on config room seat code t.live (no_effects tokens)
+op_on config (rooms.Receives x) t = step_of_signal_on config x.at t.live t.abandoned (no_effects x.tokens) x.signal
+op_on config (rooms.Leaves room seat) t = none (no_effects rooms.no_tokens).output
+op_on config (rooms.Closes room) t = none (no_effects rooms.no_tokens).output
+op_on config (rooms.Drops count) t = none (no_effects rooms.no_tokens).output
 
 pub conferences_draw_on : ConferencesDrawOn
-conferences_draw_on config ops op = deed_on config op (table_after config ops)
+conferences_draw_on config ops op = op_on config op (table_after config ops)

@@ -4,18 +4,18 @@ use Rattle.mmtel_transaction.specs.declared.words.Emit.{Emit}
 use Rattle.mmtel_transaction.specs.declared.words.Emit.TheVariants as emit
 use Rattle.mmtel_run_definitions.specs.Transitions.{RunState, with_emit, with_emits}
 
-emit_deeds : (at : ℕ) (x : Emit) (w : RunState) → (with_emit at x w).call_ops ≡ w.call_ops
-emit_deeds at (emit.Ask peer message) w = refl
-emit_deeds at (emit.Reply key message) w = refl
-emit_deeds at (emit.Plain peer text) w = refl
-emit_deeds at (emit.Ack key message) w = refl
-emit_deeds at (emit.Settled key own) w = refl
-emit_deeds at (emit.Arm call what when) w = refl
-emit_deeds at (emit.ArmSeat room seat what when) w = refl
+emit_ops : (at : ℕ) (x : Emit) (w : RunState) → (with_emit at x w).call_ops ≡ w.call_ops
+emit_ops at (emit.Ask peer message) w = refl
+emit_ops at (emit.Reply key message) w = refl
+emit_ops at (emit.Plain peer text) w = refl
+emit_ops at (emit.Ack key message) w = refl
+emit_ops at (emit.Settled key own) w = refl
+emit_ops at (emit.Arm call what when) w = refl
+emit_ops at (emit.ArmSeat room seat what when) w = refl
 
-pub with_emits_deeds : (at : ℕ) (xs : List Emit) (w : RunState) → (with_emits at xs w).call_ops ≡ w.call_ops
-with_emits_deeds at [] w = refl
-with_emits_deeds at (x ∷ xs) w = with_emits_deeds at xs (with_emit at x w) ∙ emit_deeds at x w
+pub with_emits_ops : (at : ℕ) (xs : List Emit) (w : RunState) → (with_emits at xs w).call_ops ≡ w.call_ops
+with_emits_ops at [] w = refl
+with_emits_ops at (x ∷ xs) w = with_emits_ops at xs (with_emit at x w) ∙ emit_ops at x w
 
 emit_boxes : (at : ℕ) (x : Emit) (w : RunState) → (with_emit at x w).mailbox_ops ≡ w.mailbox_ops
 emit_boxes at (emit.Ask peer message) w = refl

@@ -40,7 +40,7 @@ use Rattle.mmtel_run_definitions.specs.Records.{in_force}
 use Rattle.mmtel_run_definitions.specs.Ownership.{OfSubscriptions, OfCalls, OfConferences, Owner, owner_of_key, owner_of_branch, conferences_after, conference_config}
 use Rattle.mmtel_run_definitions.specs.Run.{IsEnough, IsEnoughAfter, IsSettled, after_deadline_if, after_due_deadlines, after_event_in_order, after_events, after_one_deadline, clock_at, first_due_deadline, offers_of_run, state_after}
 use Rattle.mmtel_run_definitions.specs.Transitions.{RunState, subscriptions_in, with_draws, next_tag, after_service_timer, initial_state, with_next_step, calls_in, after_event, with_emits, after_transaction_end, after_deadline, conference_signal_op, received_now, conferences_in, after_due, after_conference_signal, after_call_signal, after_request_timeout, tokens_now}
-use Rattle.mmtel_run_definitions.proofs.EmitFrames.{with_emits_boxes, with_emits_deeds, with_emits_rooms}
+use Rattle.mmtel_run_definitions.proofs.EmitFrames.{with_emits_boxes, with_emits_ops, with_emits_rooms}
 use Rattle.mmtel_run_definitions.proofs.ConferenceTermination.{all_seats, rooms_fade}
 use Rattle.mmtel_run_definitions.proofs.ConferenceTermination.{is_rung as is_rung_there}
 use Rattle.mmtel_run_definitions.proofs.CallTableTermination.{all_ways, fades, is_rung}
@@ -96,13 +96,13 @@ module _ (d : Directory) (token : List ℕ) where
   abbrev moved_by : ℕ → Signal → RunState → TableStep
   moved_by at x w = step_on_receive_after (call_config d) w.call_ops (received_now token at x w)
 
-  abbrev heard_in : ℕ → Signal → RunState → RunState
-  heard_in at x w = record w { call_ops = Drops (length (moved_by at x w).output.rows) ∷ Receives (received_now token at x w) ∷ w.call_ops; drawn = (moved_by at x w).output.tokens.drawn; waiting = w.waiting ++ (moved_by at x w).output.rows }
+  abbrev received_in : ℕ → Signal → RunState → RunState
+  received_in at x w = record w { call_ops = Drops (length (moved_by at x w).output.rows) ∷ Receives (received_now token at x w) ∷ w.call_ops; drawn = (moved_by at x w).output.tokens.drawn; waiting = w.waiting ++ (moved_by at x w).output.rows }
 
   -- commands change neither
   with_emits_ways : (at : ℕ) (out : List Emit) (v : RunState) → ways_left (with_emits at out v) ≡ ways_left v
   with_emits_ways at out v =
-      λ i. all_ways (calls_after d (with_emits_deeds at out v i)).entries + all_seats (conferences_after d (with_emits_rooms at out v i)).live + length (boxes.table_after (with_emits_boxes at out v i)).live
+      λ i. all_ways (calls_after d (with_emits_ops at out v i)).entries + all_seats (conferences_after d (with_emits_rooms at out v i)).live + length (boxes.table_after (with_emits_boxes at out v i)).live
 
   after_call_signal_quietens : (at : ℕ) (x : Signal) (w : RunState) → is_rung x ≡ true → Quietens (after_call_signal d token at x w) w
   after_call_signal_quietens at x w is =
@@ -110,10 +110,10 @@ module _ (d : Directory) (token : List ℕ) where
       let drawn : TokensView = record { token = token; drawn = w.drawn } in
       let calls = calls_in d w in
       let left : ways_left (after_call_signal d token at x w) ≡ all_ways (moved_by at x w).entries + all_seats (conferences_in d w).live + length (subscriptions_in w).live =
-      with_emits_ways at (moved_by at x w).output.out (heard_in at x w) in
+      with_emits_ways at (moved_by at x w).output.out (received_in at x w) in
       elim (fades (call_config d) at view (next_number calls.opened) x calls.entries (empty_output drawn) is) [
         | inl quiet ↦
-            let same : waits (after_call_signal d token at x w) ≡ waits w = ap (λ (out : List Emit). waits (with_emits at out (heard_in at x w))) quiet.0 in
+            let same : waits (after_call_signal d token at x w) ≡ waits w = ap (λ (out : List Emit). waits (with_emits at out (received_in at x w))) quiet.0 in
             let few : all_ways (moved_by at x w).entries ≤ all_ways calls.entries = quiet.1 in
             inl (omega (arith, same), omega (arith, left, few))
         | inr less ↦
@@ -125,8 +125,8 @@ module _ (d : Directory) (token : List ℕ) where
   abbrev room_moved : ℕ → RoomSignal → RunState → tables.TableStep
   room_moved at x w = tables.step_of_signal (conference_config d) at x (conferences_in d w).live (conferences_in d w).abandoned (no_effects (tokens_now token w))
 
-  abbrev heard_there : ℕ → RoomSignal → RunState → RunState
-  heard_there at x w = record w {
+  abbrev received_there : ℕ → RoomSignal → RunState → RunState
+  received_there at x w = record w {
     conference_ops = rooms.Drops (length (room_moved at x w).effects.output.rows) ∷ conference_signal_op token at x w ∷ w.conference_ops;
     drawn = (room_moved at x w).effects.output.tokens.drawn;
     waiting = w.waiting ++ (room_moved at x w).effects.output.rows;
@@ -136,10 +136,10 @@ module _ (d : Directory) (token : List ℕ) where
   after_conference_signal_quietens at x w is =
       let held = conferences_in d w in
       let left : ways_left (after_conference_signal d token at x w) ≡ all_ways (calls_in d w).entries + all_seats (room_moved at x w).live + length (subscriptions_in w).live =
-      with_emits_ways at (room_moved at x w).effects.output.out (heard_there at x w) in
+      with_emits_ways at (room_moved at x w).effects.output.out (received_there at x w) in
       elim (rooms_fade (conference_config d) at held.live held.abandoned (no_effects (tokens_now token w)) x is) [
         | inl quiet ↦
-            let same : waits (after_conference_signal d token at x w) ≡ waits w = ap (λ (out : List Emit). waits (with_emits at out (heard_there at x w))) quiet.0 in
+            let same : waits (after_conference_signal d token at x w) ≡ waits w = ap (λ (out : List Emit). waits (with_emits at out (received_there at x w))) quiet.0 in
             let few : all_seats (room_moved at x w).live ≤ all_seats held.live = quiet.1 in
             inl (omega (arith, same), omega (arith, left, few))
         | inr less ↦
@@ -162,7 +162,7 @@ module _ (d : Directory) (token : List ℕ) where
       let fewer : suc (length (table_after_end sub (table_after_notify sub (next_tag token w) (subscriptions_in w))).live) ≡ length (subscriptions_in w).live = last_fewer sub (next_tag token w) (subscriptions_in w) s e in
       let emits = notify_emits s.leg.dialogue.peer (notify_request d.sip sub true (next_tag token w) at (subscriptions_in w)) in
       let there : after_last_notify d token at sub w ≡ with_mailbox_op (Ends sub) (with_emits at emits u) = ap (λ (o : Option Peer). with_mailbox_op (Ends sub) (after_notify_to_peer d token at sub true o w)) some in
-      let calls = with_emits_deeds at emits u in
+      let calls = with_emits_ops at emits u in
       let seats = with_emits_rooms at emits u in
       let subscribed = with_emits_boxes at emits u in
       let left : ways_left (after_last_notify d token at sub w)

@@ -101,4 +101,4 @@ RowsAreInOrder = (directory : Directory) (token : List ℕ) (loaded : Texts) (fu
 
 -- none waits after an event in which the keeper accepted what was handed to it
 abbrev pub NoneWaits : Type 0
-NoneWaits = (directory : Directory) (token : List ℕ) (at : ℕ) (digest : ParsedEvent) (state : RunState) → (after_event directory token at digest true state).waiting ≡ []
+NoneWaits = (directory : Directory) (token : List ℕ) (at : ℕ) (parsed_input : ParsedEvent) (state : RunState) → (after_event directory token at parsed_input true state).waiting ≡ []

@@ -1,4 +1,4 @@
--- The inputs of a run: the record of each event, and what the rules of a run read of it, with its moment. `digest` is the only definition that reads bytes.
+-- The inputs of a run: the record of each event, and what the rules of a run read of it, with its moment. `parsed_event` is the only definition that reads bytes.
 use Rattle.std.specs.Prelude.{ℕ, Bool, Option, Some, None, List, Ok, Err, map}
 use Rattle.mmtel_compose.specs.ReceivedMessages.{MessageView, message_view}
 use Rattle.mmtel_charging.specs.declared.rows.Row.{Row}

@@ -368,4 +368,4 @@ after_event_end took state = after_handover took state.waiting state
 
 -- an event comes at a moment of the clock
 abbrev pub after_event : Directory → (token : List ℕ) → ℕ → ParsedEvent → (took : Bool) → RunState → RunState
-after_event directory token at digest took state = after_event_end took (after_parsed_event directory token at digest (record (with_next_step state) { clock = at }))
+after_event directory token at parsed_input took state = after_event_end took (after_parsed_event directory token at parsed_input (record (with_next_step state) { clock = at }))

@@ -69,9 +69,9 @@ taken_by (Status code phrase) None es is =
 taken_by (Status code phrase) (Some five) es is =
     absurd (no_response (head_with (Status code phrase) (Some five)) (find (is_client_of (head_with (Status code phrase) (Some five))) es) is)
 
-pub is_ack_heard : (m : Message Start) (es : List Entry) → part.AckOf2xx ≡ class_of (head_of m) es → is_method (codes "ACK") m.start ≡ true
+pub is_ack_received : (m : Message Start) (es : List Entry) → part.AckOf2xx ≡ class_of (head_of m) es → is_method (codes "ACK") m.start ≡ true
 unfolding head_of
-is_ack_heard m es is = taken_by m.start _ es is
+is_ack_received m es is = taken_by m.start _ es is
 
 -- ---- and it has no History-Info
 
@@ -101,19 +101,19 @@ module _ (d : Directory) (whole : List EventRecord) where
     pub received : IsReceivedIn d whole said
     pub is_ack : is_method (codes "ACK") said.parsed.start ≡ true
 
-  abbrev pub AreHeard : List ReceivedAck → Type 0
-  AreHeard acks = Each (λ (acked : ReceivedAck). IsAckOfEvent acked.ack) acks
+  abbrev pub AreAcksOfEvents : List ReceivedAck → Type 0
+  AreAcksOfEvents acks = Each (λ (acked : ReceivedAck). IsAckOfEvent acked.ack) acks
 
-  in_phase : (config : CallConfigView) (phase : Phase) (c : Call) (side : Side) (said : MessageView) → IsAckOfEvent said → AreHeard (received_acks_in config phase c side said)
+  in_phase : (config : CallConfigView) (phase : Phase) (c : Call) (side : Side) (said : MessageView) → IsAckOfEvent said → AreAcksOfEvents (received_acks_in config phase c side said)
   in_phase config (Offered x) c side said is = tt
   in_phase config (Established x stage) c side said is = (is, tt)
   in_phase config (Detached detached) c side said is = tt
   in_phase config (Over cause) c side said is = tt
 
   -- each call that receives it received the ACK of an event
-  pub acked_heard : (config : CallConfigView) (side : Side) (said : MessageView) (o : Option calls.Entry) → IsAckOfEvent said → AreHeard (acked_at config side said o)
-  acked_heard config side said None is = tt
-  acked_heard config side said (Some e) is = in_phase config e.call.phase e.call side said is
+  pub acks_received : (config : CallConfigView) (side : Side) (said : MessageView) (o : Option calls.Entry) → IsAckOfEvent said → AreAcksOfEvents (acked_at config side said o)
+  acks_received config side said None is = tt
+  acks_received config side said (Some e) is = in_phase config e.call.phase e.call side said is
 
   -- what was relayed before one more operation
   passed_lines_still : (now : List ReceivedAck) (ops : List TableOp) (op : TableOp) (dialogue : Dialogue) (given : RequestPartsView) →
@@ -147,11 +147,11 @@ module _ (d : Directory) (whole : List EventRecord) where
 
   -- ---- an ACK that is output by an operation on calls
 
-  gives : (ops : List TableOp) (dialogue : Dialogue) (given : RequestPartsView) → AreHeard (acked_after (call_config d) ops) → IsPassedTo (acked_after (call_config d) ops) dialogue given →
+  gives : (ops : List TableOp) (dialogue : Dialogue) (given : RequestPartsView) → AreAcksOfEvents (acked_after (call_config d) ops) → IsPassedTo (acked_after (call_config d) ops) dialogue given →
       Passes ops dialogue given
-  gives ops dialogue given heard (inl none) = inl none
-  gives ops dialogue given heard (inr p) =
-      let one : IsAckOfEvent p.received.ack = each_in (λ (acked : ReceivedAck). IsAckOfEvent acked.ack) (acked_after (call_config d) ops) p.received p.among heard in
+  gives ops dialogue given incoming (inl none) = inl none
+  gives ops dialogue given incoming (inr p) =
+      let one : IsAckOfEvent p.received.ack = each_in (λ (acked : ReceivedAck). IsAckOfEvent acked.ack) (acked_after (call_config d) ops) p.received p.among incoming in
       inr (record {
         acked = p.received;
         in_call = p.among;
@@ -164,12 +164,12 @@ module _ (d : Directory) (whole : List EventRecord) where
             (shown_of p.received.facing p.received.to_trusted p.history p.received.ack.parsed.start p.received.ack.parsed.lines one.is_ack);
       })
 
-  pub own_ack : ((m : Message Start) → MessageHasNoInjection m → HasOwnFields m) → (ops : List TableOp) (text : List ℕ) → AreHeard (acked_after (call_config d) ops) →
+  pub own_ack : ((m : Message Start) → MessageHasNoInjection m → HasOwnFields m) → (ops : List TableOp) (text : List ℕ) → AreAcksOfEvents (acked_after (call_config d) ops) →
       IsTextOfAck (acked_after (call_config d) ops) text → IsOwnAck d whole ops text
-  own_ack own_lines ops text heard is = record {
+  own_ack own_lines ops text incoming is = record {
     dialogue = is.dialogue;
     parts = is.parts;
-    passes = gives ops is.dialogue is.parts heard is.passes;
+    passes = gives ops is.dialogue is.parts incoming is.passes;
     lines = own_lines (ack_of is.dialogue is.parts) is.no_injection;
     is = is.is;
   }

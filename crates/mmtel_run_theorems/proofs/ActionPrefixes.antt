@@ -273,19 +273,19 @@ module _ (P : List TransactionOp → Type 0) (older : (x : TransactionOp) (h : L
       answering_before (Some (heard.AckOf2xx message)) w e = acknowledging_by_before (dialog_owner_in d s.parsed w) w e
       answering_before (Some heard.Stray) w e = e
 
-      pub hearing_before : (o : Option transaction.Heard) (w : RunState) → AllTrue (with_received_action at s o w) → AllTrue w
-      hearing_before None w e = e
-      hearing_before (Some taken) w e = older (DidHear s.peer (message_in s.parsed) at (class_of (head_of (message_in s.parsed)) (live w.actions))) w.actions e
+      pub receiving_before : (o : Option transaction.Heard) (w : RunState) → AllTrue (with_received_action at s o w) → AllTrue w
+      receiving_before None w e = e
+      receiving_before (Some taken) w e = older (DidHear s.peer (message_in s.parsed) at (class_of (head_of (message_in s.parsed)) (live w.actions))) w.actions e
 
-      pub told_before : (w : RunState) → AllTrue (after_message d token at s w) → AllTrue w
-      told_before w e =
+      pub after_message_before : (w : RunState) → AllTrue (after_message d token at s w) → AllTrue w
+      after_message_before w e =
           let said = hear_result w.actions s.peer (message_in s.parsed) in
-          hearing_before said w (answering_before said (with_received_action at s said w) e)
+          receiving_before said w (answering_before said (with_received_action at s said w) e)
 
     pub met_before : (at : ℕ) (x : ParsedEvent) (w : RunState) → AllTrue (after_parsed_event d token at x w) → AllTrue w
     met_before at Nothing w e = e
     met_before at (Refused peer source reply) w e = e
-    met_before at (Received said) w e = told_before at said w e
+    met_before at (Received said) w e = after_message_before at said w e
     met_before at (WebRequested request kept rows) w e = mailing.puts d token at Back (box_steps at) (λ account counts v f. f) (counts_put_in d.names request kept) (after_web_reply d at request kept rows w) e
 
     pub came_before : (at : ℕ) (x : ParsedEvent) (took : Bool) (w : RunState) → AllTrue (after_event d token at x took w) → AllTrue w

@@ -350,21 +350,21 @@ module _ (d : Directory) (token : List ℕ) where
     answering_adds (Some (heard.AckOf2xx message)) b w = acknowledging_adds (dialog_owner_in d s.parsed w) b w
     answering_adds (Some heard.Stray) b w = refl
 
-    hearing_adds : (o : Option transaction.Heard) → Adds (with_received_action at s o)
-    hearing_adds None b w = refl
-    hearing_adds (Some taken) b w = refl
+    receiving_adds : (o : Option transaction.Heard) → Adds (with_received_action at s o)
+    receiving_adds None b w = refl
+    receiving_adds (Some taken) b w = refl
 
-    told_adds : Adds (after_message d token at s)
-    told_adds b w =
+    after_message_adds : Adds (after_message d token at s)
+    after_message_adds b w =
         let said = hear_result w.actions s.peer (message_in s.parsed) in
-        ap (after_classified_message d token at s said) (hearing_adds said b w) ∙ answering_adds said b (with_received_action at s said w)
+        ap (after_classified_message d token at s said) (receiving_adds said b w) ∙ answering_adds said b (with_received_action at s said w)
 
   -- ---- events
 
   after_parsed_event_adds : (at : ℕ) (x : ParsedEvent) → Adds (after_parsed_event d token at x)
   after_parsed_event_adds at Nothing b w = refl
   after_parsed_event_adds at (Refused peer source reply) b w = with_refusal_of_bytes_adds at peer source reply b w
-  after_parsed_event_adds at (Received said) b w = told_adds at said b w
+  after_parsed_event_adds at (Received said) b w = after_message_adds at said b w
   after_parsed_event_adds at (WebRequested request kept rows) b w =
       let put : Option (Account × Counts) = counts_put_in d.names request kept in
       ap (after_mailbox_upload d token at put) (after_web_reply_adds d at request kept rows b w) ∙ after_mailbox_upload_adds at put b (after_web_reply d at request kept rows w)

@@ -25,19 +25,19 @@ abbrev pub keys : List TransactionOp → ℕ
 keys h = length (openings h)
 
 -- at most one by one operation
-one-heard : (step key : ℕ) (p : Peer) (m : Message Start) (now : ℕ) (taken : MessageClass) → length (opened_on_receipt step key p m now taken) ≤ 1
-one-heard step key p m now part.Fresh = omega arith
-one-heard step key p m now part.Full = omega arith
-one-heard step key p m now (part.Repeat k) = omega arith
-one-heard step key p m now (part.RepeatedFinal k) = omega arith
-one-heard step key p m now (part.Answer k) = omega arith
-one-heard step key p m now (part.Acked k) = omega arith
-one-heard step key p m now part.AckOf2xx = omega arith
-one-heard step key p m now part.Stray = omega arith
+one-received : (step key : ℕ) (p : Peer) (m : Message Start) (now : ℕ) (taken : MessageClass) → length (opened_on_receipt step key p m now taken) ≤ 1
+one-received step key p m now part.Fresh = omega arith
+one-received step key p m now part.Full = omega arith
+one-received step key p m now (part.Repeat k) = omega arith
+one-received step key p m now (part.RepeatedFinal k) = omega arith
+one-received step key p m now (part.Answer k) = omega arith
+one-received step key p m now (part.Acked k) = omega arith
+one-received step key p m now part.AckOf2xx = omega arith
+one-received step key p m now part.Stray = omega arith
 
 one-more : (step order key : ℕ) (x : TransactionOp) → length (opens step order key x) ≤ 1
 one-more step order key (DidBegin n) = omega arith
-one-more step order key (DidHear p m now taken) = one-heard step key p m now taken
+one-more step order key (DidHear p m now taken) = one-received step key p m now taken
 one-more step order key (DidAsk p m now) = omega arith
 one-more step order key (DidReply k m now) = omega arith
 one-more step order key (DidAck k m) = omega arith
@@ -115,16 +115,16 @@ signal-below n m (signal.Silent branch method) le h = tt
 signal-below n m (signal.Due call what) le h = tt
 signal-below n m (signal.Over key) le h = tt
 
-deed-below : (n m : ℕ) (op : TableOp) → n ≤ m → IsBelow n op → IsBelow m op
-deed-below n m (Receives x) le h = signal-below n m x.signal le h
-deed-below n m (Releases number side) le h = tt
-deed-below n m (Restores number away) le h = tt
-deed-below n m (Finishes number at tokens) le h = tt
-deed-below n m (Drops count) le h = tt
+op-below : (n m : ℕ) (op : TableOp) → n ≤ m → IsBelow n op → IsBelow m op
+op-below n m (Receives x) le h = signal-below n m x.signal le h
+op-below n m (Releases number side) le h = tt
+op-below n m (Restores number away) le h = tt
+op-below n m (Finishes number at tokens) le h = tt
+op-below n m (Drops count) le h = tt
 
 pub all_below : (n m : ℕ) (ops : List TableOp) → n ≤ m → Each (IsBelow n) ops → Each (IsBelow m) ops
 all_below n m [] le h = tt
-all_below n m (op ∷ ops) le h = (deed-below n m op le h.0, all_below n m ops le h.1)
+all_below n m (op ∷ ops) le h = (op-below n m op le h.0, all_below n m ops le h.1)
 
 pub more_keyed : (config : CallConfigView) (n m : ℕ) (ops : List TableOp) → n ≤ m → Keyed config n ops → Keyed config m ops
 more_keyed config n m ops le k = record { opened = le_trans k.opened le; below = all_below n m ops le k.below; rises = k.rises; own = k.own }
@@ -141,16 +141,16 @@ signal-other n key (signal.Silent branch method) is h = tt
 signal-other n key (signal.Due call what) is h = tt
 signal-other n key (signal.Over other) is h = tt
 
-deed-other : (n : ℕ) (key : TKey) (op : TableOp) → key.0 ≡ n → IsBelow n op → IsOtherOp key op
-deed-other n key (Receives x) is h = signal-other n key x.signal is h
-deed-other n key (Releases number side) is h = tt
-deed-other n key (Restores number away) is h = tt
-deed-other n key (Finishes number at tokens) is h = tt
-deed-other n key (Drops count) is h = tt
+op-other : (n : ℕ) (key : TKey) (op : TableOp) → key.0 ≡ n → IsBelow n op → IsOtherOp key op
+op-other n key (Receives x) is h = signal-other n key x.signal is h
+op-other n key (Releases number side) is h = tt
+op-other n key (Restores number away) is h = tt
+op-other n key (Finishes number at tokens) is h = tt
+op-other n key (Drops count) is h = tt
 
 pub all_other : (n : ℕ) (key : TKey) (ops : List TableOp) → key.0 ≡ n → Each (IsBelow n) ops → Each (IsOtherOp key) ops
 all_other n key [] is h = tt
-all_other n key (op ∷ ops) is h = (deed-other n key op is h.0, all_other n key ops is h.1)
+all_other n key (op ∷ ops) is h = (op-other n key op is h.0, all_other n key ops is h.1)
 
 -- ---- one more operation
 

@@ -70,18 +70,18 @@ with_emits_extends : (at : ℕ) (xs : List Emit) (w : RunState) → Extends w (w
 with_emits_extends at [] w = extends_refl w w refl refl
 with_emits_extends at (x ∷ xs) w = extends_then w (with_emit at x w) (with_emits at xs (with_emit at x w)) (emit_extends at x w) (with_emits_extends at xs (with_emit at x w))
 
-emit_deeds : (at : ℕ) (x : Emit) (w : RunState) → (with_emit at x w).call_ops ≡ w.call_ops
-emit_deeds at (emit.Ask peer message) w = refl
-emit_deeds at (emit.Reply key message) w = refl
-emit_deeds at (emit.Plain peer text) w = refl
-emit_deeds at (emit.Ack key message) w = refl
-emit_deeds at (emit.Settled key own) w = refl
-emit_deeds at (emit.Arm call what when) w = refl
-emit_deeds at (emit.ArmSeat room seat what when) w = refl
+emit_ops : (at : ℕ) (x : Emit) (w : RunState) → (with_emit at x w).call_ops ≡ w.call_ops
+emit_ops at (emit.Ask peer message) w = refl
+emit_ops at (emit.Reply key message) w = refl
+emit_ops at (emit.Plain peer text) w = refl
+emit_ops at (emit.Ack key message) w = refl
+emit_ops at (emit.Settled key own) w = refl
+emit_ops at (emit.Arm call what when) w = refl
+emit_ops at (emit.ArmSeat room seat what when) w = refl
 
-with_emits_deeds : (at : ℕ) (xs : List Emit) (w : RunState) → (with_emits at xs w).call_ops ≡ w.call_ops
-with_emits_deeds at [] w = refl
-with_emits_deeds at (x ∷ xs) w = with_emits_deeds at xs (with_emit at x w) ∙ emit_deeds at x w
+with_emits_ops : (at : ℕ) (xs : List Emit) (w : RunState) → (with_emits at xs w).call_ops ≡ w.call_ops
+with_emits_ops at [] w = refl
+with_emits_ops at (x ∷ xs) w = with_emits_ops at xs (with_emit at x w) ∙ emit_ops at x w
 
 -- ---- what was sent has been sent, whatever is added
 
@@ -233,7 +233,7 @@ module _ (d : Directory) where
       let e : Extends w v = extends_then w u v (extends_refl w u refl refl) (with_emits_extends at output.out u) in
       record {
         extends = e;
-        gone = λ g. subst (AllGone v) (sym (with_emits_deeds at output.out u)) (tt, (subst (Each (GoesOut v)) out (with_emits_go at output.out u), gone_more w v w.call_ops e g));
+        gone = λ g. subst (AllGone v) (sym (with_emits_ops at output.out u)) (tt, (subst (Each (GoesOut v)) out (with_emits_go at output.out u), gone_more w v w.call_ops e g));
         handed_over = λ s. with_emits_said at output.out u (same_said w u refl (extends_refl w u refl refl) s);
       }
 
@@ -241,7 +241,7 @@ module _ (d : Directory) where
   lodges_on at op output w =
       let u : RunState = record w { conference_ops = rooms.Drops (length output.rows) ∷ op ∷ w.conference_ops; waiting = w.waiting ++ output.rows } in
       let v : RunState = with_emits at output.out u in
-      alike at w v (with_emits_deeds at output.out u) (extends_then w u v (extends_refl w u refl refl) (with_emits_extends at output.out u))
+      alike at w v (with_emits_ops at output.out u) (extends_then w u v (extends_refl w u refl refl) (with_emits_extends at output.out u))
       (λ s. with_emits_said at output.out u (same_said w u refl (extends_refl w u refl refl) s))
 
   sent : IsWalked d SendsOn
@@ -254,7 +254,7 @@ module _ (d : Directory) where
     offers = λ at x w is.
         let e : Extends w (with_offers (x ∷ []) w) = record { actions = []; on_actions = refl; offers = x ∷ []; offered = refl } in
         alike at w (with_offers (x ∷ []) w) refl e (same_said w (with_offers (x ∷ []) w) refl e);
-    emit = λ at x w. alike at w (with_emit at x w) (emit_deeds at x w) (emit_extends at x w) (emit_said at x w);
+    emit = λ at x w. alike at w (with_emit at x w) (emit_ops at x w) (emit_extends at x w) (emit_said at x w);
     lends = λ at op w is none.
         let e : Extends w (with_call_op op w) = extends_refl w (with_call_op op w) refl refl in
         record {

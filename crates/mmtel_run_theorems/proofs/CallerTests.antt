@@ -69,8 +69,8 @@ abbrev tests_or : Tests → Option Tests → Tests
 tests_or other None = other
 tests_or other (Some t) = t
 
-abbrev told_by : List Who → Option Account → Identities2 → Tests
-told_by asked account who = record { caller = account; somebody = has_identity who; matches = map (identity_holds who) asked }
+abbrev tests_of_caller : List Who → Option Account → Identities2 → Tests
+tests_of_caller asked account who = record { caller = account; somebody = has_identity who; matches = map (identity_holds who) asked }
 
 -- ---- two openings
 
@@ -115,7 +115,7 @@ module _ (d e : Directory) (asked : List Who) (m n : MessageView) (r s : Role) (
       let account : caller_account d.names.accounts m.parsed ≡ caller_account e.names.accounts n.parsed =
       sym (plain_account d.names.accounts m)
       ∙ (ap (λ (x : MessageView). caller_account d.names.accounts x.parsed) left ∙ (plainly ∙ plain_account e.names.accounts n)) in
-      ap (λ (a : Option Account). told_by asked a (caller_of m.parsed)) account ∙ ap (told_by asked (caller_account e.names.accounts n.parsed)) callers
+      ap (λ (a : Option Account). tests_of_caller asked a (caller_of m.parsed)) account ∙ ap (tests_of_caller asked (caller_account e.names.accounts n.parsed)) callers
 
   by_roles : (hides r ≡ true) ⊎ (r ≡ Plain) → (hides s ≡ true) ⊎ (s ≡ Plain) → one ≡ two
   by_roles (inl f) g = both_hide (hides r) (hides s) by_tests f

@@ -197,19 +197,19 @@ module _ (asks : List (Peer × Message Start)) where
     | inr n ↦ rw n is
   ]
 
-  heard_asked : (step : ℕ) (m : Message Start) (now : ℕ) (t : MessageClass) (e : Entry) → IsOfSentRequest asks e → IsOfSentRequest asks (change_on_receipt step m now t e)
-  heard_asked step m now part.Fresh e is = is
-  heard_asked step m now part.Full e is = is
-  heard_asked step m now (part.Repeat key) e is = is
-  heard_asked step m now (part.RepeatedFinal key) e is = is
-  heard_asked step m now (part.Answer key) e is = change_of_key_asked key (after_response step (head_of m).status now) e is (after_response_asked step (head_of m).status now e is)
-  heard_asked step m now (part.Acked key) e is = change_of_key_asked key (after_failure_ack step now) e is (after_failure_ack_asked step now e is)
-  heard_asked step m now part.AckOf2xx e is = after_ack_2xx_asked step (head_of m) e is
-  heard_asked step m now part.Stray e is = is
+  received_asked : (step : ℕ) (m : Message Start) (now : ℕ) (t : MessageClass) (e : Entry) → IsOfSentRequest asks e → IsOfSentRequest asks (change_on_receipt step m now t e)
+  received_asked step m now part.Fresh e is = is
+  received_asked step m now part.Full e is = is
+  received_asked step m now (part.Repeat key) e is = is
+  received_asked step m now (part.RepeatedFinal key) e is = is
+  received_asked step m now (part.Answer key) e is = change_of_key_asked key (after_response step (head_of m).status now) e is (after_response_asked step (head_of m).status now e is)
+  received_asked step m now (part.Acked key) e is = change_of_key_asked key (after_failure_ack step now) e is (after_failure_ack_asked step now e is)
+  received_asked step m now part.AckOf2xx e is = after_ack_2xx_asked step (head_of m) e is
+  received_asked step m now part.Stray e is = is
 
   change_asked : (step order : ℕ) (c : TransactionOp) (e : Entry) → IsOfSentRequest asks e → IsOfSentRequest asks (change step order c e)
   change_asked step order (DidBegin n) e is = is
-  change_asked step order (DidHear p m now t) e is = heard_asked step m now t e is
+  change_asked step order (DidHear p m now t) e is = received_asked step m now t e is
   change_asked step order (DidAsk p m now) e is = is
   change_asked step order (DidReply key m now) e is = change_of_key_asked key (after_any_reply step order m now) e is (after_any_reply_asked step order m now e is)
   change_asked step order (DidAck key m) e is = change_of_key_asked key (with_kept_ack (message_text m)) e is (with_kept_ack_asked (message_text m) e is)
@@ -233,19 +233,19 @@ later_asked : (c : TransactionOp) (h : List TransactionOp) (e : Entry) → IsOfS
 later_asked c h e is = record { client = λ none. let x = is.client none in (x.0, later c h e.peer x.0 x.1, x.2) }
 
 -- what an operation opens
-heard_new : (asks : List (Peer × Message Start)) (step key : ℕ) (p : Peer) (m : Message Start) (now : ℕ) (t : MessageClass) → Each (IsOfSentRequest asks) (opened_on_receipt step key p m now t)
-heard_new asks step key p m now part.Fresh = (record { client = λ none. absurd (true_false none) }, tt)
-heard_new asks step key p m now part.Full = tt
-heard_new asks step key p m now (part.Repeat k) = tt
-heard_new asks step key p m now (part.RepeatedFinal k) = tt
-heard_new asks step key p m now (part.Answer k) = tt
-heard_new asks step key p m now (part.Acked k) = tt
-heard_new asks step key p m now part.AckOf2xx = tt
-heard_new asks step key p m now part.Stray = tt
+received_new : (asks : List (Peer × Message Start)) (step key : ℕ) (p : Peer) (m : Message Start) (now : ℕ) (t : MessageClass) → Each (IsOfSentRequest asks) (opened_on_receipt step key p m now t)
+received_new asks step key p m now part.Fresh = (record { client = λ none. absurd (true_false none) }, tt)
+received_new asks step key p m now part.Full = tt
+received_new asks step key p m now (part.Repeat k) = tt
+received_new asks step key p m now (part.RepeatedFinal k) = tt
+received_new asks step key p m now (part.Answer k) = tt
+received_new asks step key p m now (part.Acked k) = tt
+received_new asks step key p m now part.AckOf2xx = tt
+received_new asks step key p m now part.Stray = tt
 
 new_asked : (step order key : ℕ) (c : TransactionOp) (h : List TransactionOp) → Each (IsOfSentRequest (asks_of (c ∷ h))) (opens step order key c)
 new_asked step order key (DidBegin n) h = tt
-new_asked step order key (DidHear p m now t) h = heard_new (asks_of h) step key p m now t
+new_asked step order key (DidHear p m now t) h = received_new (asks_of h) step key p m now t
 new_asked step order key (DidAsk p m now) h = (record { client = λ none. (m, inl (refl, refl), refl) }, tt)
 new_asked step order key (DidReply k m now) h = tt
 new_asked step order key (DidAck k m) h = tt

@@ -248,8 +248,8 @@ module _ (was : List ℕ → Peer → Type 0) (config : ConferenceConfigView) (t
 
   -- ---- steps
 
-  abbrev AllLoose : List AbandonedInvite → Type 0
-  AllLoose ls = Each (AbandonedWasSent was) ls
+  abbrev AllAbandonedSent : List AbandonedInvite → Type 0
+  AllAbandonedSent ls = Each (AbandonedWasSent was) ls
 
   abbrev SeatIs : ParticipantState → Type 0
   SeatIs seat = ParticipantWasSent was seat
@@ -261,7 +261,7 @@ module _ (was : List ℕ → Peer → Type 0) (config : ConferenceConfigView) (t
   pub record Moves (P : Type 0) (s later : StepResult) : Type 0 where
     pub output_in : Goes s.effects.output later.effects.output
     pub room_in : AllWereSent later.effects.output.out → P → RoomIs s.conference → RoomIs later.conference
-    pub abandoned_in : AllWereSent later.effects.output.out → P → RoomIs s.conference → AllLoose s.effects.abandoned → AllLoose later.effects.abandoned
+    pub abandoned_in : AllWereSent later.effects.output.out → P → RoomIs s.conference → AllAbandonedSent s.effects.abandoned → AllAbandonedSent later.effects.abandoned
 
   same : (P : Type 0) (s : StepResult) → Moves P s s
   same P s = record { output_in = stays s.effects.output; room_in = λ all p room. room; abandoned_in = λ all p room abandoned. abandoned }
@@ -311,28 +311,28 @@ module _ (was : List ℕ → Peer → Type 0) (config : ConferenceConfigView) (t
 
   -- ---- NOTIFY
 
-  told_sent : (party : Party) (invite : Option Invite) → ParticipantInviteWasSent was (leg_of party).dialogue.peer invite → ParticipantInviteWasSent was (leg_of (seats.party_after_notify party)).dialogue.peer invite
-  told_sent (Invited leg) invite is = is
-  told_sent (DialedIn leg) invite is = is
-  told_sent (DialedOut leg) invite is = is
+  notified_sent : (party : Party) (invite : Option Invite) → ParticipantInviteWasSent was (leg_of party).dialogue.peer invite → ParticipantInviteWasSent was (leg_of (seats.party_after_notify party)).dialogue.peer invite
+  notified_sent (Invited leg) invite is = is
+  notified_sent (DialedIn leg) invite is = is
+  notified_sent (DialedOut leg) invite is = is
 
   notified_goes : (room : RoomNo) (goes_on : Bool) (line : List ℕ) (party : Party) (output : StepOutput) → Goes output (seats.with_notify_to_party config room goes_on line party output)
   notified_goes room goes_on line (Invited leg) output = stays output
   notified_goes room goes_on line (DialedIn leg) output = notify_goes leg.dialogue (notify_lines config.sip room goes_on) (sipfrag line) output
   notified_goes room goes_on line (DialedOut leg) output = notify_goes leg.dialogue (notify_lines config.sip room goes_on) (sipfrag line) output
 
-  told_moves : (goes_on : Bool) (line : List ℕ) → RowMoves (seats.after_notify config goes_on line)
-  told_moves goes_on line place seat s =
+  notified_moves : (goes_on : Bool) (line : List ℕ) → RowMoves (seats.after_notify config goes_on line)
+  notified_moves goes_on line place seat s =
       then_moves (SeatIs seat) (Unit {0}) s (with_participant place (seats.participant_after_notify seat) s) _
-      (with_participant_moves seat (seats.participant_after_notify seat) place s (told_sent seat.party seat.invite)) (λ p. tt)
+      (with_participant_moves seat (seats.participant_after_notify seat) place s (notified_sent seat.party seat.invite)) (λ p. tt)
       (output_moves (Unit {0}) (seats.with_notify_to_party config s.conference.number goes_on line seat.party s.effects.output) (with_participant place (seats.participant_after_notify seat) s) (notified_goes s.conference.number goes_on line seat.party s.effects.output))
 
-  told_to_moves : (P : Type 0) (goes_on : Bool) (line : List ℕ) (number : ℕ) (s : StepResult) → Moves P s (seats.after_notify_to config goes_on line number s)
-  told_to_moves P goes_on line number s = at_place_moves P (seats.after_notify config goes_on line) (told_moves goes_on line) (seats.place_of number s.conference.participants) s
+  notified_to_moves : (P : Type 0) (goes_on : Bool) (line : List ℕ) (number : ℕ) (s : StepResult) → Moves P s (seats.after_notify_to config goes_on line number s)
+  notified_to_moves P goes_on line number s = at_place_moves P (seats.after_notify config goes_on line) (notified_moves goes_on line) (seats.place_of number s.conference.participants) s
 
-  told_by_moves : (P : Type 0) (goes_on : Bool) (line : List ℕ) (by : Option ℕ) (s : StepResult) → Moves P s (seats.after_notify_referrer config goes_on line by s)
-  told_by_moves P goes_on line None s = same P s
-  told_by_moves P goes_on line (Some number) s = told_to_moves P goes_on line number s
+  notified_by_moves : (P : Type 0) (goes_on : Bool) (line : List ℕ) (by : Option ℕ) (s : StepResult) → Moves P s (seats.after_notify_referrer config goes_on line by s)
+  notified_by_moves P goes_on line None s = same P s
+  notified_by_moves P goes_on line (Some number) s = notified_to_moves P goes_on line number s
 
   -- ---- a participant leaves
 
@@ -340,18 +340,18 @@ module _ (was : List ℕ → Peer → Type 0) (config : ConferenceConfigView) (t
   filed_goes now None output = stays output
   filed_goes now (Some meter) output = record { sent = λ all. all; counted = λ had. record { same = had.same; out_in = had.out_in } }
 
-  loosened_sent : (had_bye : Bool) (party : Party) (invite : Option Invite) → ParticipantInviteWasSent was (leg_of party).dialogue.peer invite → AllLoose (seats.abandoned_of_invite had_bye party invite)
-  loosened_sent had_bye party None is = tt
-  loosened_sent had_bye (Invited leg) (Some (Outstanding number i)) is = (is.0, tt)
-  loosened_sent had_bye (DialedIn leg) (Some (Outstanding number i)) is = (is.1, tt)
-  loosened_sent had_bye (DialedOut leg) (Some (Outstanding number i)) is = (is.1, tt)
-  loosened_sent had_bye party (Some (Accepted branch tag ack)) is = tt
+  abandoned_sent : (had_bye : Bool) (party : Party) (invite : Option Invite) → ParticipantInviteWasSent was (leg_of party).dialogue.peer invite → AllAbandonedSent (seats.abandoned_of_invite had_bye party invite)
+  abandoned_sent had_bye party None is = tt
+  abandoned_sent had_bye (Invited leg) (Some (Outstanding number i)) is = (is.0, tt)
+  abandoned_sent had_bye (DialedIn leg) (Some (Outstanding number i)) is = (is.1, tt)
+  abandoned_sent had_bye (DialedOut leg) (Some (Outstanding number i)) is = (is.1, tt)
+  abandoned_sent had_bye party (Some (Accepted branch tag ack)) is = tt
 
   left_moves : (now : ℕ) (had_bye : Bool) → RowMoves (seats.after_leave now had_bye)
   left_moves now had_bye place seat s = record {
     output_in = filed_goes now (leg_of seat.party).meter s.effects.output;
     room_in = λ all p room. each_removed SeatIs s.conference.participants place room;
-    abandoned_in = λ all p room abandoned. each_append (AbandonedWasSent was) s.effects.abandoned (seats.abandoned_of_invite had_bye seat.party seat.invite) abandoned (loosened_sent had_bye seat.party seat.invite p);
+    abandoned_in = λ all p room abandoned. each_append (AbandonedWasSent was) s.effects.abandoned (seats.abandoned_of_invite had_bye seat.party seat.invite) abandoned (abandoned_sent had_bye seat.party seat.invite p);
   }
 
   with_bye_sent : (party : Party) (d : Dialogue) (invite : Option Invite) → d.peer ≡ (leg_of party).dialogue.peer → ParticipantInviteWasSent was (leg_of party).dialogue.peer invite → ParticipantInviteWasSent was (leg_of (seats.with_leg (record (leg_of party) { dialogue = d }) party)).dialogue.peer invite
@@ -362,18 +362,18 @@ module _ (was : List ℕ → Peer → Type 0) (config : ConferenceConfigView) (t
   -- the output for one that gets its BYE, or none
   record Departs (seat : ParticipantState) (e later : Effects) : Type 0 where
     pub output_in : Goes e.output later.output
-    pub abandoned_in : SeatIs seat → AllLoose e.abandoned → AllLoose later.abandoned
+    pub abandoned_in : SeatIs seat → AllAbandonedSent e.abandoned → AllAbandonedSent later.abandoned
 
   dismissed_by : (now : ℕ) (b : Bool) (seat : ParticipantState) (e : Effects) → Departs seat e
       (if b then seats.effects_of_leave now true (seats.participant_after_bye seat) (record e { output = with_bye config.sip (dialogue_of seat) e.output }) else seats.effects_of_leave now false seat e)
   dismissed_by now true seat e = record {
     output_in = then_goes e.output (with_bye config.sip (dialogue_of seat) e.output) _ (with_bye_goes (dialogue_of seat) e.output) (filed_goes now (leg_of (seats.participant_after_bye seat).party).meter (with_bye config.sip (dialogue_of seat) e.output));
     abandoned_in = λ p abandoned. each_append (AbandonedWasSent was) e.abandoned (seats.abandoned_of_invite true (seats.participant_after_bye seat).party seat.invite) abandoned
-        (loosened_sent true (seats.participant_after_bye seat).party seat.invite (with_bye_sent seat.party _ seat.invite refl p));
+        (abandoned_sent true (seats.participant_after_bye seat).party seat.invite (with_bye_sent seat.party _ seat.invite refl p));
   }
   dismissed_by now false seat e = record {
     output_in = filed_goes now (leg_of seat.party).meter e.output;
-    abandoned_in = λ p abandoned. each_append (AbandonedWasSent was) e.abandoned (seats.abandoned_of_invite false seat.party seat.invite) abandoned (loosened_sent false seat.party seat.invite p);
+    abandoned_in = λ p abandoned. each_append (AbandonedWasSent was) e.abandoned (seats.abandoned_of_invite false seat.party seat.invite) abandoned (abandoned_sent false seat.party seat.invite p);
   }
 
   dismissed_moves : (now : ℕ) → RowMoves (seats.after_dismissal config now)
@@ -399,10 +399,10 @@ module _ (was : List ℕ → Peer → Type 0) (config : ConferenceConfigView) (t
 
   with_new_in : (P : Type 0) (new : ParticipantState) (s later : StepResult) → later.conference ≡ joining.with_new_participant new s.conference → later.effects.abandoned ≡ s.effects.abandoned →
       Goes s.effects.output later.effects.output → (AllWereSent later.effects.output.out → SeatIs new) → Moves P s later
-  with_new_in P new s later room_is loose_is goes is = record {
+  with_new_in P new s later room_is abandoned_is goes is = record {
     output_in = goes;
     room_in = λ all p room. subst RoomIs (sym room_is) (each_append SeatIs s.conference.participants (new ∷ []) room (is all, tt));
-    abandoned_in = λ all p room abandoned. subst AllLoose (sym loose_is) abandoned;
+    abandoned_in = λ all p room abandoned. subst AllAbandonedSent (sym abandoned_is) abandoned;
   }
 
   agreed_goes : (now : ℕ) (room : RoomNo) (seat number : ℕ) (key : TKey) (m : MessageView) (tag : List ℕ) (output : StepOutput) → Goes output (joining.with_accepted_invite config now room seat number key m tag output)
@@ -429,17 +429,17 @@ module _ (was : List ℕ → Peer → Type 0) (config : ConferenceConfigView) (t
       let sent_one : was (token third) d.peer = each_last AskWasSent s.effects.output.out (emit.Ask d.peer m) (each_first AskWasSent asked.out (arm ∷ []) all) (token third) is in
       (sent_one, sent_one))
 
-  told_failure_moves : (P : Type 0) (by code : ℕ) (s : StepResult) → Moves P s (joining.after_failure_notify config by code s)
-  told_failure_moves P by code s = told_to_moves P false (own_status code) by s
+  notified_failure_moves : (P : Type 0) (by code : ℕ) (s : StepResult) → Moves P s (joining.after_failure_notify config by code s)
+  notified_failure_moves P by code s = notified_to_moves P false (own_status code) by s
 
   invited_at_moves : (P : Type 0) (now by : ℕ) (o : Option Peer) (u : Uri) (s : StepResult) → Moves P s (joining.after_invite_if_peer config now by o u s)
-  invited_at_moves P now by None u s = told_failure_moves P by 404 s
+  invited_at_moves P now by None u s = notified_failure_moves P by 404 s
   invited_at_moves P now by (Some peer) u s =
-      if_moves P (is_full s.conference) s (joining.after_failure_notify config by 503 s) (joining.after_invite config now by peer u s) (told_failure_moves P by 503 s) (invited_in_moves P now by _ _ s)
+      if_moves P (is_full s.conference) s (joining.after_failure_notify config by 503 s) (joining.after_invite config now by peer u s) (notified_failure_moves P by 503 s) (invited_in_moves P now by _ _ s)
 
   bidden_moves : (P : Type 0) (now by : ℕ) (o : Option Uri) (s : StepResult) → Moves P s (joining.after_refer config now by o s)
   unfolding joining.after_refer
-  bidden_moves P now by None s = told_failure_moves P by 404 s
+  bidden_moves P now by None s = notified_failure_moves P by 404 s
   bidden_moves P now by (Some u) s = invited_at_moves P now by (route_of u config.peers.routes) u s
 
   adopted_sent : (meter : Option MeterView) (leg : Released) (branch : List ℕ) (number : ℕ) → was branch (released_leg leg).dialogue.peer →
@@ -495,38 +495,38 @@ module _ (was : List ℕ → Peer → Type 0) (config : ConferenceConfigView) (t
       let one : StepResult = requests.after_accepted_refer config key m place seat s in
       let two : StepResult = requests.after_trying config seat.number one in
       then_moves (SeatIs seat) (SeatIs seat) s one (joining.after_refer config now seat.number u two) (accepted_moves key m place seat s) (λ p. p)
-      (then_moves (SeatIs seat) (SeatIs seat) one two (joining.after_refer config now seat.number u two) (told_to_moves (SeatIs seat) true (own_status 100) seat.number one) (λ p. p) (bidden_moves (SeatIs seat) now seat.number u two))
+      (then_moves (SeatIs seat) (SeatIs seat) one two (joining.after_refer config now seat.number u two) (notified_to_moves (SeatIs seat) true (own_status 100) seat.number one) (λ p. p) (bidden_moves (SeatIs seat) now seat.number u two))
   on_referral_moves now key m (referral.Replace r) place seat s = accepted_moves key m place seat s
 
-  on_heard_moves : (now : ℕ) (key : TKey) (m : MessageView) → RowMoves (requests.on_request_in_order config now key m)
-  on_heard_moves now key m place seat s =
+  on_received_moves : (now : ℕ) (key : TKey) (m : MessageView) → RowMoves (requests.on_request_in_order config now key m)
+  on_received_moves now key m place seat s =
       if_moves (SeatIs seat) (is_method (codes "INVITE") m.parsed.start) s _ _ (on_invite_moves now key m place seat s)
       (if_moves (SeatIs seat) (is_method (codes "BYE") m.parsed.start) s _ _ (on_bye_moves now key m place seat s)
       (if_moves (SeatIs seat) (is_method (codes "REFER") m.parsed.start) s _ _ (on_referral_moves now key m (referral_in m.parsed.refer_to) place seat s)
       (if_moves (SeatIs seat) (is_method (codes "OPTIONS") m.parsed.start) s _ _ (answered_moves key m 200 (allow_lines config.methods) place seat s) (refused_moves key m 481 place seat s))))
 
-  unheard_moves : (key : TKey) (m : MessageView) (fault : DialogueFault) → RowMoves (requests.after_out_of_order config key m fault)
-  unheard_moves key m (OldCSeq last) place seat s = refused_moves key m 500 place seat s
-  unheard_moves key m Pending place seat s = refused_moves key m 491 place seat s
-  unheard_moves key m Unfinished place seat s = answered_moves key m 500 retry_after_lines place seat s
+  refused_request_moves : (key : TKey) (m : MessageView) (fault : DialogueFault) → RowMoves (requests.after_out_of_order config key m fault)
+  refused_request_moves key m (OldCSeq last) place seat s = refused_moves key m 500 place seat s
+  refused_request_moves key m Pending place seat s = refused_moves key m 491 place seat s
+  refused_request_moves key m Unfinished place seat s = answered_moves key m 500 retry_after_lines place seat s
 
-  heard_sent : (party : Party) (m : MessageView) (invite : Option Invite) → ParticipantInviteWasSent was (leg_of party).dialogue.peer invite →
+  received_sent : (party : Party) (m : MessageView) (invite : Option Invite) → ParticipantInviteWasSent was (leg_of party).dialogue.peer invite →
       ParticipantInviteWasSent was (leg_of (seats.with_leg (requests.leg_after_request m (leg_of party)) party)).dialogue.peer invite
-  heard_sent (Invited leg) m invite is = is
-  heard_sent (DialedIn leg) m invite is = is
-  heard_sent (DialedOut leg) m invite is = is
+  received_sent (Invited leg) m invite is = is
+  received_sent (DialedIn leg) m invite is = is
+  received_sent (DialedOut leg) m invite is = is
 
-  on_hearing_moves : (now : ℕ) (key : TKey) (m : MessageView) (r : Result (Unit {0}) DialogueFault) → RowMoves (requests.on_checked_request config now key m r)
-  on_hearing_moves now key m (Err fault) place seat s = unheard_moves key m fault place seat s
-  on_hearing_moves now key m (Ok received) place seat s =
+  on_receiving_moves : (now : ℕ) (key : TKey) (m : MessageView) (r : Result (Unit {0}) DialogueFault) → RowMoves (requests.on_checked_request config now key m r)
+  on_receiving_moves now key m (Err fault) place seat s = refused_request_moves key m fault place seat s
+  on_receiving_moves now key m (Ok received) place seat s =
       let one : StepResult = with_participant place (requests.participant_after_request m seat) s in
-      then_moves (SeatIs seat) (Unit {0}) s one (at_participant (requests.on_request_in_order config now key m) place one) (with_participant_moves seat (requests.participant_after_request m seat) place s (heard_sent seat.party m seat.invite)) (λ p. tt)
-      (at_participant_moves (Unit {0}) (requests.on_request_in_order config now key m) (on_heard_moves now key m) place one)
+      then_moves (SeatIs seat) (Unit {0}) s one (at_participant (requests.on_request_in_order config now key m) place one) (with_participant_moves seat (requests.participant_after_request m seat) place s (received_sent seat.party m seat.invite)) (λ p. tt)
+      (at_participant_moves (Unit {0}) (requests.on_request_in_order config now key m) (on_received_moves now key m) place one)
 
   on_request_moves : (now : ℕ) (key : TKey) (m : MessageView) → RowMoves (requests.on_request config now key m)
   unfolding requests.on_request
   on_request_moves now key m place seat s =
-      if_moves (SeatIs seat) (is_connected seat) s _ _ (on_hearing_moves now key m (requests.request_check (leg_of seat.party) m (requests.invite_in_flight seat)) place seat s) (refused_moves key m 481 place seat s)
+      if_moves (SeatIs seat) (is_connected seat) s _ _ (on_receiving_moves now key m (requests.request_check (leg_of seat.party) m (requests.invite_in_flight seat)) place seat s) (refused_moves key m 481 place seat s)
 
   on_ack_moves : (m : MessageView) → RowMoves (requests.on_ack m)
   unfolding requests.on_ack
@@ -575,12 +575,12 @@ module _ (was : List ℕ → Peer → Type 0) (config : ConferenceConfigView) (t
       then_moves (SeatIs seat) (Unit {0}) s one (answers.on_success config now m place seat s) (standing_moves now (remote_of Callee m.parsed.lines) place seat s) (λ p. tt)
       (then_moves (Unit {0}) (Unit {0}) one two (answers.on_success config now m place seat s)
       (at_participant_moves (Unit {0}) (answers.after_own_ack config (answers.to_tag_of m)) (acknowledged_moves (answers.to_tag_of m)) place one) (λ p. p)
-      (told_by_moves (Unit {0}) false (own_status 200) seat.by two))
+      (notified_by_moves (Unit {0}) false (own_status 200) seat.by two))
 
   ended_without_moves : (now : ℕ) (line : List ℕ) → RowMoves (answers.after_end config now line)
   ended_without_moves now line place seat s =
       then_moves (SeatIs seat) (SeatIs seat) s (seats.after_dismissal config now place seat s) (answers.after_end config now line place seat s) (dismissed_moves now place seat s) (λ p. p)
-      (told_by_moves (SeatIs seat) false line seat.by (seats.after_dismissal config now place seat s))
+      (notified_by_moves (SeatIs seat) false line seat.by (seats.after_dismissal config now place seat s))
 
   ended_unasked_moves : (now : ℕ) (line : List ℕ) → RowMoves (answers.after_invite_end config now line)
   ended_unasked_moves now line place seat s =
@@ -659,16 +659,16 @@ module _ (was : List ℕ → Peer → Type 0) (config : ConferenceConfigView) (t
 
   -- ---- the participants of a table
 
-  hears_moves : (now : ℕ) (received : ParticipantSignal) → RowMoves (tables.step_of_participant config now received)
+  receives_moves : (now : ℕ) (received : ParticipantSignal) → RowMoves (tables.step_of_participant config now received)
   unfolding tables.step_of_participant
-  hears_moves now (of_seat.Request key request) place seat s = on_request_moves now key request place seat s
-  hears_moves now (of_seat.Ack ack) place seat s = on_ack_moves ack place seat s
-  hears_moves now (of_seat.Answer key response) place seat s = on_answer_moves now key response place seat s
-  hears_moves now of_seat.Silent place seat s = on_silence_moves now place seat s
-  hears_moves now (of_seat.Due what) place seat s = on_due_moves now what place seat s
+  receives_moves now (of_seat.Request key request) place seat s = on_request_moves now key request place seat s
+  receives_moves now (of_seat.Ack ack) place seat s = on_ack_moves ack place seat s
+  receives_moves now (of_seat.Answer key response) place seat s = on_answer_moves now key response place seat s
+  receives_moves now of_seat.Silent place seat s = on_silence_moves now place seat s
+  receives_moves now (of_seat.Due what) place seat s = on_due_moves now what place seat s
 
-  heard_moves : (now : ℕ) (whose : ParticipantState → Bool) (received : ParticipantSignal) (s : StepResult) → Moves (Unit {0}) s (tables.step_of_first config now whose received s)
-  heard_moves now whose received s = at_place_moves (Unit {0}) (tables.step_of_participant config now received) (hears_moves now received) (position whose s.conference.participants) s
+  received_moves : (now : ℕ) (whose : ParticipantState → Bool) (received : ParticipantSignal) (s : StepResult) → Moves (Unit {0}) s (tables.step_of_first config now whose received s)
+  received_moves now whose received s = at_place_moves (Unit {0}) (tables.step_of_participant config now received) (receives_moves now received) (position whose s.conference.participants) s
 
   -- ---- a table
 
@@ -679,7 +679,7 @@ module _ (was : List ℕ → Peer → Type 0) (config : ConferenceConfigView) (t
   pub record Steps (live : List Conference) (e : Effects) (later : List Conference) (f : Effects) : Type 0 where
     pub output_in : Goes e.output f.output
     pub live_in : AllWereSent f.output.out → LiveIs live → LiveIs later
-    pub abandoned_in : AllWereSent f.output.out → LiveIs live → AllLoose e.abandoned → AllLoose f.abandoned
+    pub abandoned_in : AllWereSent f.output.out → LiveIs live → AllAbandonedSent e.abandoned → AllAbandonedSent f.abandoned
 
   unmoved : (live : List Conference) (e : Effects) → Steps live e live e
   unmoved live e = record { output_in = stays e.output; live_in = λ all is. is; abandoned_in = λ all is abandoned. abandoned }
@@ -736,8 +736,8 @@ module _ (was : List ℕ → Peer → Type 0) (config : ConferenceConfigView) (t
   pub record MovesTable (live : List Conference) (abandoned : List AbandonedInvite) (e : Effects) (later : TableStep) : Type 0 where
     pub output_in : Goes e.output later.effects.output
     pub live_in : AllWereSent later.effects.output.out → LiveIs live → LiveIs later.live
-    pub abandoned_in : AllLoose abandoned → AllLoose later.abandoned
-    pub new_in : AllWereSent later.effects.output.out → LiveIs live → AllLoose e.abandoned → AllLoose later.effects.abandoned
+    pub abandoned_in : AllAbandonedSent abandoned → AllAbandonedSent later.abandoned
+    pub new_in : AllWereSent later.effects.output.out → LiveIs live → AllAbandonedSent e.abandoned → AllAbandonedSent later.effects.abandoned
 
   beside : (live : List Conference) (abandoned : List AbandonedInvite) (e : Effects) (s : ConferenceStep) → Steps live e s.live s.effects → MovesTable live abandoned e (tables.with_abandoned abandoned s)
   beside live abandoned e s m = record { output_in = m.output_in; live_in = m.live_in; abandoned_in = λ is. is; new_in = m.abandoned_in }
@@ -745,7 +745,7 @@ module _ (was : List ℕ → Peer → Type 0) (config : ConferenceConfigView) (t
   -- what remains of one
   record Rests (l : AbandonedInvite) (output : StepOutput) (rest : AfterResponse) : Type 0 where
     pub output_in : Goes output rest.output
-    pub remaining_in : AbandonedWasSent was l → AllLoose (option_to_list rest.remaining)
+    pub remaining_in : AbandonedWasSent was l → AllAbandonedSent (option_to_list rest.remaining)
 
   rest_late : (b : Bool) (l : AbandonedInvite) (output : StepOutput) → Rests l output
       (if b then record { remaining = Some l; output = output } else record { remaining = Some (with_invite l (record l.invite { cancelled = true })); output = with_cancel config.sip l.invite output })
@@ -770,10 +770,10 @@ module _ (was : List ℕ → Peer → Type 0) (config : ConferenceConfigView) (t
       (if_rest (nat_lt (status_of m.start) 300) l output _ _ (record { output_in = success.output_in; remaining_in = success.remaining_in })
       (record { output_in = emit_goes _ output (λ n. refl); remaining_in = λ is. tt }))
 
-  answered_loose : (key : TKey) (m : MessageView) (place : ℕ) (o : Option AbandonedInvite) (live : List Conference) (abandoned : List AbandonedInvite) (e : Effects) → slice_get abandoned place ≡ o →
+  answered_abandoned : (key : TKey) (m : MessageView) (place : ℕ) (o : Option AbandonedInvite) (live : List Conference) (abandoned : List AbandonedInvite) (e : Effects) → slice_get abandoned place ≡ o →
       MovesTable live abandoned e (tables.step_of_abandoned_response config.sip key m place o live abandoned e)
-  answered_loose key m place None live abandoned e is = beside live abandoned e (tables.unchanged_step live e) (unmoved live e)
-  answered_loose key m place (Some l) live abandoned e is =
+  answered_abandoned key m place None live abandoned e is = beside live abandoned e (tables.unchanged_step live e) (unmoved live e)
+  answered_abandoned key m place (Some l) live abandoned e is =
       let rest : AfterResponse = left_ones.on_response config.sip key m.parsed l e.output in
       let r = rest_of key m.parsed l e.output in
       record {
@@ -784,20 +784,20 @@ module _ (was : List ℕ → Peer → Type 0) (config : ConferenceConfigView) (t
         new_in = λ all each new. new;
       }
 
-  heard_of : (now : ℕ) (branch : List ℕ) (received : ParticipantSignal) (live : List Conference) (abandoned : List AbandonedInvite) (e : Effects) →
+  received_of : (now : ℕ) (branch : List ℕ) (received : ParticipantSignal) (live : List Conference) (abandoned : List AbandonedInvite) (e : Effects) →
       MovesTable live abandoned e (tables.with_abandoned abandoned (tables.step_by_branch config now branch received live e))
-  heard_of now branch received live abandoned e =
-      beside live abandoned e _ (stepped_in (tables.step_of_first config now (tables.participant_has_branch branch) received) (λ s. heard_moves now (tables.participant_has_branch branch) received s) (position (tables.conference_has_branch branch) live) live e)
+  received_of now branch received live abandoned e =
+      beside live abandoned e _ (stepped_in (tables.step_of_first config now (tables.participant_has_branch branch) received) (λ s. received_moves now (tables.participant_has_branch branch) received s) (position (tables.conference_has_branch branch) live) live e)
 
-  heard_in : (now room seat : ℕ) (received : ParticipantSignal) (live : List Conference) (abandoned : List AbandonedInvite) (e : Effects) →
+  received_in : (now room seat : ℕ) (received : ParticipantSignal) (live : List Conference) (abandoned : List AbandonedInvite) (e : Effects) →
       MovesTable live abandoned e (tables.with_abandoned abandoned (tables.step_by_number config now room seat received live e))
-  heard_in now room seat received live abandoned e =
-      beside live abandoned e _ (stepped_in (tables.step_of_first config now (seats.has_seat_number seat) received) (λ s. heard_moves now (seats.has_seat_number seat) received s) (tables.place_of room live) live e)
+  received_in now room seat received live abandoned e =
+      beside live abandoned e _ (stepped_in (tables.step_of_first config now (seats.has_seat_number seat) received) (λ s. received_moves now (seats.has_seat_number seat) received s) (tables.place_of room live) live e)
 
   answered_at : (now : ℕ) (key : TKey) (m : MessageView) (branch : List ℕ) (o : Option ℕ) (live : List Conference) (abandoned : List AbandonedInvite) (e : Effects) →
       MovesTable live abandoned e (tables.step_of_response_at config now key m branch o live abandoned e)
-  answered_at now key m branch None live abandoned e = heard_of now branch (of_seat.Answer key m) live abandoned e
-  answered_at now key m branch (Some place) live abandoned e = answered_loose key m place (slice_get abandoned place) live abandoned e refl
+  answered_at now key m branch None live abandoned e = received_of now branch (of_seat.Answer key m) live abandoned e
+  answered_at now key m branch (Some place) live abandoned e = answered_abandoned key m place (slice_get abandoned place) live abandoned e refl
 
   answered_by : (now : ℕ) (key : TKey) (m : MessageView) (o : Option (List ℕ)) (live : List Conference) (abandoned : List AbandonedInvite) (e : Effects) →
       MovesTable live abandoned e (tables.step_of_response config now key m o live abandoned e)
@@ -806,7 +806,7 @@ module _ (was : List ℕ → Peer → Type 0) (config : ConferenceConfigView) (t
 
   silenced_at : (now : ℕ) (branch : List ℕ) (o : Option ℕ) (live : List Conference) (abandoned : List AbandonedInvite) (e : Effects) →
       MovesTable live abandoned e (tables.step_of_timeout_at config now branch o live abandoned e)
-  silenced_at now branch None live abandoned e = heard_of now branch of_seat.Silent live abandoned e
+  silenced_at now branch None live abandoned e = received_of now branch of_seat.Silent live abandoned e
   silenced_at now branch (Some place) live abandoned e = record { output_in = stays e.output; live_in = λ all each. each; abandoned_in = λ each. each_without_at (AbandonedWasSent was) place abandoned each; new_in = λ all each new. new }
 
   silenced_by : (now : ℕ) (o : Option (List ℕ)) (live : List Conference) (abandoned : List AbandonedInvite) (e : Effects) → MovesTable live abandoned e (tables.step_of_timeout config now o live abandoned e)
@@ -815,11 +815,11 @@ module _ (was : List ℕ → Peer → Type 0) (config : ConferenceConfigView) (t
 
   taken_moves : (now : ℕ) (x : RoomSignal) (live : List Conference) (abandoned : List AbandonedInvite) (e : Effects) → MovesTable live abandoned e (tables.step_of_signal config now x live abandoned e)
   unfolding tables.step_of_signal
-  taken_moves now (signal.Request room seat key request) live abandoned e = heard_in now room.0 seat (of_seat.Request key request) live abandoned e
-  taken_moves now (signal.Ack room seat ack) live abandoned e = heard_in now room.0 seat (of_seat.Ack ack) live abandoned e
+  taken_moves now (signal.Request room seat key request) live abandoned e = received_in now room.0 seat (of_seat.Request key request) live abandoned e
+  taken_moves now (signal.Ack room seat ack) live abandoned e = received_in now room.0 seat (of_seat.Ack ack) live abandoned e
   taken_moves now (signal.Answer key response) live abandoned e = answered_by now key response (awaited_request_branch response) live abandoned e
   taken_moves now (signal.Silent branch method) live abandoned e = silenced_by now (timed_out_branch branch method) live abandoned e
-  taken_moves now (signal.Due room seat what) live abandoned e = heard_in now room.0 seat (of_seat.Due what) live abandoned e
+  taken_moves now (signal.Due room seat what) live abandoned e = received_in now room.0 seat (of_seat.Due what) live abandoned e
   taken_moves now (signal.Over key) live abandoned e = record {
     output_in = stays e.output;
     live_in = λ all each. each;
@@ -896,7 +896,7 @@ module _ (was : List ℕ → Peer → Type 0) (config : ConferenceConfigView) (t
       Steps live e (tables.step_of_notify config room seat code live e).live (tables.step_of_notify config room seat code live e).effects
   unfolding tables.step_of_notify
   notified_in room seat code live e =
-      stays_in (seats.after_notify_to config (tables.is_provisional code) (own_status code) seat) (λ s. told_to_moves (Unit {0}) (tables.is_provisional code) (own_status code) seat s) (tables.place_of room live) live e
+      stays_in (seats.after_notify_to config (tables.is_provisional code) (own_status code) seat) (λ s. notified_to_moves (Unit {0}) (tables.is_provisional code) (own_status code) seat s) (tables.place_of room live) live e
 
   quiet_does : (op : TableOp) (table : Table) → histories.effects_of config op table ≡ no_effects (tokens_of_op op) →
       (TableWasSent was table → TableWasSent was (histories.table_after_op config op table)) → Does op table
@@ -934,12 +934,12 @@ module _ (one two : List ℕ → Peer → Type 0) (more : (branch : List ℕ) (p
   live_more [] e = tt
   live_more (room ∷ live) e = (seats_more room.participants e.0, live_more live e.1)
 
-  loose_more : (ls : List AbandonedInvite) → Each (AbandonedWasSent one) ls → Each (AbandonedWasSent two) ls
-  loose_more [] e = tt
-  loose_more (l ∷ ls) e = (more l.invite.branch l.invite.dialogue.peer e.0, loose_more ls e.1)
+  abandoned_more : (ls : List AbandonedInvite) → Each (AbandonedWasSent one) ls → Each (AbandonedWasSent two) ls
+  abandoned_more [] e = tt
+  abandoned_more (l ∷ ls) e = (more l.invite.branch l.invite.dialogue.peer e.0, abandoned_more ls e.1)
 
   pub table_more : (table : Table) → TableWasSent one table → TableWasSent two table
-  table_more table is = record { live_in = live_more table.live is.live_in; abandoned_in = loose_more table.abandoned is.abandoned_in }
+  table_more table is = record { live_in = live_more table.live is.live_in; abandoned_in = abandoned_more table.abandoned is.abandoned_in }
 
 -- ---- the theorem
 

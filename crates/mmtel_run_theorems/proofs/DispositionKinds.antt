@@ -155,14 +155,14 @@ is_call (InCall call side) = true
 is_call (InConference room seat) = false
 is_call (InSubscription sub) = false
 
-abbrev holder_or : DialogOwner → Option DialogOwner → DialogOwner
-holder_or other None = other
-holder_or other (Some x) = x
+abbrev owner_or : DialogOwner → Option DialogOwner → DialogOwner
+owner_or other None = other
+owner_or other (Some x) = x
 
 of_room : (b : Option SubNo) (o : Option (RoomNo × ℕ)) (x : CallNo × Side) → in_conference_or (in_subscription b) o ≡ Some (InCall x.0 x.1) → ⊥
 of_room None None x e = none_some DialogOwner (InCall x.0 x.1) e
-of_room (Some sub) None x e = true_false (sym (ap (λ (o : Option DialogOwner). is_call (holder_or (InCall x.0 x.1) o)) e))
-of_room b (Some y) x e = true_false (sym (ap (λ (o : Option DialogOwner). is_call (holder_or (InCall x.0 x.1) o)) e))
+of_room (Some sub) None x e = true_false (sym (ap (λ (o : Option DialogOwner). is_call (owner_or (InCall x.0 x.1) o)) e))
+of_room b (Some y) x e = true_false (sym (ap (λ (o : Option DialogOwner). is_call (owner_or (InCall x.0 x.1) o)) e))
 
 -- it is no call's where it has no owner, or is a subscription's
 pub of_nobody : (b : Option SubNo) (r : Option (RoomNo × ℕ)) (o : Option (CallNo × Side)) → in_call_or (in_conference_or (in_subscription b) r) o ≡ None → o ≡ None
@@ -171,11 +171,11 @@ of_nobody b r (Some y) e = let n : None ≡ Some (InCall y.0 y.1) = sym e in abs
 
 pub of_box : (b : Option SubNo) (r : Option (RoomNo × ℕ)) (o : Option (CallNo × Side)) (sub : SubNo) → in_call_or (in_conference_or (in_subscription b) r) o ≡ Some (InSubscription sub) → o ≡ None
 of_box b r None sub e = refl
-of_box b r (Some y) sub e = absurd (true_false (ap (λ (o : Option DialogOwner). is_call (holder_or (InSubscription sub) o)) e))
+of_box b r (Some y) sub e = absurd (true_false (ap (λ (o : Option DialogOwner). is_call (owner_or (InSubscription sub) o)) e))
 
 pub of_call : (b : Option SubNo) (r : Option (RoomNo × ℕ)) (o : Option (CallNo × Side)) (x : CallNo × Side) → in_call_or (in_conference_or (in_subscription b) r) o ≡ Some (InCall x.0 x.1) → o ≡ Some x
 of_call b r None x e = absurd (of_room b r x e)
-of_call b r (Some y) x e = ap (λ (o : Option DialogOwner). Some (call_in x (holder_or (InCall x.0 x.1) o))) e
+of_call b r (Some y) x e = ap (λ (o : Option DialogOwner). Some (call_in x (owner_or (InCall x.0 x.1) o))) e
 
 -- it has a tag of the server
 tagged_by : (c t f : Option (List ℕ)) (es : List Entry) (x : CallNo × Side) → find_dialog (name_by c t f) es ≡ Some x → is_none t ≡ false

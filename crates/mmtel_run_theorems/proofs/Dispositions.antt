@@ -144,14 +144,14 @@ module _ (d : Directory) (full : Bool) (m : ParsedMessage) where
       (either m.start (is_register m) _ _ (either m.start m.trusted _ _ (registers (to_account d.names.accounts m)) refl)
       (either m.start (is_subscribe m) Subscribe (Respond (plain_response 481)) tt refl))))
 
-  dialog-no_injection : (holder : DialogOwner) → DispositionHasNoInjection m.start (entry_into holder)
+  dialog-no_injection : (owner : DialogOwner) → DispositionHasNoInjection m.start (entry_into owner)
   dialog-no_injection (InCall call side) = tt
   dialog-no_injection (InConference room seat) = tt
   dialog-no_injection (InSubscription sub) = tt
 
   in-no_injection : (named : Option DialogOwner) → HasNoInjection (request_uri m.start) → DispositionHasNoInjection m.start (disposition_in d full named m)
   in-no_injection None uri = method-no_injection uri
-  in-no_injection (Some holder) uri = either m.start (is_subscribe m && is_of_no_subscription holder) (Respond (plain_response 481)) (entry_into holder) refl (dialog-no_injection holder)
+  in-no_injection (Some owner) uri = either m.start (is_subscribe m && is_of_no_subscription owner) (Respond (plain_response 481)) (entry_into owner) refl (dialog-no_injection owner)
 
   by-no_injection : (named : Option DialogOwner) (o : Option StatusResponse) → IfSome o ResponseHasNoInjection → (o ≡ None → HasNoInjection (request_uri m.start)) → DispositionHasNoInjection m.start (disposition_by d full named m o)
   by-no_injection named None h uri = in-no_injection named (uri refl)

@@ -9,7 +9,7 @@ use Rattle.mmtel_rules.specs.declared.values.Identities2.{Identities2}
 use Rattle.mmtel_sheet_values.specs.declared.values.Sheet.{Sheet}
 use Rattle.mmtel_sheet_values.specs.declared.values.Who.{Who}
 use Rattle.mmtel_trust.specs.Members.{IsIn}
-use Rattle.mmtel_run_theorems.specs.Mask.{identities_asked_by, parts_of}
+use Rattle.mmtel_run_theorems.specs.Mask.{identities_tested_by, parts_of}
 
 abbrev first_or : Bool → List Bool → Bool
 first_or b [] = b
@@ -41,10 +41,10 @@ module _ (f g : Who → Bool) where
       whole : map f (first ++ (second ++ ys)) ≡ map g (first ++ (second ++ ys))
       whole = sym (ap (map f) (append_assoc first second ys)) ∙ (e ∙ ap (map g) (append_assoc first second ys))
 
-  each : (records : List Sheet) → map f (identities_asked_by records) ≡ map g (identities_asked_by records) → (s : Sheet) → IsIn s records → MatchRulesEqually s f g
+  each : (records : List Sheet) → map f (identities_tested_by records) ≡ map g (identities_tested_by records) → (s : Sheet) → IsIn s records → MatchRulesEqually s f g
   each [] e s is = absurd is
-  each (r ∷ rs) e s (inl same) = subst (λ (x : Sheet). MatchRulesEqually x f g) same (one r (identities_asked_by rs) e)
-  each (r ∷ rs) e s (inr is) = each rs (back (parts_of r) (identities_asked_by rs) e) s is
+  each (r ∷ rs) e s (inl same) = subst (λ (x : Sheet). MatchRulesEqually x f g) same (one r (identities_tested_by rs) e)
+  each (r ∷ rs) e s (inr is) = each rs (back (parts_of r) (identities_tested_by rs) e) s is
 
-pub decide-equivalent : (records : List Sheet) (i j : Identities2) → has_identity i ≡ has_identity j → map (identity_holds i) (identities_asked_by records) ≡ map (identity_holds j) (identities_asked_by records) → AreDecidedEqually records i j
+pub decide-equivalent : (records : List Sheet) (i j : Identities2) → has_identity i ≡ has_identity j → map (identity_holds i) (identities_tested_by records) ≡ map (identity_holds j) (identities_tested_by records) → AreDecidedEqually records i j
 decide-equivalent records i j somebody answers = record { somebody = somebody; matches = each (identity_holds i) (identity_holds j) records answers }

@@ -60,11 +60,11 @@ IsOf key peer w = (z : Peer) → peer_by key.0 (live w.actions) ≡ Some z → z
 abbrev having_numbered : Option ℕ → Subscription → Subscription
 having_numbered number s = record s { leg = with_dialogue s.leg (record s.leg.dialogue { remote_cseq = last_after number s.leg.dialogue.remote_cseq }) }
 
-abbrev heard_at : SubNo → Option ℕ → Table → Table
-heard_at sub number table = record table { live = changed (is_numbered sub) (having_numbered number) table.live }
+abbrev received_at : SubNo → Option ℕ → Table → Table
+received_at sub number table = record table { live = changed (is_numbered sub) (having_numbered number) table.live }
 
-heard_same : (m n : MessageView) (sub : SubNo) (s t : Table) → ReadEquallyInDialog m n → s ≡ t → boxes.table_after_op (boxes.Receives sub (message_in m.parsed)) s ≡ boxes.table_after_op (boxes.Receives sub (message_in n.parsed)) t
-heard_same m n sub s t asks same = λ i. heard_at sub (asks.number i) (same i)
+received_same : (m n : MessageView) (sub : SubNo) (s t : Table) → ReadEquallyInDialog m n → s ≡ t → boxes.table_after_op (boxes.Receives sub (message_in m.parsed)) s ≡ boxes.table_after_op (boxes.Receives sub (message_in n.parsed)) t
+received_same m n sub s t asks same = λ i. received_at sub (asks.number i) (same i)
 
 request_check_same : (m n : MessageView) (o : Option Subscription) → ReadEquallyInDialog m n → request_check_of (message_in m.parsed) o ≡ request_check_of (message_in n.parsed) o
 request_check_same m n None asks = refl
@@ -269,7 +269,7 @@ module _ (law : TextsDecideNothing) (records : List Sheet) (d e : Directory) (to
         entering_by-alike sub (Err fault) v w its a = answers (plain_response 500) v w its a
         entering_by-alike sub (Ok done) v w its a =
             entered-alike sub (with_mailbox_op (boxes.Receives sub (message_in m.parsed)) v) (with_mailbox_op (boxes.Receives sub (message_in n.parsed)) w) its
-            (with_mailbox_op-equivalent (boxes.Receives sub (message_in m.parsed)) (boxes.Receives sub (message_in n.parsed)) v w (heard_same m n sub (subscriptions_in v) (subscriptions_in w) asks a.equivalent.subscriptions) a)
+            (with_mailbox_op-equivalent (boxes.Receives sub (message_in m.parsed)) (boxes.Receives sub (message_in n.parsed)) v w (received_same m n sub (subscriptions_in v) (subscriptions_in w) asks a.equivalent.subscriptions) a)
 
         pub entering_box-alike : (sub : SubNo) (v w : RunState) → IsOf key n.peer w → Two v w → Two (after_subscription_request d token at key m sub v) (after_subscription_request e token at key n sub w)
         entering_box-alike sub v w its a =

@@ -128,16 +128,16 @@ module _ (law : TextsDecideNothing) (tables : TablesStayEquivalent) (told : Call
   with_call_output-equivalent : (at : ℕ) (x y : TableOp) (output other : StepOutput) (v w : RunState) → Two v w → EquivalentEntries records (trusts d) (after d x v).entries (after e y w).entries →
       (after d x v).opened ≡ (after e y w).opened →
       CallsInvariant records S (after d x v).entries → CallsInvariant records S (after e y w).entries → EquivalentOutputs S output other → K (with_call_output at y other w).actions → Two (with_call_output at x output v) (with_call_output at y other w)
-  with_call_output-equivalent at x y output other v w a entries opened one two desks k =
+  with_call_output-equivalent at x y output other v w a entries opened one two step_outputs_equivalent k =
       with_emits-equivalent law records d e keys K older knows at output.out other.out
       (record v { call_ops = Drops (length output.rows) ∷ x ∷ v.call_ops; drawn = output.tokens.drawn; waiting = v.waiting ++ output.rows })
-      (record w { call_ops = Drops (length other.rows) ∷ y ∷ w.call_ops; drawn = other.tokens.drawn; waiting = w.waiting ++ other.rows }) k desks.out
+      (record w { call_ops = Drops (length other.rows) ∷ y ∷ w.call_ops; drawn = other.tokens.drawn; waiting = w.waiting ++ other.rows }) k step_outputs_equivalent.out
       (record {
         equivalent = record {
           clock = a.equivalent.clock;
           steps = a.equivalent.steps;
           actions = a.equivalent.actions;
-          drawn = ap (λ (t : TokensView). t.drawn) desks.tokens;
+          drawn = ap (λ (t : TokensView). t.drawn) step_outputs_equivalent.tokens;
           calls = entries;
           opened = opened;
           conferences = a.equivalent.conferences;
@@ -194,10 +194,10 @@ module _ (law : TextsDecideNothing) (tables : TablesStayEquivalent) (told : Call
   after_call_end-equivalent at call v w a k =
       let tokens : TokensView = tokens_now token w in
       let s = tables.operations records (call_config d) (call_config e) keys (BothFinish call.0 at tokens) (bare (calls_in d v)) (bare (calls_in e w)) sites.configured (stands_equivalent v w a) tt in
-      let desks = tables.ends records (call_config d) (call_config e) keys call.0 at tokens (bare (calls_in d v)) (bare (calls_in e w)) sites.configured (stands_equivalent v w a) in
+      let step_outputs_equivalent = tables.ends records (call_config d) (call_config e) keys call.0 at tokens (bare (calls_in d v)) (bare (calls_in e w)) sites.configured (stands_equivalent v w a) in
       subst (λ (t : TokensView). Two (after_call_end_by d at call t v) (after_call_end e token at call w)) (sym (tokens_same v w a))
       (with_call_output-equivalent at (Finishes call.0 at tokens) (Finishes call.0 at tokens) (step_on_finish (call_config d) call.0 at tokens (calls_in d v)).output (step_on_finish (call_config e) call.0 at tokens (calls_in e w)).output v w a
-      s.equivalent.entries s.equivalent.opened s.one s.other desks k)
+      s.equivalent.entries s.equivalent.opened s.one s.other step_outputs_equivalent k)
 
   -- ---- operations on the conferences
 
@@ -234,8 +234,8 @@ module _ (law : TextsDecideNothing) (tables : TablesStayEquivalent) (told : Call
   abbrev pub Houses : both.OpPair → RunState → RunState → Type 0
   Houses x v w = alike.AreEquivalentIn (conference_config d) (conference_config e) keys x (conferences_in d v) (conferences_in e w)
 
-  desks_equivalent : (x : both.OpPair) (v w : RunState) → Two v w → Houses x v w → EquivalentOutputs S (output_of_conference_op d (both.one_op x) v) (output_of_conference_op e (both.other_op x) w)
-  desks_equivalent x v w a does = (laws.seen.operations (conference_config d) (conference_config e) keys x (conferences_in d v) (conferences_in e w) rooms_equal a.equivalent.conferences does).output
+  outputs_equivalent : (x : both.OpPair) (v w : RunState) → Two v w → Houses x v w → EquivalentOutputs S (output_of_conference_op d (both.one_op x) v) (output_of_conference_op e (both.other_op x) w)
+  outputs_equivalent x v w a does = (laws.seen.operations (conference_config d) (conference_config e) keys x (conferences_in d v) (conferences_in e w) rooms_equal a.equivalent.conferences does).output
 
   -- the CDRs are removed
   dropped_equivalent : (x : both.OpPair) (n m : ℕ) (v w : RunState) → Two v w → Houses x v w → n ≡ m →
@@ -247,10 +247,10 @@ module _ (law : TextsDecideNothing) (tables : TablesStayEquivalent) (told : Call
 
   lodged : (at : ℕ) (x : both.OpPair) (output other : StepOutput) (v w : RunState) → Two v w → Houses x v w → EquivalentOutputs S output other → K (with_conference_output at (both.other_op x) other w).actions →
       Two (with_conference_output at (both.one_op x) output v) (with_conference_output at (both.other_op x) other w)
-  lodged at x output other v w a does desks k =
+  lodged at x output other v w a does step_outputs_equivalent k =
       with_emits-equivalent law records d e keys K older knows at output.out other.out
       (record v { conference_ops = rooms.Drops (length output.rows) ∷ both.one_op x ∷ v.conference_ops; waiting = v.waiting ++ output.rows })
-      (record w { conference_ops = rooms.Drops (length other.rows) ∷ both.other_op x ∷ w.conference_ops; waiting = w.waiting ++ other.rows }) k desks.out
+      (record w { conference_ops = rooms.Drops (length other.rows) ∷ both.other_op x ∷ w.conference_ops; waiting = w.waiting ++ other.rows }) k step_outputs_equivalent.out
       (record {
         equivalent = record {
           clock = a.equivalent.clock;
@@ -259,7 +259,7 @@ module _ (law : TextsDecideNothing) (tables : TablesStayEquivalent) (told : Call
           drawn = a.equivalent.drawn;
           calls = a.equivalent.calls;
           opened = a.equivalent.opened;
-          conferences = dropped_equivalent x (length output.rows) (length other.rows) v w a does (ap (λ (rows : List Row). length rows) desks.rows);
+          conferences = dropped_equivalent x (length output.rows) (length other.rows) v w a does (ap (λ (rows : List Row). length rows) step_outputs_equivalent.rows);
           subscriptions = a.equivalent.subscriptions;
           pending_timers = a.equivalent.pending_timers;
           texts = a.equivalent.texts;
@@ -273,16 +273,16 @@ module _ (law : TextsDecideNothing) (tables : TablesStayEquivalent) (told : Call
 
   pub lodging-alike : (at : ℕ) (x : both.OpPair) (v w : RunState) → Two v w → Houses x v w → K (with_conference_output at (both.other_op x) (output_of_conference_op e (both.other_op x) w) w).actions
       → Two (with_conference_output at (both.one_op x) (output_of_conference_op d (both.one_op x) v) v) (with_conference_output at (both.other_op x) (output_of_conference_op e (both.other_op x) w) w)
-  lodging-alike at x v w a does k = lodged at x (output_of_conference_op d (both.one_op x) v) (output_of_conference_op e (both.other_op x) w) v w a does (desks_equivalent x v w a does) k
+  lodging-alike at x v w a does k = lodged at x (output_of_conference_op d (both.one_op x) v) (output_of_conference_op e (both.other_op x) w) v w a does (outputs_equivalent x v w a does) k
 
   pub after_conference_op-equivalent : (at : ℕ) (x : both.OpPair) (v w : RunState) → Two v w → Houses x v w → K (after_conference_op e at (both.other_op x) w).actions →
       Two (after_conference_op d at (both.one_op x) v) (after_conference_op e at (both.other_op x) w)
   after_conference_op-equivalent at x v w a does k =
       let one : StepOutput = output_of_conference_op d (both.one_op x) v in
       let other : StepOutput = output_of_conference_op e (both.other_op x) w in
-      let desks : EquivalentOutputs S one other = desks_equivalent x v w a does in
+      let step_outputs_equivalent : EquivalentOutputs S one other = outputs_equivalent x v w a does in
       lodged at x one other (record v { drawn = one.tokens.drawn }) (record w { drawn = other.tokens.drawn })
-      (with_drawn one.tokens.drawn other.tokens.drawn v w (ap (λ (t : TokensView). t.drawn) desks.tokens) a) does desks k
+      (with_drawn one.tokens.drawn other.tokens.drawn v w (ap (λ (t : TokensView). t.drawn) step_outputs_equivalent.tokens) a) does step_outputs_equivalent k
 
   -- the conferences receive two signals
   abbrev after_conference_signal_by : Directory → (at : ℕ) → RoomSignal → TokensView → RunState → RunState
@@ -301,7 +301,7 @@ module _ (law : TextsDecideNothing) (tables : TablesStayEquivalent) (told : Call
       → observations S (output_of_conference_op d (conference_signal_op token at (both.one_signal x) v) v).out ≡ observations S (output_of_conference_op e (conference_signal_op token at (both.other_signal x) w) w).out
   seen-equivalent at x v w a received looks =
       subst (λ (t : TokensView). observations S (output_of_conference_op d (rooms.Receives (record { at = at; tokens = t; signal = both.one_signal x })) v).out ≡ observations S (output_of_conference_op e (conference_signal_op token at (both.other_signal x) w) w).out)
-      (sym (tokens_same v w a)) (desks_equivalent (both.Receives at (tokens_now token w) x) v w a (record { done = received; lookups = looks })).out
+      (sym (tokens_same v w a)) (outputs_equivalent (both.Receives at (tokens_now token w) x) v w a (record { done = received; lookups = looks })).out
 
   -- a participant is notified of a status
   abbrev after_refer_notify_by : Directory → (at : ℕ) → RoomNo → (seat code : ℕ) → TokensView → RunState → RunState
@@ -329,8 +329,8 @@ module _ (law : TextsDecideNothing) (tables : TablesStayEquivalent) (told : Call
     among_first : AreAmong records v.texts
     among_first = subst (AreAmong records) (sym a.equivalent.texts) a.among
 
-    hear : ReceiveEquivalent records (call_config d) (call_config e) keys (record { received = received_now token at x v; role = r }) (record { received = received_now token at y w; role = s }) (bare (calls_in d v)) (bare (calls_in e w))
-    hear = record {
+    receive : ReceiveEquivalent records (call_config d) (call_config e) keys (record { received = received_now token at x v; role = r }) (record { received = received_now token at y w; role = s }) (bare (calls_in d v)) (bare (calls_in e w))
+    receive = record {
       at = refl;
       view = ap (λ (t : Texts). in_force t v.registrations) a.equivalent.texts ∙ ap (in_force w.texts) a.equivalent.registrations;
       tokens = ap (λ (n : ℕ). record { token = token; drawn = n }) a.equivalent.drawn;
@@ -347,14 +347,14 @@ module _ (law : TextsDecideNothing) (tables : TablesStayEquivalent) (told : Call
     stands : TablesCorrespond records (call_config d) keys (bare (calls_in d v)) (bare (calls_in e w))
     stands = stands_equivalent v w a
 
-    desks : EquivalentOutputs S (step_on_receive_after (call_config d) v.call_ops (received_now token at x v)).output (step_on_receive_after (call_config e) w.call_ops (received_now token at y w)).output
-    desks = tables.signals records (call_config d) (call_config e) keys (record { received = received_now token at x v; role = r }) (record { received = received_now token at y w; role = s }) (bare (calls_in d v)) (bare (calls_in e w)) sites.configured stands hear
+    step_outputs_equivalent : EquivalentOutputs S (step_on_receive_after (call_config d) v.call_ops (received_now token at x v)).output (step_on_receive_after (call_config e) w.call_ops (received_now token at y w)).output
+    step_outputs_equivalent = tables.signals records (call_config d) (call_config e) keys (record { received = received_now token at x v; role = r }) (record { received = received_now token at y w; role = s }) (bare (calls_in d v)) (bare (calls_in e w)) sites.configured stands receive
 
     pub signalled-alike : K (after_call_signal e token at y w).actions → Two (after_call_signal d token at x v) (after_call_signal e token at y w)
     signalled-alike k =
-        let stood = tables.operations records (call_config d) (call_config e) keys (BothReceive (record { received = received_now token at x v; role = r }) (record { received = received_now token at y w; role = s })) (bare (calls_in d v)) (bare (calls_in e w)) sites.configured stands hear in
+        let stood = tables.operations records (call_config d) (call_config e) keys (BothReceive (record { received = received_now token at x v; role = r }) (record { received = received_now token at y w; role = s })) (bare (calls_in d v)) (bare (calls_in e w)) sites.configured stands receive in
         with_call_output-equivalent at (Receives (received_now token at x v)) (Receives (received_now token at y w)) (step_on_receive_after (call_config d) v.call_ops (received_now token at x v)).output (step_on_receive_after (call_config e) w.call_ops (received_now token at y w)).output v w a
-        stood.equivalent.entries stood.equivalent.opened stood.one stood.other desks k
+        stood.equivalent.entries stood.equivalent.opened stood.one stood.other step_outputs_equivalent k
 
   -- ---- signals without a message
 

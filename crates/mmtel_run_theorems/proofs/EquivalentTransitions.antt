@@ -75,7 +75,7 @@ use Rattle.mmtel_run_definitions.specs.View.{view}
 use Rattle.mmtel_run_definitions.specs.Transitions.{RunState, after_ack, after_ack_by, after_classified_message, calls_in, after_cancel, after_cancel_of, output_of_conference_op, with_draws, with_emit, after_participant_request, conference_signal_op, with_received_action, dialog_owner_in, after_conference_op, after_conference_invite, with_conference_output, next_tag, with_offers, after_factory_invite, with_registration, with_retransmission, after_replaces, with_response, with_stateless_response, after_response, after_response_to, after_join_if, after_opening_if, conferences_in, after_conference_signal, after_disposition, after_new_request, after_message, tokens_now, after_newcomer_refusal, subscriptions_in}
 use Rattle.mmtel_run_theorems.specs.EquivalentStates.{CallerLooksUpEqually, EquivalentConfigs, MessageIsTied, MessageLooksUpEqually}
 use Rattle.mmtel_run_theorems.specs.Roles.{is_opening, may_subscribe, role_of}
-use Rattle.mmtel_run_theorems.specs.Mask.{Tests, identities_asked_by as asked_in, tests_beside, tests_of}
+use Rattle.mmtel_run_theorems.specs.Mask.{Tests, identities_tested_by as asked_in, tests_beside, tests_of}
 use Rattle.mmtel_run_theorems.proofs.EquivalentAdoptions.{access_same, find_same, replacing-alike}
 use Rattle.mmtel_run_theorems.proofs.EquivalentMailboxes.{ReadEquallyInDialog, SubscribeEqually, after_notify_response-equivalent, entering_box-alike, subscribing-alike}
 use Rattle.mmtel_run_theorems.proofs.EquivalentCallers.{decide-equivalent}
@@ -84,7 +84,7 @@ use Rattle.mmtel_run_theorems.proofs.EquivalentOperations.{Says, TableTheorems, 
 use Rattle.mmtel_run_theorems.proofs.EquivalentEmits.{Knows, Pair, acting-equivalent, one_offer, plain-equivalent, reply-equivalent, with_draws-equivalent, with_offers-equivalent}
 use Rattle.mmtel_run_theorems.proofs.RoleBounds.{true_false}
 use Rattle.mmtel_run_theorems.proofs.ActionPrefixes.{answering_before, replacing_before}
-use Rattle.mmtel_run_theorems.proofs.RoleBoundsInBoth.{ack_hears, answer_hears, opening_is, request_hears, seat_hears, subscriber_is}
+use Rattle.mmtel_run_theorems.proofs.RoleBoundsInBoth.{ack_receives, answer_receives, opening_is, request_receives, seat_receives, subscriber_is}
 use Rattle.mmtel_run_theorems.proofs.EquivalentMessages.{asked_same, boxed_same, decided_same, head_same, leg_same, named_same, parties_same, peer_same, refer_same, registered_same, reply_head, reply_number, reply_whole, seated_same, start_same, subscribed_same, tag_same}
 use Rattle.mmtel_run_theorems.proofs.CallerTests.{tests_same}
 
@@ -206,7 +206,7 @@ module _ (below : Below) (records : List Sheet) (d e : Directory) (token : List 
 
   module _ (at : ℕ) (m n : MessageView) (v w : RunState) (a : Two v w) (same : without_private (role_of d v m) m ≡ without_private (role_of e w n) n)
       (tests : tests_beside d.names.accounts (asked_in records) (role_of d v m) m.parsed ≡ tests_beside e.names.accounts (asked_in records) (role_of e w n) n.parsed)
-      (told_one : m.parsed.trusted ≡ trusts d m.peer) (told_two : n.parsed.trusted ≡ trusts d n.peer) (looks : MessageLooksUpEqually d e (without_private (role_of e w n) n))
+      (trusted_one : m.parsed.trusted ≡ trusts d m.peer) (trusted_two : n.parsed.trusted ≡ trusts d n.peer) (looks : MessageLooksUpEqually d e (without_private (role_of e w n) n))
       (caller_looks : CallerLooksUpEqually d e (without_private (role_of e w n) n) (tests_beside e.names.accounts (asked_in records) (role_of e w n) n.parsed))
       (tied : MessageIsTied d v m) (tied_too : MessageIsTied e w n) (kw : K w.actions) where
     abbrev r : Role
@@ -235,15 +235,15 @@ module _ (below : Below) (records : List Sheet) (d e : Directory) (token : List 
 
     -- ---- what was received
 
-    heard_alike : (t : MessageClass) → Two (record v { actions = DidHear m.peer M at t ∷ v.actions }) (record w { actions = DidHear n.peer N at t ∷ w.actions })
-    heard_alike t =
+    received_alike : (t : MessageClass) → Two (record v { actions = DidHear m.peer M at t ∷ v.actions }) (record w { actions = DidHear n.peer N at t ∷ w.actions })
+    received_alike t =
         acting-equivalent below.texts records d e keys K older knows _ _ v w
         (subst (λ (p : Peer). Equivalent (trusts d) (DidHear m.peer M at t ∷ v.actions) (DidHear p N at t ∷ w.actions)) peers (((below.texts (trusts d) v.actions w.actions a.equivalent.actions).1).hears m.peer M N at t one_head)) a
 
     -- ---- responses
 
     strange_one : (q : Peer) → q ≡ n.peer → trusts d q ≡ false → m.parsed.trusted ≡ false
-    strange_one q is strange = told_one ∙ (ap (trusts d) (peers ∙ sym is) ∙ strange)
+    strange_one q is strange = trusted_one ∙ (ap (trusts d) (peers ∙ sym is) ∙ strange)
 
     replying-alike : (key : TKey) (answer : StatusResponse) (x y : RunState) → is_request m.parsed.start ≡ true → ((q : Peer) → peer_of key.0 (live y.actions) ≡ Some q → q ≡ n.peer) → Two x y
         → Two (with_response d token at key m answer x) (with_response e token at key n answer y)
@@ -283,8 +283,8 @@ module _ (below : Below) (records : List Sheet) (d e : Directory) (token : List 
     boxes_same : subscription_named_by m.parsed (subscriptions_in v) ≡ subscription_named_by n.parsed (subscriptions_in w)
     boxes_same = ap (subscription_named_by m.parsed) a.equivalent.subscriptions ∙ boxed_same below.heads below.responses below.masks d e sites.equal m n r s same (subscriptions_in w)
 
-    holders_same : dialog_owner_in d m.parsed v ≡ dialog_owner_in e n.parsed w
-    holders_same =
+    owners_same : dialog_owner_in d m.parsed v ≡ dialog_owner_in e n.parsed w
+    owners_same =
         ap (in_call_or (in_conference_or (in_subscription (subscription_named_by m.parsed (subscriptions_in v))) (participant_named_by m.parsed (conferences_in d v).live))) names_same
         ∙ (ap (λ (o : Option (RoomNo × ℕ)). in_call_or (in_conference_or (in_subscription (subscription_named_by m.parsed (subscriptions_in v))) o) (named_by n.parsed (calls_in e w).entries)) seats_same
         ∙ ap (λ (o : Option SubNo). in_call_or (in_conference_or (in_subscription o) (participant_named_by n.parsed (conferences_in e w).live)) (named_by n.parsed (calls_in e w).entries)) boxes_same)
@@ -303,8 +303,8 @@ module _ (below : Below) (records : List Sheet) (d e : Directory) (token : List 
       public = ap (λ (z : MessageView). signal.Request c.0 c.1 key z) same;
       callers = λ who second f g. absurd (none_said who f);
       looks = tt;
-      first = request_hears below.wholes d keys d (λ peer. refl) v knows_one m told_one tied c key p i one off asked;
-      second = request_hears below.wholes d keys e trusts_same w (knows w.actions kw) n told_two tied_too c key q j two off_too asked_too;
+      first = request_receives below.wholes d keys d (λ peer. refl) v knows_one m trusted_one tied c key p i one off asked;
+      second = request_receives below.wholes d keys e trusts_same w (knows w.actions kw) n trusted_two tied_too c key q j two off_too asked_too;
       asks = asked;
       asks_too = asked_too;
     }
@@ -334,8 +334,8 @@ module _ (below : Below) (records : List Sheet) (d e : Directory) (token : List 
               subst (λ (z : Identities2). AreDecidedEqually records z second) (some_same Identities2 (caller_of m.parsed) who f)
               (subst (λ (z : Identities2). AreDecidedEqually records (caller_of m.parsed) z) (some_same Identities2 (caller_of n.parsed) second g) decided);
           looks = looks.requested j;
-          first = opening_is below.wholes d keys d (λ peer. refl) v knows_one m told_one tied p i;
-          second = opening_is below.wholes d keys e trusts_same w (knows w.actions kw) n told_two tied_too q j;
+          first = opening_is below.wholes d keys d (λ peer. refl) v knows_one m trusted_one tied p i;
+          second = opening_is below.wholes d keys e trusts_same w (knows w.actions kw) n trusted_two tied_too q j;
           asks = asked;
           asks_too = asked_too;
         }
@@ -359,8 +359,8 @@ module _ (below : Below) (records : List Sheet) (d e : Directory) (token : List 
       public = ap (λ (z : MessageView). signal.Ack c.0 c.1 z) same;
       callers = λ who second f g. absurd (none_said who f);
       looks = tt;
-      first = ack_hears below.wholes d keys d (λ peer. refl) v knows_one m told_one tied c p one;
-      second = ack_hears below.wholes d keys e trusts_same w (knows w.actions kw) n told_two tied_too c q two;
+      first = ack_receives below.wholes d keys d (λ peer. refl) v knows_one m trusted_one tied c p one;
+      second = ack_receives below.wholes d keys e trusts_same w (knows w.actions kw) n trusted_two tied_too c q two;
       asks = tt;
       asks_too = tt;
     }
@@ -371,8 +371,8 @@ module _ (below : Below) (records : List Sheet) (d e : Directory) (token : List 
       public = ap (λ (z : MessageView). signal.Answer (tkey key) z) same;
       callers = λ who second f g. absurd (none_said who f);
       looks = looks.redirect;
-      first = answer_hears below.wholes d keys d (λ peer. refl) v knows_one m told_one tied key p;
-      second = answer_hears below.wholes d keys e trusts_same w (knows w.actions kw) n told_two tied_too key q;
+      first = answer_receives below.wholes d keys d (λ peer. refl) v knows_one m trusted_one tied key p;
+      second = answer_receives below.wholes d keys e trusts_same w (knows w.actions kw) n trusted_two tied_too key q;
       asks = tt;
       asks_too = tt;
     }
@@ -408,10 +408,10 @@ module _ (below : Below) (records : List Sheet) (d e : Directory) (token : List 
       w1 = record w { actions = y.actions }
 
       asked : IsFromOwnPeer S key m
-      asked = record { request = request; trusted = told_one; known = known ∙ ap (trusts d) (sym peers) }
+      asked = record { request = request; trusted = trusted_one; known = known ∙ ap (trusts d) (sym peers) }
 
       asked_too : IsFromOwnPeer S key n
-      asked_too = record { request = request_too; trusted = told_two; known = known }
+      asked_too = record { request = request_too; trusted = trusted_two; known = known }
 
       -- ---- who joins a conference
 
@@ -443,7 +443,7 @@ module _ (below : Below) (records : List Sheet) (d e : Directory) (token : List 
 
       come : (tag : List ℕ) (account : Option Account) (tokens : TokensView) → both.AreEquivalentJoins S (comings tag account tokens)
       come tag account tokens = record {
-        legs = ap (λ (l : Leg). released.Caller l) (leg_same below.heads below.responses below.masks d e sites.equal m n r s same tag told_one told_two request request_too);
+        legs = ap (λ (l : Leg). released.Caller l) (leg_same below.heads below.responses below.masks d e sites.equal m n r s same tag trusted_one trusted_two request request_too);
         invites = record { equivalent = same; one = asked; other = asked_too };
       }
 
@@ -531,7 +531,7 @@ module _ (below : Below) (records : List Sheet) (d e : Directory) (token : List 
           let may_too : may_subscribe e n.parsed ≡ true = subscribe_waits e other some hold_two n.parsed g is in
           let here : may_subscribe d n.parsed ≡ true = sym (ap (λ (x : Start). is_method (codes "SUBSCRIBE") x && d.names.mwi) start_is) ∙ may in
           subscribed_same below.heads below.responses below.masks d e sites.equal m n r s same
-          (subscriber_is below.wholes d keys d (λ peer. refl) v knows_one m told_one tied p i may none) (subscriber_is below.wholes d keys e trusts_same w (knows w.actions kw) n told_two tied_too q j may_too none_too)
+          (subscriber_is below.wholes d keys d (λ peer. refl) v knows_one m trusted_one tied p i may none) (subscriber_is below.wholes d keys e trusts_same w (knows w.actions kw) n trusted_two tied_too q j may_too none_too)
           (looks.subscriber here) (looks.mailbox here)
 
       taking-alike : (c : Disposition) (merged other full some : Bool) → is_cancel (head_of M) ≡ false → is_cancel (head_of N) ≡ false
@@ -567,20 +567,20 @@ module _ (below : Below) (records : List Sheet) (d e : Directory) (token : List 
           (of_box (subscription_named_by m.parsed (subscriptions_in v)) (participant_named_by m.parsed (conferences_in d v).live) (named_by m.parsed (calls_in d v).entries) sub (enters_named d merged full hold_one m.parsed (InSubscription sub) f))
           (of_box (subscription_named_by n.parsed (subscriptions_in w)) (participant_named_by n.parsed (conferences_in e w).live) (named_by n.parsed (calls_in e w).entries) sub (enters_named e other some hold_two n.parsed (InSubscription sub) g))) sub v1 w1 of_peer b
 
-      course_alike : disposition d (is_merged key.0 (live x.actions)) (are_full (calls_in d v).entries) hold_one m.parsed
+      disposition_alike : disposition d (is_merged key.0 (live x.actions)) (are_full (calls_in d v).entries) hold_one m.parsed
           ≡ disposition e (is_merged key.0 (live y.actions)) (are_full (calls_in e w).entries) hold_two n.parsed
-      course_alike =
+      disposition_alike =
           ap (λ (c : Bool). disposition d c (are_full (calls_in d v).entries) hold_one m.parsed) (((below.texts (trusts d) x.actions y.actions b.equivalent.actions).0).merged key.0)
           ∙ (ap (λ (c : Bool). disposition d (is_merged key.0 (live y.actions)) c hold_one m.parsed) full_same
-          ∙ (ap (λ (o : Option DialogOwner). disposition d (is_merged key.0 (live y.actions)) (are_full (calls_in e w).entries) o m.parsed) holders_same
+          ∙ (ap (λ (o : Option DialogOwner). disposition d (is_merged key.0 (live y.actions)) (are_full (calls_in e w).entries) o m.parsed) owners_same
           ∙ decided_same below.heads below.responses below.masks d e sites.equal m n r s same registered (is_merged key.0 (live y.actions)) (are_full (calls_in e w).entries) hold_two))
 
       taking_fresh-alike : is_cancel (head_of M) ≡ false → is_cancel (head_of N) ≡ false → K (after_new_request e token at key n w1).actions →
           Two (after_new_request d token at key m v1) (after_new_request e token at key n w1)
       taking_fresh-alike i j k =
           let c : Disposition = disposition e (is_merged key.0 (live y.actions)) (are_full (calls_in e w).entries) hold_two n.parsed in
-          subst (λ (z : Disposition). Two (after_disposition d token at key m z v1) (after_new_request e token at key n w1)) (sym course_alike)
-          (taking-alike c (is_merged key.0 (live x.actions)) (is_merged key.0 (live y.actions)) (are_full (calls_in d v).entries) (are_full (calls_in e w).entries) i j course_alike refl k)
+          subst (λ (z : Disposition). Two (after_disposition d token at key m z v1) (after_new_request e token at key n w1)) (sym disposition_alike)
+          (taking-alike c (is_merged key.0 (live x.actions)) (is_merged key.0 (live y.actions)) (are_full (calls_in d v).entries) (are_full (calls_in e w).entries) i j disposition_alike refl k)
 
       cancelling_call-alike : (invite : TKey) (o : Option (CallNo × Side)) → K (after_cancel_of e token at key n invite o w1).actions →
           Two (after_cancel_of d token at key m invite o v1) (after_cancel_of e token at key n invite o w1)
@@ -613,8 +613,8 @@ module _ (below : Below) (records : List Sheet) (d e : Directory) (token : List 
     acknowledging-alike : (x y : RunState) → Two (record v { actions = x.actions }) (record w { actions = y.actions }) → class_of (head_of M) (live v.actions) ≡ part.AckOf2xx → class_of (head_of N) (live w.actions) ≡ part.AckOf2xx
         → K (after_ack e token at n (record w { actions = y.actions })).actions → Two (after_ack d token at m (record v { actions = x.actions })) (after_ack e token at n (record w { actions = y.actions }))
     acknowledging-alike x y b p q k =
-        subst (λ (o : Option DialogOwner). Two (after_ack_by d token at m o (record v { actions = x.actions })) (after_ack e token at n (record w { actions = y.actions }))) (sym holders_same)
-        (acknowledging_by-alike (dialog_owner_in e n.parsed w) x y b p q holders_same refl k)
+        subst (λ (o : Option DialogOwner). Two (after_ack_by d token at m o (record v { actions = x.actions })) (after_ack e token at n (record w { actions = y.actions }))) (sym owners_same)
+        (acknowledging_by-alike (dialog_owner_in e n.parsed w) x y b p q owners_same refl k)
 
     -- ---- a response: it belongs to the calls where one of their INVITEs has its branch, to the subscriptions where one of their NOTIFYs has it, and else to the conferences
 
@@ -645,7 +645,7 @@ module _ (below : Below) (records : List Sheet) (d e : Directory) (token : List 
     responding_to-alike key OfSubscriptions x y b p q one two k = responded x y b
     responding_to-alike key OfConferences x y b p q one two k =
         seated-alike below.texts below.tables below.records below.laws records d e token keys sites K older knows at (both.Answer (tkey key) pair) (record v { actions = x.actions }) (record w { actions = y.actions }) b
-        (same, seat_hears below.wholes d keys d (λ peer. refl) v knows_one m told_one tied key p one, seat_hears below.wholes d keys e trusts_same w (knows w.actions kw) n told_two tied_too key q two) tt k
+        (same, seat_receives below.wholes d keys d (λ peer. refl) v knows_one m trusted_one tied key p one, seat_receives below.wholes d keys e trusts_same w (knows w.actions kw) n trusted_two tied_too key q two) tt k
 
     responding-alike : (key : ℕ) (x y : RunState) → Two (record v { actions = x.actions }) (record w { actions = y.actions }) → class_of (head_of M) (live v.actions) ≡ part.Answer key → class_of (head_of N) (live w.actions) ≡ part.Answer key
         → K (after_response e token at (tkey key) n (record w { actions = y.actions })).actions → Two (after_response d token at (tkey key) m (record v { actions = x.actions })) (after_response e token at (tkey key) n (record w { actions = y.actions }))
@@ -659,77 +659,77 @@ module _ (below : Below) (records : List Sheet) (d e : Directory) (token : List 
 
     -- ---- by how the transactions classify it
 
-    abbrev hearing_by : Peer → Message Start → MessageClass → Option transaction.Heard → RunState → RunState
-    hearing_by peer z t None u = u
-    hearing_by peer z t (Some taken) u = record u { actions = DidHear peer z at t ∷ u.actions }
+    abbrev receiving_by : Peer → Message Start → MessageClass → Option transaction.Heard → RunState → RunState
+    receiving_by peer z t None u = u
+    receiving_by peer z t (Some taken) u = record u { actions = DidHear peer z at t ∷ u.actions }
 
-    hearing_same : (z : MessageView) (o : Option transaction.Heard) (u : RunState) →
-        with_received_action at z o u ≡ hearing_by z.peer (message_in z.parsed) (class_of (head_of (message_in z.parsed)) (live u.actions)) o u
-    hearing_same z None u = refl
-    hearing_same z (Some taken) u = refl
+    receiving_same : (z : MessageView) (o : Option transaction.Heard) (u : RunState) →
+        with_received_action at z o u ≡ receiving_by z.peer (message_in z.parsed) (class_of (head_of (message_in z.parsed)) (live u.actions)) o u
+    receiving_same z None u = refl
+    receiving_same z (Some taken) u = refl
 
     abbrev said_for : MessageView → MessageClass → RunState → Option transaction.Heard
     said_for z t u = class_result (length (openings u.actions)) (live u.actions) z.peer (message_in z.parsed) t
 
-    abbrev told_by : Directory → MessageView → MessageClass → RunState → RunState
-    told_by x z t u = after_classified_message x token at z (said_for z t u) (hearing_by z.peer (message_in z.parsed) t (said_for z t u) u)
+    abbrev after_message_by : Directory → MessageView → MessageClass → RunState → RunState
+    after_message_by x z t u = after_classified_message x token at z (said_for z t u) (receiving_by z.peer (message_in z.parsed) t (said_for z t u) u)
 
-    told_same_by : (x : Directory) (z : MessageView) (u : RunState) → after_message x token at z u ≡ told_by x z (class_of (head_of (message_in z.parsed)) (live u.actions)) u
-    told_same_by x z u =
+    message_same_by : (x : Directory) (z : MessageView) (u : RunState) → after_message x token at z u ≡ after_message_by x z (class_of (head_of (message_in z.parsed)) (live u.actions)) u
+    message_same_by x z u =
         let said = said_for z (class_of (head_of (message_in z.parsed)) (live u.actions)) u in
-        ap (after_classified_message x token at z said) (hearing_same z said u)
+        ap (after_classified_message x token at z said) (receiving_same z said u)
 
     invite_same : option_map key_of (find (is_invite_of (head_of M)) (live v.actions)) ≡ option_map key_of (find (is_invite_of (head_of N)) (live w.actions))
     invite_same =
         ap (λ (x : Head). option_map key_of (find (is_invite_of x) (live v.actions))) one_head
         ∙ ((below.texts (trusts d) v.actions w.actions a.equivalent.actions).0).invite (head_of N)
 
-    abbrev v_heard : MessageClass → RunState
-    v_heard t = record v { actions = DidHear m.peer M at t ∷ v.actions }
+    abbrev v_received : MessageClass → RunState
+    v_received t = record v { actions = DidHear m.peer M at t ∷ v.actions }
 
-    abbrev w_heard : MessageClass → RunState
-    w_heard t = record w { actions = DidHear n.peer N at t ∷ w.actions }
+    abbrev w_received : MessageClass → RunState
+    w_received t = record w { actions = DidHear n.peer N at t ∷ w.actions }
 
-    of_new : (j : ℕ) → j ≡ length (openings w.actions) → (z : Peer) → peer_of j (live (w_heard part.Fresh).actions) ≡ Some z → z ≡ n.peer
-    of_new j is z o = sym (some_same Peer n.peer z (sym (below.new w.actions n.peer N at) ∙ (ap (λ (i : ℕ). peer_of i (live (w_heard part.Fresh).actions)) (sym is) ∙ o)))
+    of_new : (j : ℕ) → j ≡ length (openings w.actions) → (z : Peer) → peer_of j (live (w_received part.Fresh).actions) ≡ Some z → z ≡ n.peer
+    of_new j is z o = sym (some_same Peer n.peer z (sym (below.new w.actions n.peer N at) ∙ (ap (λ (i : ℕ). peer_of i (live (w_received part.Fresh).actions)) (sym is) ∙ o)))
 
-    known_new : (j : ℕ) → j ≡ length (openings w.actions) → K (w_heard part.Fresh).actions → keys (tkey j) ≡ trusts d n.peer
-    known_new j is k = ap (λ (i : ℕ). keys (tkey i)) is ∙ knows (w_heard part.Fresh).actions k (length (openings w.actions)) n.peer (below.new w.actions n.peer N at)
+    known_new : (j : ℕ) → j ≡ length (openings w.actions) → K (w_received part.Fresh).actions → keys (tkey j) ≡ trusts d n.peer
+    known_new j is k = ap (λ (i : ℕ). keys (tkey i)) is ∙ knows (w_received part.Fresh).actions k (length (openings w.actions)) n.peer (below.new w.actions n.peer N at)
 
     fresh_by : (c f : Bool) (i j : ℕ) (o u : Option TKey) → is_cancel (head_of M) ≡ c → is_cancel (head_of N) ≡ f → c ≡ f → i ≡ j → j ≡ length (openings w.actions) → o ≡ u
-        → class_of (head_of M) (live v.actions) ≡ part.Fresh → class_of (head_of N) (live w.actions) ≡ part.Fresh → K (w_heard part.Fresh).actions
-        → K (after_classified_message e token at n (Some (opening_result f j u N)) (w_heard part.Fresh)).actions
-        → Two (after_classified_message d token at m (Some (opening_result c i o M)) (v_heard part.Fresh)) (after_classified_message e token at n (Some (opening_result f j u N)) (w_heard part.Fresh))
+        → class_of (head_of M) (live v.actions) ≡ part.Fresh → class_of (head_of N) (live w.actions) ≡ part.Fresh → K (w_received part.Fresh).actions
+        → K (after_classified_message e token at n (Some (opening_result f j u N)) (w_received part.Fresh)).actions
+        → Two (after_classified_message d token at m (Some (opening_result c i o M)) (v_received part.Fresh)) (after_classified_message e token at n (Some (opening_result f j u N)) (w_received part.Fresh))
     fresh_by true true i j o u cm cn cf ij is ou p q kh k =
-        subst (λ (z : Option TKey). Two (after_cancel d token at (tkey i) m z (v_heard part.Fresh)) (after_cancel e token at (tkey j) n u (w_heard part.Fresh))) (sym ou)
-        (subst (λ (z : ℕ). Two (after_cancel d token at (tkey z) m u (v_heard part.Fresh)) (after_cancel e token at (tkey j) n u (w_heard part.Fresh))) (sym ij)
-        (cancelling-alike (tkey j) (fresh_request M (live v.actions) p) (fresh_request N (live w.actions) q) (known_new j is kh) p q (v_heard part.Fresh) (w_heard part.Fresh) (heard_alike part.Fresh) (of_new j is) u k))
+        subst (λ (z : Option TKey). Two (after_cancel d token at (tkey i) m z (v_received part.Fresh)) (after_cancel e token at (tkey j) n u (w_received part.Fresh))) (sym ou)
+        (subst (λ (z : ℕ). Two (after_cancel d token at (tkey z) m u (v_received part.Fresh)) (after_cancel e token at (tkey j) n u (w_received part.Fresh))) (sym ij)
+        (cancelling-alike (tkey j) (fresh_request M (live v.actions) p) (fresh_request N (live w.actions) q) (known_new j is kh) p q (v_received part.Fresh) (w_received part.Fresh) (received_alike part.Fresh) (of_new j is) u k))
     fresh_by false false i j o u cm cn cf ij is ou p q kh k =
-        subst (λ (z : ℕ). Two (after_new_request d token at (tkey z) m (v_heard part.Fresh)) (after_new_request e token at (tkey j) n (w_heard part.Fresh))) (sym ij)
-        (taking_fresh-alike (tkey j) (fresh_request M (live v.actions) p) (fresh_request N (live w.actions) q) (known_new j is kh) p q (v_heard part.Fresh) (w_heard part.Fresh) (heard_alike part.Fresh) (of_new j is) cm cn k)
+        subst (λ (z : ℕ). Two (after_new_request d token at (tkey z) m (v_received part.Fresh)) (after_new_request e token at (tkey j) n (w_received part.Fresh))) (sym ij)
+        (taking_fresh-alike (tkey j) (fresh_request M (live v.actions) p) (fresh_request N (live w.actions) q) (known_new j is kh) p q (v_received part.Fresh) (w_received part.Fresh) (received_alike part.Fresh) (of_new j is) cm cn k)
     fresh_by true false i j o u cm cn cf ij is ou p q kh k = absurd (true_false cf)
     fresh_by false true i j o u cm cn cf ij is ou p q kh k = absurd (true_false (sym cf))
 
     abbrev again_of : Peer → ℕ → RunState → Option (Peer × List ℕ)
     again_of peer key u = bind_entry (retransmission_for peer) (by_key key (live u.actions))
 
-    told_by-alike : (t : MessageClass) → class_of (head_of M) (live v.actions) ≡ t → class_of (head_of N) (live w.actions) ≡ t → K (told_by e n t w).actions → Two (told_by d m t v) (told_by e n t w)
-    told_by-alike part.Fresh p q k =
+    message_by-alike : (t : MessageClass) → class_of (head_of M) (live v.actions) ≡ t → class_of (head_of N) (live w.actions) ≡ t → K (after_message_by e n t w).actions → Two (after_message_by d m t v) (after_message_by e n t w)
+    message_by-alike part.Fresh p q k =
         fresh_by (is_cancel (head_of M)) (is_cancel (head_of N)) (length (openings v.actions)) (length (openings w.actions)) _ _ refl refl (ap is_cancel one_head) a.equivalent.actions.next refl invite_same p q
-        (answering_before K older e token at n (said_for n part.Fresh w) (w_heard part.Fresh) k) k
-    told_by-alike part.Full p q k = replying_plainly-alike (plain_response 503) v w a
-    told_by-alike (part.Repeat i) p q k =
-        with_retransmission-equivalent at _ _ (v_heard (part.Repeat i)) (w_heard (part.Repeat i))
-        (subst (λ (z : Peer). option_map (blank_sent (trusts d)) (again_of m.peer i v) ≡ option_map (blank_sent (trusts d)) (again_of z i w)) peers (((below.texts (trusts d) v.actions w.actions a.equivalent.actions).0).retransmission m.peer i)) (heard_alike (part.Repeat i))
-    told_by-alike (part.RepeatedFinal i) p q k = with_retransmission-equivalent at _ _ (v_heard (part.RepeatedFinal i)) (w_heard (part.RepeatedFinal i)) (((below.texts (trusts d) v.actions w.actions a.equivalent.actions).0).same i) (heard_alike (part.RepeatedFinal i))
-    told_by-alike (part.Answer i) p q k = responding-alike i (v_heard (part.Answer i)) (w_heard (part.Answer i)) (heard_alike (part.Answer i)) p q k
-    told_by-alike (part.Acked i) p q k = heard_alike (part.Acked i)
-    told_by-alike part.AckOf2xx p q k = acknowledging-alike (v_heard part.AckOf2xx) (w_heard part.AckOf2xx) (heard_alike part.AckOf2xx) p q k
-    told_by-alike part.Stray p q k = heard_alike part.Stray
+        (answering_before K older e token at n (said_for n part.Fresh w) (w_received part.Fresh) k) k
+    message_by-alike part.Full p q k = replying_plainly-alike (plain_response 503) v w a
+    message_by-alike (part.Repeat i) p q k =
+        with_retransmission-equivalent at _ _ (v_received (part.Repeat i)) (w_received (part.Repeat i))
+        (subst (λ (z : Peer). option_map (blank_sent (trusts d)) (again_of m.peer i v) ≡ option_map (blank_sent (trusts d)) (again_of z i w)) peers (((below.texts (trusts d) v.actions w.actions a.equivalent.actions).0).retransmission m.peer i)) (received_alike (part.Repeat i))
+    message_by-alike (part.RepeatedFinal i) p q k = with_retransmission-equivalent at _ _ (v_received (part.RepeatedFinal i)) (w_received (part.RepeatedFinal i)) (((below.texts (trusts d) v.actions w.actions a.equivalent.actions).0).same i) (received_alike (part.RepeatedFinal i))
+    message_by-alike (part.Answer i) p q k = responding-alike i (v_received (part.Answer i)) (w_received (part.Answer i)) (received_alike (part.Answer i)) p q k
+    message_by-alike (part.Acked i) p q k = received_alike (part.Acked i)
+    message_by-alike part.AckOf2xx p q k = acknowledging-alike (v_received part.AckOf2xx) (w_received part.AckOf2xx) (received_alike part.AckOf2xx) p q k
+    message_by-alike part.Stray p q k = received_alike part.Stray
 
-    pub told-alike : K (after_message e token at n w).actions → Two (after_message d token at m v) (after_message e token at n w)
-    told-alike k =
+    pub message-alike : K (after_message e token at n w).actions → Two (after_message d token at m v) (after_message e token at n w)
+    message-alike k =
         let taken : class_of (head_of M) (live v.actions) ≡ class_of (head_of N) (live w.actions) = ap (λ (x : Head). class_of x (live v.actions)) one_head ∙ ((below.texts (trusts d) v.actions w.actions a.equivalent.actions).0).classes (head_of N) in
-        subst (λ (u : RunState). Two u (after_message e token at n w)) (sym (told_same_by d m v ∙ ap (λ (t : MessageClass). told_by d m t v) taken))
-        (subst (λ (u : RunState). Two (told_by d m (class_of (head_of N) (live w.actions)) v) u) (sym (told_same_by e n w))
-        (told_by-alike (class_of (head_of N) (live w.actions)) taken refl (subst (λ (u : RunState). K u.actions) (told_same_by e n w) k)))
+        subst (λ (u : RunState). Two u (after_message e token at n w)) (sym (message_same_by d m v ∙ ap (λ (t : MessageClass). after_message_by d m t v) taken))
+        (subst (λ (u : RunState). Two (after_message_by d m (class_of (head_of N) (live w.actions)) v) u) (sym (message_same_by e n w))
+        (message_by-alike (class_of (head_of N) (live w.actions)) taken refl (subst (λ (u : RunState). K u.actions) (message_same_by e n w) k)))

@@ -113,9 +113,9 @@ stopped_left : without_private (Sends Caller) (ok_to_cancel Erin) ≡ without_pr
 unfolding Scanning.closing_quote_from masked_line kind_of hidden_name_addr hidden_value served_value is_marked_value masked_value_text Reading.name_addr_of Reading.words_of Reading.quoted_of Reading.angle_of Reading.bare_of Reading.all_params_at Reading.params_at Reading.param_at Reading.token_at Reading.value_at Reading.text_at Classes.in_class Scanning.leading_run Scanning.after_run Scanning.without_trailing Scanning.split_once_at
 stopped_left = refl
 
-told_left : without_private (Sends Caller) (ok_to_notify Erin) ≡ without_private (Sends Caller) (ok_to_notify Frank)
+notified_left : without_private (Sends Caller) (ok_to_notify Erin) ≡ without_private (Sends Caller) (ok_to_notify Frank)
 unfolding Scanning.closing_quote_from masked_line kind_of hidden_name_addr hidden_value served_value is_marked_value masked_value_text Reading.name_addr_of Reading.words_of Reading.quoted_of Reading.angle_of Reading.bare_of Reading.all_params_at Reading.params_at Reading.param_at Reading.token_at Reading.value_at Reading.text_at Classes.in_class Scanning.leading_run Scanning.after_run Scanning.without_trailing Scanning.split_once_at
-told_left = refl
+notified_left = refl
 
 cancel_left : without_private Opens (cancel Erin) ≡ without_private Opens (cancel Frank)
 unfolding Scanning.closing_quote_from masked_line kind_of hidden_name_addr hidden_value served_value is_marked_value masked_value_text Reading.name_addr_of Reading.words_of Reading.quoted_of Reading.angle_of Reading.bare_of Reading.all_params_at Reading.params_at Reading.param_at Reading.token_at Reading.value_at Reading.text_at Classes.in_class Scanning.leading_run Scanning.after_run Scanning.without_trailing Scanning.split_once_at
@@ -316,7 +316,7 @@ module _ (d : Directory) (asked : List Who) (w : RunState) where
   unshown = record {
     responds_to_bye = λ key taken. looks ok_to_bye (Sends Caller) (λ p. answers_other (ok_to_bye p) key (taken p) (answers_no_invite p).0) bye_left refl;
     responds_to_cancel = λ key taken. looks ok_to_cancel (Sends Caller) (λ p. answers_other (ok_to_cancel p) key (taken p) (answers_no_invite p).1) stopped_left refl;
-    responds_to_notify = λ key taken. looks ok_to_notify (Sends Caller) (λ p. answers_other (ok_to_notify p) key (taken p) (answers_no_invite p).2) told_left refl;
+    responds_to_notify = λ key taken. looks ok_to_notify (Sends Caller) (λ p. answers_other (ok_to_notify p) key (taken p) (answers_no_invite p).2) notified_left refl;
     stray = λ taken. looks ok_to_invite (Sends Caller) (λ p. role_is d w (ok_to_invite p) part.Stray (taken p)) answer_left refl;
     received_again = λ key taken. looks ok_to_invite (Sends Caller) (λ p. role_is d w (ok_to_invite p) (part.RepeatedFinal key) (taken p)) answer_left refl;
     repeated = λ key taken tests.

@@ -4,7 +4,7 @@ use Rattle.std.specs.Prelude.{if◌then◌else◌, nat_lt, slice_get, Some}
 use Rattle.std.specs.List.{list_any}
 use Rattle.std.proofs.lemmas.Bool.{eq-eqb, eqb-true}
 use Rattle.mmtel_compose.specs.ReceivedMessages.{status_of as status_in}
-use Rattle.mmtel_b2bua_theorems.specs.TracesWithTransfers as lives
+use Rattle.mmtel_b2bua_theorems.specs.TracesWithTransfers as transfers
 use Rattle.mmtel_b2bua_theorems.specs.TracesWithTransfers.{CallEvent, call_after, emits_after, emits_by}
 use Rattle.mmtel_b2bua_theorems.specs.Observed.{labels_after, labels_in}
 use Rattle.mmtel_call_services.specs.declared.openings.Opening.{Opening}
@@ -54,29 +54,29 @@ finals-but (Accepted ∷ xs) = omega (arith, finals-but xs)
 finals-but (Refused code ∷ xs) = omega (arith, finals-but xs)
 
 finals-shown : (key : TKey) (x : CallEvent) (out : List Emit) → finals (labels_in key x out) ≡ finals (labels_of key out)
-finals-shown key (lives.Receives x) out = go (is_reinvite x.signal)
+finals-shown key (transfers.Receives x) out = go (is_reinvite x.signal)
   where
     go : (b : Bool) → finals (if b then without_relayed_invite (labels_of key out) else labels_of key out) ≡ finals (labels_of key out)
     go true = finals-but (labels_of key out)
     go false = refl
-finals-shown key (lives.Releases side) out = refl
-finals-shown key (lives.Restores away) out = refl
-finals-shown key (lives.Finishes at output) out = refl
+finals-shown key (transfers.Releases side) out = refl
+finals-shown key (transfers.Restores away) out = refl
+finals-shown key (transfers.Finishes at output) out = refl
 
 signs-append : (key : TKey) (xs ys : List Emit) → labels_of key (xs ++ ys) ≡ labels_of key xs ++ labels_of key ys
 signs-append key [] ys = refl
 signs-append key (x ∷ xs) ys =
     ap (λ (signs : List Label). label_of key x ++ signs) (signs-append key xs ys) ∙ sym (append_assoc (label_of key x) (labels_of key xs) (labels_of key ys))
 
-life-finals : (s : TraceStart) (events : List CallEvent) → finals (labels_of s.arrival.key (emits_after s events)) ≡ finals (labels_after s events)
+trace-finals : (s : TraceStart) (events : List CallEvent) → finals (labels_of s.arrival.key (emits_after s events)) ≡ finals (labels_after s events)
 unfolding emits_after labels_after
-life-finals s [] = refl
-life-finals s (x ∷ earlier) =
+trace-finals s [] = refl
+trace-finals s (x ∷ earlier) =
     let key = s.arrival.key in
     let out = emits_by s.config x (call_after s earlier) in
     ap finals (signs-append key (emits_after s earlier) out)
     ∙ (finals-append (labels_of key (emits_after s earlier)) (labels_of key out)
-    ∙ (ap (λ n. n + finals (labels_of key out)) (life-finals s earlier)
+    ∙ (ap (λ n. n + finals (labels_of key out)) (trace-finals s earlier)
     ∙ (ap (λ n. finals (labels_after s earlier) + n) (sym (finals-shown key x out)) ∙ sym (finals-append (labels_after s earlier) (labels_in key x out)))))
 
 finals-if : (offer : OfferState) (uri : List ℕ) → finals (label_if offer uri) ≡ 0
@@ -236,7 +236,7 @@ module _ (w : RunState) (s : TraceStart) (events : List CallEvent) (emits : List
   one-final : finals (labels_of s.arrival.key emits) ≤ 1
   one-final =
       let all : finals (labels_of s.arrival.key emits) ≡ finals (labels_of_targets o targets ++ label_of_result result) =
-      ap (λ (emits : List Emit). finals (labels_of s.arrival.key emits)) is ∙ (life-finals s events ∙ ap finals shown) in
+      ap (λ (emits : List Emit). finals (labels_of s.arrival.key emits)) is ∙ (trace-finals s events ∙ ap finals shown) in
       omega (arith, all, finals-append (labels_of_targets o targets) (label_of_result result), finals-targets o targets, finals-result result)
 
   -- the first one is sent

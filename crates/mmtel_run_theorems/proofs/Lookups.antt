@@ -199,11 +199,11 @@ module _ (one other : Directory) where
         caller_looks left tests opening,
       )
 
-  digest_looks : (x : MaskedEvent) → Names (lookups_by one x) → EventLooksUpEqually one other x
-  digest_looks Nothing a = tt
-  digest_looks (Refused peer source reply) a = tt
-  digest_looks (Received left tests) a = message_looks left tests a
-  digest_looks (WebRequested put waits) a = tt
+  parsed_event_looks : (x : MaskedEvent) → Names (lookups_by one x) → EventLooksUpEqually one other x
+  parsed_event_looks Nothing a = tt
+  parsed_event_looks (Refused peer source reply) a = tt
+  parsed_event_looks (Received left tests) a = message_looks left tests a
+  parsed_event_looks (WebRequested put waits) a = tt
 
   all_look_up : (events : List (ℕ × MaskedEvent)) → Names (flat_map (λ (event : ℕ × MaskedEvent). lookups_by one event.1) events) → AllLookUpEqually one other events
   all_look_up [] a = tt
@@ -211,7 +211,7 @@ module _ (one other : Directory) where
       let xs : List AccountIdentity = one.names.accounts in
       let ys : List AccountIdentity = other.names.accounts in
       let rest : List Uri = flat_map (λ (x : ℕ × MaskedEvent). lookups_by one x.1) events in
-      (digest_looks event.1 (front xs ys (lookups_by one event.1) rest a), all_look_up events (back xs ys (lookups_by one event.1) rest a))
+      (parsed_event_looks event.1 (front xs ys (lookups_by one event.1) rest a), all_look_up events (back xs ys (lookups_by one event.1) rest a))
 
 -- ---- the theorem
 

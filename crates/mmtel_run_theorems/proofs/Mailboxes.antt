@@ -540,14 +540,14 @@ module _ (d : Directory) where
         answering_sound (Some (heard.AckOf2xx message)) w g = acknowledging_sound (dialog_owner_in d s.parsed w) w g
         answering_sound (Some heard.Stray) w g = g
 
-        hearing_sound : (o : Option transaction.Heard) (w : RunState) → Sound said w → Sound said (with_received_action at s o w)
-        hearing_sound None w g = g
-        hearing_sound (Some taken) w g = record { puts = g.puts; by = g.by; asks = (tt, g.asks) }
+        receiving_sound : (o : Option transaction.Heard) (w : RunState) → Sound said w → Sound said (with_received_action at s o w)
+        receiving_sound None w g = g
+        receiving_sound (Some taken) w g = record { puts = g.puts; by = g.by; asks = (tt, g.asks) }
 
-        told_sound : (w : RunState) → Sound said w → Sound said (after_message d token at s w)
-        told_sound w g =
+        after_message_sound : (w : RunState) → Sound said w → Sound said (after_message d token at s w)
+        after_message_sound w g =
             let taken = hear_result w.actions s.peer (message_in s.parsed) in
-            answering_sound taken (with_received_action at s taken w) (hearing_sound taken w g)
+            answering_sound taken (with_received_action at s taken w) (receiving_sound taken w g)
 
       handing_sound : (took : Bool) (rows : List Row) (w : RunState) → Sound said w → Sound said (after_handover took rows w)
       handing_sound took [] w g = g
@@ -590,7 +590,7 @@ module _ (d : Directory) where
     met_sound : (said : List (Account × Counts)) (at : ℕ) (x : ParsedEvent) (w : RunState) → IsOwnTrust x → Sound said w → Sound (also said (put_by x)) (after_parsed_event d token at x w)
     met_sound said at events.Nothing w own g = g
     met_sound said at (events.Refused peer source reply) w own g = record { puts = g.puts; by = g.by; asks = g.asks }
-    met_sound said at (events.Received s) w own g = told_sound said token counts at s own w g
+    met_sound said at (events.Received s) w own g = after_message_sound said token counts at s own w g
     met_sound said at (events.WebRequested request kept rows) w own g =
         putting_sound said at (counts_put_in d.names request kept) (after_web_reply d at request kept rows w) (record { puts = g.puts; by = g.by; asks = g.asks })
 
@@ -672,8 +672,8 @@ module _ (d : Directory) where
         subst (λ (l : List (Account × Counts)). Sound l (after_events d token fuel (timed_events d (x ∷ recorded)) w)) (also_more said (mailbox_uploads_of d.names recorded) o)
         (after_sound fuel recorded (also said o) (after_event_in_order d token fuel n w) (subst (λ (l : List (Account × Counts)). Sound l (after_event_in_order d token fuel n w)) same came_so))
 
-    pub told_so : (loaded : Texts) (fuel : ℕ) (recorded : List EventRecord) → RunNotifiesSubscribers d token loaded fuel recorded
-    told_so loaded fuel recorded =
+    pub notified_so : (loaded : Texts) (fuel : ℕ) (recorded : List EventRecord) → RunNotifiesSubscribers d token loaded fuel recorded
+    notified_so loaded fuel recorded =
         let w : RunState = state_after d token loaded fuel recorded in
         let g : Sound (mailbox_uploads_of d.names recorded) w = after_sound fuel recorded [] (initial_state loaded) (record { puts = refl; by = tt; asks = tt }) in
         record { puts = g.puts; subscribers = all_trusted w.mailbox_ops g.by; asks = g.asks }
@@ -710,14 +710,14 @@ module _ (d : Directory) (m : ParsedMessage) (is : is_method (codes "SUBSCRIBE")
       (due_if (is_register m) (registration_disposition d.names.accounts m) _ (other_method m.start (codes "REGISTER") refl is)
       (subst (λ (b : Bool). IsRefusalOrSubscription (if b then Subscribe else Respond (plain_response 481))) (sym is) tt))))
 
-  in_dialog_disposition_due : (holder : DialogOwner) → IsRefusalOrSubscription (in_dialog_disposition holder m)
+  in_dialog_disposition_due : (owner : DialogOwner) → IsRefusalOrSubscription (in_dialog_disposition owner m)
   in_dialog_disposition_due (InCall call side) = subst (λ (b : Bool). IsRefusalOrSubscription (if b && true then Respond (plain_response 481) else Enter call side)) (sym is) refl
   in_dialog_disposition_due (InConference room seat) = subst (λ (b : Bool). IsRefusalOrSubscription (if b && true then Respond (plain_response 481) else EnterConference room seat)) (sym is) refl
   in_dialog_disposition_due (InSubscription sub) = subst (λ (b : Bool). IsRefusalOrSubscription (if b && false then Respond (plain_response 481) else EnterSubscription sub)) (sym is) tt
 
   in_due : (full : Bool) (named : Option DialogOwner) → IsRefusalOrSubscription (disposition_in d full named m)
   in_due full None = method_due full
-  in_due full (Some holder) = in_dialog_disposition_due holder
+  in_due full (Some owner) = in_dialog_disposition_due owner
 
   by_due : (full : Bool) (named : Option DialogOwner) (o : Option StatusResponse) → IfSome o (λ answer. nat_le 300 answer.code ≡ true) → IsRefusalOrSubscription (disposition_by d full named m o)
   by_due full named None h = in_due full named
@@ -780,6 +780,6 @@ untrusted_are_refused d token at key s w is untrusted =
 
 pub subscribers_are_notified : ((ops : List boxes.TableOp) (account : Account) → counts_in account (table_after ops) ≡ last_counts ops account) → SubscribersAreNotified
 subscribers_are_notified counts = record {
-  notified = λ d token loaded fuel recorded. told_so d token counts loaded fuel recorded;
+  notified = λ d token loaded fuel recorded. notified_so d token counts loaded fuel recorded;
   refused = untrusted_are_refused;
 }

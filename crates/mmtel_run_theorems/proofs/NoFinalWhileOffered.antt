@@ -15,7 +15,7 @@ use Rattle.mmtel_b2bua.specs.declared.signals.Signal.{Signal}
 use Rattle.mmtel_b2bua.specs.declared.signals.Signal.TheVariants as signal
 use Rattle.mmtel_b2bua_theorems.specs.TracesOfTables.{HasNumbers, IsOtherOp, OpensOther, arrival_of, call_of, continued_trace, emits_of, entry_by, entry_in, event_by, is_number, number_by, number_of, opening_by, out_by, received_event, signal_of_call, start_by, trace_of, with_event}
 use Rattle.mmtel_b2bua_theorems.specs.Theorems.{CallsTakeTheirSteps, OtherOperationsOutputNothing}
-use Rattle.mmtel_b2bua_theorems.specs.TracesWithTransfers as lives
+use Rattle.mmtel_b2bua_theorems.specs.TracesWithTransfers as transfers
 use Rattle.mmtel_b2bua_theorems.specs.TracesWithTransfers.{CallEvent, CallTraceWithTransfers, call_after, emits_after, emits_by}
 use Rattle.mmtel_b2bua_theorems.specs.Replies.{CallsReplyInTheirOwn, EventIsOf, TraceIsOf}
 use Rattle.mmtel_b2bua_theorems.specs.Observed.{labels_after, labels_in}
@@ -39,8 +39,8 @@ use Rattle.mmtel_transaction.specs.declared.words.Emit.TheVariants as emit
 use Rattle.mmtel_transaction.specs.declared.words.TKey.{TKey}
 use Rattle.mmtel_run_theorems.specs.PendingFinals.{is_final_in}
 use Rattle.mmtel_run_theorems.proofs.CallKeys.{IsAbove, IsAboveOlder, IsBelow, OpensBelow, Rises, keys}
-use Rattle.mmtel_run_theorems.proofs.TraceInduction.{AllHold, HoldsBy, life_holds}
-use Rattle.mmtel_run_theorems.proofs.OpeningTransactions.{AllStart, life_starts}
+use Rattle.mmtel_run_theorems.proofs.TraceInduction.{AllHold, HoldsBy, trace_holds}
+use Rattle.mmtel_run_theorems.proofs.OpeningTransactions.{AllStart, trace_starts}
 use Rattle.mmtel_run_theorems.proofs.Replies.{AllRepliesAllowed, HasReply, IsCallReply, IsElsewhere, IsReply, IsReplyAllowed, MayReply}
 
 both-ways : {A : Type 0} (b : Bool) → b ≡ true → b ≡ false → A
@@ -112,14 +112,14 @@ module _ (key : TKey) (m : Message StartLine) (final : is_provisional (status_in
   but-final (Refused code ∷ xs) h = inl tt
 
   shown-final : (x : CallEvent) (out : List Emit) → HasFinal (labels_of key out) → HasFinal (labels_in key x out)
-  shown-final (lives.Receives x) out h = go (is_reinvite x.signal)
+  shown-final (transfers.Receives x) out h = go (is_reinvite x.signal)
     where
       go : (b : Bool) → HasFinal (if b then without_relayed_invite (labels_of key out) else labels_of key out)
       go true = but-final (labels_of key out) h
       go false = h
-  shown-final (lives.Releases side) out h = h
-  shown-final (lives.Restores away) out h = h
-  shown-final (lives.Finishes at output) out h = h
+  shown-final (transfers.Releases side) out h = h
+  shown-final (transfers.Restores away) out h = h
+  shown-final (transfers.Finishes at output) out h = h
 
 has-apart : (k : ℕ) (m : Message StartLine) (xs ys : List Emit) → HasReply k m (xs ++ ys) → HasReply k m xs ⊎ HasReply k m ys
 has-apart k m [] ys has = inr has
@@ -130,12 +130,12 @@ has-apart k m (x ∷ xs) ys (inr has) = go (has-apart k m xs ys has)
     go (inl h) = inl (inr h)
     go (inr h) = inr h
 
-life-final : (s : TraceStart) (events : List CallEvent) (m : Message StartLine) → is_provisional (status_in m.start) ≡ false → HasReply s.arrival.key.0 m (emits_after s events) → HasFinal (labels_after s events)
+trace-final : (s : TraceStart) (events : List CallEvent) (m : Message StartLine) → is_provisional (status_in m.start) ≡ false → HasReply s.arrival.key.0 m (emits_after s events) → HasFinal (labels_after s events)
 unfolding emits_after labels_after
-life-final s [] m final has = signs-final s.arrival.key m final (items_added s.output.out (first_step s).output.out) has
-life-final s (x ∷ earlier) m final has =
+trace-final s [] m final has = signs-final s.arrival.key m final (items_added s.output.out (first_step s).output.out) has
+trace-final s (x ∷ earlier) m final has =
     let out = emits_by s.config x (call_after s earlier) in
-    go (has-apart s.arrival.key.0 m (emits_after s earlier) out has) (life-final s earlier m final)
+    go (has-apart s.arrival.key.0 m (emits_after s earlier) out has) (trace-final s earlier m final)
   where
     go : HasReply s.arrival.key.0 m (emits_after s earlier) ⊎ HasReply s.arrival.key.0 m (emits_by s.config x (call_after s earlier)) →
         (HasReply s.arrival.key.0 m (emits_after s earlier) → HasFinal (labels_after s earlier)) →
@@ -188,12 +188,12 @@ signal-below k (signal.Silent branch method) h = tt
 signal-below k (signal.Due call what) h = tt
 signal-below k (signal.Over key) h = tt
 
-deed-below : (k : ℕ) (op : TableOp) → IsBelow k op → IsOther k op
-deed-below k (Receives x) h = signal-below k x.signal h
-deed-below k (Releases number side) h = tt
-deed-below k (Restores number away) h = tt
-deed-below k (Finishes number at tokens) h = tt
-deed-below k (Drops count) h = tt
+op-below : (k : ℕ) (op : TableOp) → IsBelow k op → IsOther k op
+op-below k (Receives x) h = signal-below k x.signal h
+op-below k (Releases number side) h = tt
+op-below k (Restores number away) h = tt
+op-below k (Finishes number at tokens) h = tt
+op-below k (Drops count) h = tt
 
 -- where this one is less than all numbers that those before are less than
 signal-above : (k : ℕ) (s : Signal) (older : List TableOp) → ((n : ℕ) → Each (IsBelow n) older → k < n) → IsAbove s older → HasOther k s
@@ -206,12 +206,12 @@ signal-above k (signal.Silent branch method) older low h = tt
 signal-above k (signal.Due call what) older low h = tt
 signal-above k (signal.Over key) older low h = tt
 
-deed-above : (k : ℕ) (op : TableOp) (older : List TableOp) → ((n : ℕ) → Each (IsBelow n) older → k < n) → IsAboveOlder op older → IsOther k op
-deed-above k (Receives x) older low h = signal-above k x.signal older low h
-deed-above k (Releases number side) older low h = tt
-deed-above k (Restores number away) older low h = tt
-deed-above k (Finishes number at tokens) older low h = tt
-deed-above k (Drops count) older low h = tt
+op-above : (k : ℕ) (op : TableOp) (older : List TableOp) → ((n : ℕ) → Each (IsBelow n) older → k < n) → IsAboveOlder op older → IsOther k op
+op-above k (Receives x) older low h = signal-above k x.signal older low h
+op-above k (Releases number side) older low h = tt
+op-above k (Restores number away) older low h = tt
+op-above k (Finishes number at tokens) older low h = tt
+op-above k (Drops count) older low h = tt
 
 module _ (config : CallConfigView) where
   -- ---- the INVITE that opened a call
@@ -227,19 +227,19 @@ module _ (config : CallConfigView) where
   starts-below n x es number (signal.Due call what) h = tt
   starts-below n x es number (signal.Over key) h = tt
 
-  deed-starts-below : (n : ℕ) (op : TableOp) (older : List TableOp) → IsBelow n op → IfSome (opening_by config op (table_after config older)) (λ s. s.arrival.key.0 < n)
-  deed-starts-below n (Receives x) older h = starts-below n x (table_after config older).entries _ x.signal h
-  deed-starts-below n (Releases number side) older h = tt
-  deed-starts-below n (Restores number away) older h = tt
-  deed-starts-below n (Finishes number at tokens) older h = tt
-  deed-starts-below n (Drops count) older h = tt
+  op-starts-below : (n : ℕ) (op : TableOp) (older : List TableOp) → IsBelow n op → IfSome (opening_by config op (table_after config older)) (λ s. s.arrival.key.0 < n)
+  op-starts-below n (Receives x) older h = starts-below n x (table_after config older).entries _ x.signal h
+  op-starts-below n (Releases number side) older h = tt
+  op-starts-below n (Restores number away) older h = tt
+  op-starts-below n (Finishes number at tokens) older h = tt
+  op-starts-below n (Drops count) older h = tt
 
   all-start-below : (n number : ℕ) (ops : List TableOp) → Each (IsBelow n) ops → AllStart config number (λ s. s.arrival.key.0 < n) ops
   all-start-below n number [] h = tt
-  all-start-below n number (op ∷ older) h = (deed-starts-below n op older h.0, all-start-below n number older h.1)
+  all-start-below n number (op ∷ older) h = (op-starts-below n op older h.0, all-start-below n number older h.1)
 
-  life-below : (n number : ℕ) (ops : List TableOp) (trace : CallTraceWithTransfers) → Each (IsBelow n) ops → trace_of config number ops ≡ Some trace → trace.start.arrival.key.0 < n
-  life-below n number ops trace h is = life_starts config number (λ s. s.arrival.key.0 < n) ops trace (all-start-below n number ops h) is
+  trace-below : (n number : ℕ) (ops : List TableOp) (trace : CallTraceWithTransfers) → Each (IsBelow n) ops → trace_of config number ops ≡ Some trace → trace.start.arrival.key.0 < n
+  trace-below n number ops trace h is = trace_starts config number (λ s. s.arrival.key.0 < n) ops trace (all-start-below n number ops h) is
 
   starts-other : (k : ℕ) (x : ReceivedSignal) (es : List Entry) (number : ℕ) (s : Signal) → OpensOther (tkey k) s →
       IfSome (option_map (start_by config x es) (arrival_of number s)) (λ s. (k == s.arrival.key.0) ≡ false)
@@ -252,16 +252,16 @@ module _ (config : CallConfigView) where
   starts-other k x es number (signal.Due call what) h = tt
   starts-other k x es number (signal.Over key) h = tt
 
-  deed-starts-other : (k : ℕ) (op : TableOp) (older : List TableOp) → IsOtherOp (tkey k) op → IfSome (opening_by config op (table_after config older)) (λ s. (k == s.arrival.key.0) ≡ false)
-  deed-starts-other k (Receives x) older h = starts-other k x (table_after config older).entries _ x.signal h
-  deed-starts-other k (Releases number side) older h = tt
-  deed-starts-other k (Restores number away) older h = tt
-  deed-starts-other k (Finishes number at tokens) older h = tt
-  deed-starts-other k (Drops count) older h = tt
+  op-starts-other : (k : ℕ) (op : TableOp) (older : List TableOp) → IsOtherOp (tkey k) op → IfSome (opening_by config op (table_after config older)) (λ s. (k == s.arrival.key.0) ≡ false)
+  op-starts-other k (Receives x) older h = starts-other k x (table_after config older).entries _ x.signal h
+  op-starts-other k (Releases number side) older h = tt
+  op-starts-other k (Restores number away) older h = tt
+  op-starts-other k (Finishes number at tokens) older h = tt
+  op-starts-other k (Drops count) older h = tt
 
   all-start-other : (k number : ℕ) (ops : List TableOp) → Each (IsOtherOp (tkey k)) ops → AllStart config number (λ s. (k == s.arrival.key.0) ≡ false) ops
   all-start-other k number [] h = tt
-  all-start-other k number (op ∷ older) h = (deed-starts-other k op older h.0, all-start-other k number older h.1)
+  all-start-other k number (op ∷ older) h = (op-starts-other k op older h.0, all-start-other k number older h.1)
 
   -- ---- each operation in the transaction by which a call was opened is of that call
 
@@ -271,7 +271,7 @@ module _ (config : CallConfigView) where
 
   below-apart : (number k : ℕ) (ops : List TableOp) → Each (IsBelow k) ops → AllApart number k ops
   below-apart number k [] h = tt
-  below-apart number k (op ∷ older) h = ((λ other. deed-below k op h.0), below-apart number k older h.1)
+  below-apart number k (op ∷ older) h = ((λ other. op-below k op h.0), below-apart number k older h.1)
 
   opens-above : (x : ReceivedSignal) (es : List Entry) (number : ℕ) (older : List TableOp) (s : Signal) → IsAbove s older →
       IfSome (option_map (start_by config x es) (arrival_of number s)) (λ s. Each (IsBelow s.arrival.key.0) older)
@@ -284,12 +284,12 @@ module _ (config : CallConfigView) where
   opens-above x es number older (signal.Due call what) h = tt
   opens-above x es number older (signal.Over key) h = tt
 
-  deed-opens-above : (op : TableOp) (older : List TableOp) → IsAboveOlder op older → IfSome (opening_by config op (table_after config older)) (λ s. Each (IsBelow s.arrival.key.0) older)
-  deed-opens-above (Receives x) older h = opens-above x (table_after config older).entries _ older x.signal h
-  deed-opens-above (Releases number side) older h = tt
-  deed-opens-above (Restores number away) older h = tt
-  deed-opens-above (Finishes number at tokens) older h = tt
-  deed-opens-above (Drops count) older h = tt
+  op-opens-above : (op : TableOp) (older : List TableOp) → IsAboveOlder op older → IfSome (opening_by config op (table_after config older)) (λ s. Each (IsBelow s.arrival.key.0) older)
+  op-opens-above (Receives x) older h = opens-above x (table_after config older).entries _ older x.signal h
+  op-opens-above (Releases number side) older h = tt
+  op-opens-above (Restores number away) older h = tt
+  op-opens-above (Finishes number at tokens) older h = tt
+  op-opens-above (Drops count) older h = tt
 
   abbrev IsApart : ℕ → TableOp → List TableOp → CallTraceWithTransfers → Type 0
   IsApart number op older trace = AllApart number trace.start.arrival.key.0 (op ∷ older)
@@ -312,7 +312,7 @@ module _ (config : CallConfigView) where
   unfolding trace_of
   apart number [] trace r is = absurd (none-some trace is)
   apart number (op ∷ older) trace r is =
-      go (is_number number (call_of config op (table_after config older))) refl is (λ trace. apart number older trace r.1) (λ n trace. life-below n number older trace)
+      go (is_number number (call_of config op (table_after config older))) refl is (λ trace. apart number older trace r.1) (λ n trace. trace-below n number older trace)
     where
       go : (b : Bool) → is_number number (call_of config op (table_after config older)) ≡ b →
           (if b then continued_trace (opening_by config op (table_after config older)) (event_by op number (table_after config older).entries) (trace_of config number older) else trace_of config number older) ≡ Some trace →
@@ -320,8 +320,8 @@ module _ (config : CallConfigView) where
           ((n : ℕ) (trace : CallTraceWithTransfers) → Each (IsBelow n) older → trace_of config number older ≡ Some trace → trace.start.arrival.key.0 < n) → IsApart number op older trace
       go true mine now before low =
           goes-apart number op older (opening_by config op (table_after config older)) (event_by op number (table_after config older).entries) (trace_of config number older) trace mine
-          (deed-opens-above op older r.0) before now
-      go false mine now before low = ((λ other. deed-above trace.start.arrival.key.0 op older (λ n below. low n trace below now) r.0), before trace now)
+          (op-opens-above op older r.0) before now
+      go false mine now before low = ((λ other. op-above trace.start.arrival.key.0 op older (λ n below. low n trace below now) r.0), before trace now)
 
   -- ---- in which transactions a call replies
 
@@ -337,12 +337,12 @@ module _ (config : CallConfigView) where
     HasIn (signal.Due call what) = Unit {0}
     HasIn (signal.Over key) = Unit {0}
 
-    abbrev DeedIn : TableOp → Type 0
-    DeedIn (Receives x) = HasIn x.signal
-    DeedIn (Releases number side) = Unit {0}
-    DeedIn (Restores number away) = Unit {0}
-    DeedIn (Finishes number at tokens) = Unit {0}
-    DeedIn (Drops count) = Unit {0}
+    abbrev OpIsIn : TableOp → Type 0
+    OpIsIn (Receives x) = HasIn x.signal
+    OpIsIn (Releases number side) = Unit {0}
+    OpIsIn (Restores number away) = Unit {0}
+    OpIsIn (Finishes number at tokens) = Unit {0}
+    OpIsIn (Drops count) = Unit {0}
 
     signal-opens : (x : ReceivedSignal) (es : List Entry) (number : ℕ) (s : Signal) → HasIn s → IfSome (option_map (start_by config x es) (arrival_of number s)) (λ s. TraceIsOf own s [])
     signal-opens x es number (signal.Arrived key invite served registration identities) h = record { opening = h; output = tt; events_in = tt }
@@ -354,12 +354,12 @@ module _ (config : CallConfigView) where
     signal-opens x es number (signal.Due call what) h = tt
     signal-opens x es number (signal.Over key) h = tt
 
-    deed-opens : (op : TableOp) (older : List TableOp) → DeedIn op → IfSome (opening_by config op (table_after config older)) (λ s. TraceIsOf own s [])
-    deed-opens (Receives x) older h = signal-opens x (table_after config older).entries _ x.signal h
-    deed-opens (Releases number side) older h = tt
-    deed-opens (Restores number away) older h = tt
-    deed-opens (Finishes number at tokens) older h = tt
-    deed-opens (Drops count) older h = tt
+    op-opens : (op : TableOp) (older : List TableOp) → OpIsIn op → IfSome (opening_by config op (table_after config older)) (λ s. TraceIsOf own s [])
+    op-opens (Receives x) older h = signal-opens x (table_after config older).entries _ x.signal h
+    op-opens (Releases number side) older h = tt
+    op-opens (Restores number away) older h = tt
+    op-opens (Finishes number at tokens) older h = tt
+    op-opens (Drops count) older h = tt
 
     abbrev GoesOnSo : CallEvent → Type 0
     GoesOnSo x = (s : TraceStart) (earlier : List CallEvent) → TraceIsOf own s earlier → TraceIsOf own s (x ∷ earlier)
@@ -377,15 +377,15 @@ module _ (config : CallConfigView) where
     signal-comes x es number (signal.Due call what) h = goes-so _ (tt, tt)
     signal-comes x es number (signal.Over key) h = goes-so _ (tt, tt)
 
-    deed-comes : (op : TableOp) (number : ℕ) (es : List Entry) → DeedIn op → IfSome (event_by op number es) GoesOnSo
-    deed-comes (Receives x) number es h = signal-comes x es number x.signal h
-    deed-comes (Releases call side) number es h = goes-so (lives.Releases side) tt
-    deed-comes (Restores call away) number es h = goes-so (lives.Restores away) tt
-    deed-comes (Finishes call at tokens) number es h = goes-so _ tt
-    deed-comes (Drops count) number es h = tt
+    op-comes : (op : TableOp) (number : ℕ) (es : List Entry) → OpIsIn op → IfSome (event_by op number es) GoesOnSo
+    op-comes (Receives x) number es h = signal-comes x es number x.signal h
+    op-comes (Releases call side) number es h = goes-so (transfers.Releases side) tt
+    op-comes (Restores call away) number es h = goes-so (transfers.Restores away) tt
+    op-comes (Finishes call at tokens) number es h = goes-so _ tt
+    op-comes (Drops count) number es h = tt
 
-    deed-holds : (number : ℕ) (op : TableOp) (older : List TableOp) → DeedIn op → HoldsBy config number (TraceIsOf own) op older
-    deed-holds number op older h = record { opens = deed-opens op older h; comes = deed-comes op number (table_after config older).entries h }
+    op-holds : (number : ℕ) (op : TableOp) (older : List TableOp) → OpIsIn op → HoldsBy config number (TraceIsOf own) op older
+    op-holds number op older h = record { opens = op-opens op older h; comes = op-comes op number (table_after config older).entries h }
 
   -- another call than that which was opened by this one
   module _ (k : ℕ) where
@@ -402,12 +402,12 @@ module _ (config : CallConfigView) where
     signal-but (signal.Due call what) h = tt
     signal-but (signal.Over key) h = tt
 
-    deed-but : (op : TableOp) → IsOther k op → DeedIn own_but op
-    deed-but (Receives x) h = signal-but x.signal h
-    deed-but (Releases number side) h = tt
-    deed-but (Restores number away) h = tt
-    deed-but (Finishes number at tokens) h = tt
-    deed-but (Drops count) h = tt
+    op-but : (op : TableOp) → IsOther k op → OpIsIn own_but op
+    op-but (Receives x) h = signal-but x.signal h
+    op-but (Releases number side) h = tt
+    op-but (Restores number away) h = tt
+    op-but (Finishes number at tokens) h = tt
+    op-but (Drops count) h = tt
 
     other-number : (number n : ℕ) (o : Option ℕ) → (n == number) ≡ false → is_number n o ≡ true → is_number number o ≡ false
     other-number number n None other is = refl
@@ -416,12 +416,12 @@ module _ (config : CallConfigView) where
     all-but : (number n : ℕ) (ops : List TableOp) → (n == number) ≡ false → AllApart number k ops → AllHold config n (TraceIsOf own_but) ops
     all-but number n [] other a = tt
     all-but number n (op ∷ older) other a = (
-      (λ mine. deed-holds own_but n op older (deed-but op (a.0 (other-number number n (call_of config op (table_after config older)) other mine)))),
+      (λ mine. op-holds own_but n op older (op-but op (a.0 (other-number number n (call_of config op (table_after config older)) other mine)))),
       all-but number n older other a.1,
     )
 
     other-of : (number n : ℕ) (ops : List TableOp) (trace : CallTraceWithTransfers) → (n == number) ≡ false → AllApart number k ops → trace_of config n ops ≡ Some trace → TraceIsOf own_but trace.start trace.events
-    other-of number n ops trace other a is = life_holds config n (TraceIsOf own_but) ops trace (all-but number n ops other a) is
+    other-of number n ops trace other a is = trace_holds config n (TraceIsOf own_but) ops trace (all-but number n ops other a) is
 
   -- any call whose requests are of so many transactions
   module _ (n : ℕ) where
@@ -441,19 +441,19 @@ module _ (config : CallConfigView) where
     signal-in (signal.Due call what) h = tt
     signal-in (signal.Over key) h = tt
 
-    deed-in : (op : TableOp) → IsBelow n op → DeedIn own_below op
-    deed-in (Receives x) h = signal-in x.signal h
-    deed-in (Releases number side) h = tt
-    deed-in (Restores number away) h = tt
-    deed-in (Finishes number at tokens) h = tt
-    deed-in (Drops count) h = tt
+    op-in : (op : TableOp) → IsBelow n op → OpIsIn own_below op
+    op-in (Receives x) h = signal-in x.signal h
+    op-in (Releases number side) h = tt
+    op-in (Restores number away) h = tt
+    op-in (Finishes number at tokens) h = tt
+    op-in (Drops count) h = tt
 
     all-in : (number : ℕ) (ops : List TableOp) → Each (IsBelow n) ops → AllHold config number (TraceIsOf own_below) ops
     all-in number [] h = tt
-    all-in number (op ∷ older) h = ((λ mine. deed-holds own_below number op older (deed-in op h.0)), all-in number older h.1)
+    all-in number (op ∷ older) h = ((λ mine. op-holds own_below number op older (op-in op h.0)), all-in number older h.1)
 
     below-of : (number : ℕ) (ops : List TableOp) (trace : CallTraceWithTransfers) → Each (IsBelow n) ops → trace_of config number ops ≡ Some trace → TraceIsOf own_below trace.start trace.events
-    below-of number ops trace h is = life_holds config number (TraceIsOf own_below) ops trace (all-in number ops h) is
+    below-of number ops trace h is = trace_holds config number (TraceIsOf own_below) ops trace (all-in number ops h) is
 
   replied-in : (own : ℕ → Bool) (k : ℕ) (m : Message StartLine) (x : Emit) → IsReply k m x → IsRepliedIn own x → own k ≡ true
   replied-in own k m (emit.Ask peer message) is in_own = absurd is
@@ -530,13 +530,13 @@ module _ (config : CallConfigView) where
   few-before (Drops count) older few = few
 
   module _ (steps : CallsTakeTheirSteps) (nobodys : OtherOperationsOutputNothing) where
-    abbrev HasLife : ℕ → List TableOp → Type 0
-    HasLife n ops = (trace : CallTraceWithTransfers) × (trace_of config n ops ≡ Some trace)
+    abbrev HasTrace : ℕ → List TableOp → Type 0
+    HasTrace n ops = (trace : CallTraceWithTransfers) × (trace_of config n ops ≡ Some trace)
 
     -- the call to which an operation belongs has a trace
-    lives-by : (op : TableOp) (older : List TableOp) (n : ℕ) → HasNumbers config older → call_of config op (table_after config older) ≡ Some n → HasLife n (op ∷ older)
+    traces-by : (op : TableOp) (older : List TableOp) (n : ℕ) → HasNumbers config older → call_of config op (table_after config older) ≡ Some n → HasTrace n (op ∷ older)
     unfolding trace_of
-    lives-by op older n few is = go (opening_by config op (table_after config older)) (entry_by op (table_after config older).entries) refl refl is
+    traces-by op older n few is = go (opening_by config op (table_after config older)) (entry_by op (table_after config older).entries) refl refl is
       where
         came : Option CallEvent
         came = event_by op n (table_after config older).entries
@@ -551,7 +551,7 @@ module _ (config : CallConfigView) where
             ∙ ap (λ opens. continued_trace opens came (trace_of config n older)) o ∙ ap (continued_trace opens came) l
 
         go : (opens : Option TraceStart) (met : Option Entry) → opening_by config op (table_after config older) ≡ opens → entry_by op (table_after config older).entries ≡ met →
-            number_by opens met ≡ Some n → HasLife n (op ∷ older)
+            number_by opens met ≡ Some n → HasTrace n (op ∷ older)
         go (Some s) met o m is = (record { start = s; events = [] }, so (Some s) (trace_of config n older) o refl)
         go None None o m is = absurd (none-some n is)
         go None (Some e) o m is =
@@ -563,9 +563,9 @@ module _ (config : CallConfigView) where
             (with_event came trace, so None (Some trace) o l)
 
     -- and still has one
-    lives-on : (op : TableOp) (older : List TableOp) (n : ℕ) → HasLife n older → HasLife n (op ∷ older)
+    traces-continue : (op : TableOp) (older : List TableOp) (n : ℕ) → HasTrace n older → HasTrace n (op ∷ older)
     unfolding trace_of
-    lives-on op older n (trace, is) = go (is_number n (call_of config op (table_after config older))) (opening_by config op (table_after config older))
+    traces-continue op older n (trace, is) = go (is_number n (call_of config op (table_after config older))) (opening_by config op (table_after config older))
       where
         came : Option CallEvent
         came = event_by op n (table_after config older).entries
@@ -577,7 +577,7 @@ module _ (config : CallConfigView) where
 
     record IsFound (k : ℕ) (m : Message StartLine) (ops : List TableOp) : Type 0 where
       n : ℕ
-      trace : HasLife n ops
+      trace : HasTrace n ops
       has : HasReply k m (emits_of config n ops)
 
     found : (k : ℕ) (m : Message StartLine) (ops : List TableOp) → HasNumbers config ops → IsCallReply config k m ops → IsFound k m ops
@@ -591,14 +591,14 @@ module _ (config : CallConfigView) where
             let its : is_number n (call_of config op (table_after config older)) ≡ true = ap (is_number n) is ∙ eq-eqb n n refl in
             record {
               n = n;
-              trace = lives-by op older n (few-before op older few) is;
+              trace = traces-by op older n (few-before op older few) is;
               has =
                   has-right k m (emits_of config n older) _
                   (subst (λ b. HasReply k m (if b then out_by config op (table_after config older) else [])) (sym its) has);
             }
     found k m (op ∷ older) few (inr brought) =
         let f : IsFound k m older = found k m older (few-before op older few) brought in
-        record { n = f.n; trace = lives-on op older f.n f.trace; has = has-left k m (emits_of config f.n older) _ f.has }
+        record { n = f.n; trace = traces-continue op older f.n f.trace; has = has-left k m (emits_of config f.n older) _ f.has }
 
     -- ---- each reply is in a transaction that was opened before it
 
@@ -651,7 +651,7 @@ module _ (config : CallConfigView) where
       -- and none is elsewhere
       none-elsewhere : (n k : ℕ) → (k == key_in) ≡ true → IsElsewhere n k ops → ⊥
       none-elsewhere n k same away =
-          both-ways (k == key_in) same (life_starts config number (λ s. (k == s.arrival.key.0) ≡ false) ops trace (all-start-other k number ops away.other) is)
+          both-ways (k == key_in) same (trace_starts config number (λ s. (k == s.arrival.key.0) ≡ false) ops trace (all-start-other k number ops away.other) is)
 
       may-own : (n k : ℕ) (m : Message StartLine) → (k == key_in) ≡ true → MayReply config n ops k m → HasReply key_in m (emits_of config number ops)
       may-own n k m same (inl by) =
@@ -669,7 +669,7 @@ module _ (config : CallConfigView) where
         may-none : (n k : ℕ) (m : Message StartLine) → (k == key_in) ≡ true → is_provisional (head_of m).status ≡ false → MayReply config n ops k m → ⊥
         may-none n k m same final may =
             none-invited o targets
-            (subst HasFinal shown (life-final trace.start trace.events m (ap is_provisional (sym (status_read m)) ∙ final) (subst (HasReply key_in m) emits (may-own n k m same may))))
+            (subst HasFinal shown (trace-final trace.start trace.events m (ap is_provisional (sym (status_read m)) ∙ final) (subst (HasReply key_in m) emits (may-own n k m same may))))
 
         act-none : (n : ℕ) (act : TransactionOp) → IsReplyAllowed config n ops act → is_final_in key_in act ≡ false
         act-none n (DidBegin step) a = refl

@@ -81,10 +81,10 @@ use Rattle.mmtel_run_definitions.specs.Run.{after_deadline_if, after_due_deadlin
 use Rattle.mmtel_run_definitions.specs.Subscriptions.{after_notify_response, grant_response, other_response, refusal_response, with_mailbox_op}
 use Rattle.mmtel_run_definitions.specs.Transitions.{RunState, after_ack_by, with_action, after_adoption_if, adoption_op, after_service_timer, after_classified_message, with_timer, initial_state, with_next_step, with_call_output, calls_in, after_event, after_cancel, after_cancel_of, output_of_conference_op, with_draws, with_emit, with_emits, after_transaction_end, after_participant_request, after_call_end, after_deadline, after_handover, conference_signal_op, received_now, with_received_action, dialog_owner_in, after_conference_op, join_op, with_call_op, with_conference_output, after_parsed_event, next_tag, after_refer_notify, with_offers, opening_op, with_registration, with_retransmission, after_replacing_named, after_replacing_side, after_replaces, with_response, with_stateless_response, after_response_to, after_join_if, after_opening_if, conferences_in, after_due, after_conference_signal, after_web_reply, after_call_signal, after_request_timeout, after_detach, after_disposition, to_peer, tokens_now, after_message, subscriptions_in}
 use Rattle.mmtel_run_theorems.specs.NoInjection.{ActionHasOwnFields, Builds, IsOwnAck, IsOwnOffer, IsOwnReply, IsReceivedIn, IsSentIn, RunHasNoInjection, stateless_reply}
-use Rattle.mmtel_run_theorems.proofs.Acks.{AreHeard, IsAckOfEvent, ack_still, acked_heard, emits_more, is_ack_heard, own_ack}
+use Rattle.mmtel_run_theorems.proofs.Acks.{AreAcksOfEvents, IsAckOfEvent, ack_still, acks_received, emits_more, is_ack_received, own_ack}
 use Rattle.mmtel_run_definitions.proofs.MailboxSteps as steps
 use Rattle.mmtel_run_definitions.proofs.MailboxSteps.{AreResponses, AreSteps, tells_in}
-use Rattle.mmtel_run_theorems.proofs.NoInjectionOfNotifies.{OpHasNoInjection as IsCleanBoxDeed, grant_response_no_injection, none_no_injection, notify_request_no_injection, other_no_injection, refusing_no_injection}
+use Rattle.mmtel_run_theorems.proofs.NoInjectionOfNotifies.{OpHasNoInjection as MailboxOpHasNoInjection, grant_response_no_injection, none_no_injection, notify_request_no_injection, other_no_injection, refusing_no_injection}
 use Rattle.mmtel_run_theorems.proofs.Dispositions.{DispositionHasNoInjection, IsReadWithFields, ResponseHasNoInjection, answer_no_injection, disposition_no_injection, message_view_well, reply_no_injection, tag_no_injection}
 use Rattle.mmtel_run_theorems.proofs.Received.{ReadResultHasNoInjection, read_result_no_injection}
 use Rattle.mmtel_run_theorems.proofs.Sheets.{kept_no_injection}
@@ -105,9 +105,9 @@ records_no_injection law texts registrations number =
 module _ (d : Directory) (whole : List EventRecord) where
   record Good (w : RunState) : Type 0 where
     ops : Each OpAndLegHaveNoInjection w.call_ops
-    acked : AreHeard d whole (acked_after (call_config d) w.call_ops)
+    acked : AreAcksOfEvents d whole (acked_after (call_config d) w.call_ops)
     conferences : Each heads.OpHasNoInjection w.conference_ops
-    boxes : Each IsCleanBoxDeed w.mailbox_ops
+    boxes : Each MailboxOpHasNoInjection w.mailbox_ops
     acts : AreGoodActions w.actions
     offers : Each (IsOwnOffer d whole w.actions w.call_ops) w.offers
 
@@ -147,9 +147,9 @@ module _ (d : Directory) (whole : List EventRecord) where
   alike : (w v : RunState) → v.call_ops ≡ w.call_ops → v.conference_ops ≡ w.conference_ops → v.mailbox_ops ≡ w.mailbox_ops → v.actions ≡ w.actions → v.offers ≡ w.offers → Good w → Good v
   alike w v ops seats mailboxes acts offers g = record {
     ops = subst (Each OpAndLegHaveNoInjection) (sym ops) g.ops;
-    acked = subst (λ (h : List TableOp). AreHeard d whole (acked_after (call_config d) h)) (sym ops) g.acked;
+    acked = subst (λ (h : List TableOp). AreAcksOfEvents d whole (acked_after (call_config d) h)) (sym ops) g.acked;
     conferences = subst (Each heads.OpHasNoInjection) (sym seats) g.conferences;
-    boxes = subst (Each IsCleanBoxDeed) (sym mailboxes) g.boxes;
+    boxes = subst (Each MailboxOpHasNoInjection) (sym mailboxes) g.boxes;
     acts = subst AreGoodActions (sym acts) g.acts;
     offers =
         subst (λ (h : List TableOp). Each (IsOwnOffer d whole v.actions h) v.offers) (sym ops)
@@ -201,19 +201,19 @@ module _ (d : Directory) (whole : List EventRecord) (own_law : (m : Message Star
   emit_good at (emit.Arm call what when) w c g = record { ops = g.ops; acked = g.acked; conferences = g.conferences; boxes = g.boxes; acts = g.acts; offers = g.offers }
   emit_good at (emit.ArmSeat room seat what when) w c g = record { ops = g.ops; acked = g.acked; conferences = g.conferences; boxes = g.boxes; acts = g.acts; offers = g.offers }
 
-  same_deeds : (at : ℕ) (x : Emit) (w : RunState) → (with_emit at x w).call_ops ≡ w.call_ops
-  same_deeds at (emit.Ask peer message) w = refl
-  same_deeds at (emit.Reply key message) w = refl
-  same_deeds at (emit.Plain peer text) w = refl
-  same_deeds at (emit.Ack key message) w = refl
-  same_deeds at (emit.Settled key own) w = refl
-  same_deeds at (emit.Arm call what when) w = refl
-  same_deeds at (emit.ArmSeat room seat what when) w = refl
+  same_ops : (at : ℕ) (x : Emit) (w : RunState) → (with_emit at x w).call_ops ≡ w.call_ops
+  same_ops at (emit.Ask peer message) w = refl
+  same_ops at (emit.Reply key message) w = refl
+  same_ops at (emit.Plain peer text) w = refl
+  same_ops at (emit.Ack key message) w = refl
+  same_ops at (emit.Settled key own) w = refl
+  same_ops at (emit.Arm call what when) w = refl
+  same_ops at (emit.ArmSeat room seat what when) w = refl
 
   with_emits_good : (at : ℕ) (xs : List Emit) (w : RunState) → Each (IsCleanAfter w.call_ops) xs → Good d whole w → Good d whole (with_emits at xs w)
   with_emits_good at [] w c g = g
   with_emits_good at (x ∷ xs) w c g =
-      with_emits_good at xs (with_emit at x w) (subst (λ (ops : List TableOp). Each (IsCleanAfter ops) xs) (sym (same_deeds at x w)) c.1) (emit_good at x w c.0 g)
+      with_emits_good at xs (with_emit at x w) (subst (λ (ops : List TableOp). Each (IsCleanAfter ops) xs) (sym (same_ops at x w)) c.1) (emit_good at x w c.0 g)
 
   module _ (sends : OperationsSendNoInjection) (legs : ReleasedLegsHaveNoInjection) (seats_send : EmitsHaveNoInjection) (views : CallsSeeWhatIsInForce) (read : ReadingHasNoInjection)
       (token : List ℕ) (home : HasNoInjection d.home) (clean_token : HasNoInjection token) where
@@ -225,7 +225,7 @@ module _ (d : Directory) (whole : List EventRecord) (own_law : (m : Message Star
     came_in : (earlier : List EventRecord) (event : EventRecord) (later : List EventRecord) → whole ≡ earlier ++ event ∷ later → IsMet (events.parsed_record d event)
     came_in earlier event later is = record {
       own = λ tag m replies clean. record { earlier = earlier; event = event; later = later; in_order = is; tag = tag; message = m; replies = replies; lines = own_law m clean; is = refl };
-      received = λ said digest. record { earlier = earlier; event = event; later = later; in_order = is; is = digest };
+      received = λ said parsed_input. record { earlier = earlier; event = event; later = later; in_order = is; is = parsed_input };
     }
 
     -- ---- an operation on calls
@@ -234,7 +234,7 @@ module _ (d : Directory) (whole : List EventRecord) (own_law : (m : Message Star
     abbrev acks_of : TableOp → RunState → List ReceivedAck
     acks_of op w = acked_by (call_config d) op (calls_in d w).entries
 
-    bringing_good : (at : ℕ) (op : TableOp) (output : StepOutput) (w : RunState) → Each (IsCleanAfter (op ∷ w.call_ops)) output.out → OpAndLegHaveNoInjection op → AreHeard d whole (acks_of op w) →
+    bringing_good : (at : ℕ) (op : TableOp) (output : StepOutput) (w : RunState) → Each (IsCleanAfter (op ∷ w.call_ops)) output.out → OpAndLegHaveNoInjection op → AreAcksOfEvents d whole (acks_of op w) →
         Good d whole w → Good d whole (with_call_output at op output w)
     bringing_good at op output w out c acked g =
         with_emits_good at output.out (record w { call_ops = Drops (length output.rows) ∷ op ∷ w.call_ops; drawn = output.tokens.drawn; waiting = w.waiting ++ output.rows }) out
@@ -247,13 +247,13 @@ module _ (d : Directory) (whole : List EventRecord) (own_law : (m : Message Star
           offers = offers_kept d whole (Drops (length output.rows)) w.actions (op ∷ w.call_ops) w.offers (offers_kept d whole op w.actions w.call_ops w.offers g.offers);
         })
 
-    hearing_clean : (at : ℕ) (x : Signal) (w : RunState) → SignalHasNoInjection x → ReceivedHasNoInjection (received_now token at x w)
-    hearing_clean at x w c = record { records = records_no_injection views w.texts w.registrations; signal = c; token = clean_token }
+    receiving_clean : (at : ℕ) (x : Signal) (w : RunState) → SignalHasNoInjection x → ReceivedHasNoInjection (received_now token at x w)
+    receiving_clean at x w c = record { records = records_no_injection views w.texts w.registrations; signal = c; token = clean_token }
 
-    signalled_good : (at : ℕ) (x : Signal) (w : RunState) → SignalHasNoInjection x → AreHeard d whole (acked_of (call_config d) x (calls_in d w).entries) → Good d whole w →
+    signalled_good : (at : ℕ) (x : Signal) (w : RunState) → SignalHasNoInjection x → AreAcksOfEvents d whole (acked_of (call_config d) x (calls_in d w).entries) → Good d whole w →
         Good d whole (after_call_signal d token at x w)
     signalled_good at x w c acked g =
-        let is : ReceivedHasNoInjection (received_now token at x w) = hearing_clean at x w c in
+        let is : ReceivedHasNoInjection (received_now token at x w) = receiving_clean at x w c in
         bringing_good at (Receives (received_now token at x w)) (step_on_receive_after (call_config d) w.call_ops (received_now token at x w)).output w
         (sends (call_config d) w.call_ops (Receives (received_now token at x w)) home (is, g.ops)) is acked g
 
@@ -262,7 +262,7 @@ module _ (d : Directory) (whole : List EventRecord) (own_law : (m : Message Star
         bringing_good at (Finishes call.0 at (tokens_now token w)) (step_on_finish (call_config d) call.0 at (tokens_now token w) (calls_in d w)).output w
         (sends (call_config d) w.call_ops (Finishes call.0 at (tokens_now token w)) home (clean_token, g.ops)) clean_token tt g
 
-    lending_good : (op : TableOp) (w : RunState) → OpAndLegHaveNoInjection op → AreHeard d whole (acks_of op w) → Good d whole w → Good d whole (with_call_op op w)
+    lending_good : (op : TableOp) (w : RunState) → OpAndLegHaveNoInjection op → AreAcksOfEvents d whole (acks_of op w) → Good d whole w → Good d whole (with_call_op op w)
     lending_good op w c acked g = record {
       ops = (c, g.ops);
       acked = each_append (λ (x : ReceivedAck). IsAckOfEvent d whole x.ack) (acks_of op w) (acked_after (call_config d) w.call_ops) acked g.acked;
@@ -292,7 +292,7 @@ module _ (d : Directory) (whole : List EventRecord) (own_law : (m : Message Star
 
     -- ---- an operation on mailboxes, and a NOTIFY
 
-    noted_good : (op : boxes.TableOp) (w : RunState) → IsCleanBoxDeed op → Good d whole w → Good d whole (with_mailbox_op op w)
+    noted_good : (op : boxes.TableOp) (w : RunState) → MailboxOpHasNoInjection op → Good d whole w → Good d whole (with_mailbox_op op w)
     noted_good op w c g = record { ops = g.ops; acked = g.acked; conferences = g.conferences; boxes = (c, g.boxes); acts = g.acts; offers = g.offers }
 
     abbrev StaysGood : RunState → RunState → Type 0
@@ -484,7 +484,7 @@ module _ (d : Directory) (whole : List EventRecord) (own_law : (m : Message Star
       acknowledging_good None w ack g = g
       acknowledging_good (Some (InCall call side)) w ack g =
           signalled_good at (signal.Ack call side s) w well.of
-          (acked_heard d whole (call_config d) side s (entry_of call.0 (calls_in d w).entries) (record { received = met.received s refl; is_ack = ack })) g
+          (acks_received d whole (call_config d) side s (entry_of call.0 (calls_in d w).entries) (record { received = met.received s refl; is_ack = ack })) g
       acknowledging_good (Some (InConference room seat)) w ack g = seated_good at (of_room.Ack room seat s) w well.of g
       acknowledging_good (Some (InSubscription sub)) w ack g = g
 
@@ -505,12 +505,12 @@ module _ (d : Directory) (whole : List EventRecord) (own_law : (m : Message Star
       repeating_good (Some sent) w c g = plain_good d whole at sent.0 sent.1 w (inl c) g
 
       -- the message was classified as this
-      abbrev heard_as : MessageClass → RunState → RunState
-      heard_as p w = record w { actions = DidHear s.peer (message_in s.parsed) at p ∷ w.actions }
+      abbrev received_as : MessageClass → RunState → RunState
+      received_as p w = record w { actions = DidHear s.peer (message_in s.parsed) at p ∷ w.actions }
 
-      abbrev hearing_as : MessageClass → Option transaction.Heard → RunState → RunState
-      hearing_as p None w = w
-      hearing_as p (Some said) w = heard_as p w
+      abbrev receiving_as : MessageClass → Option transaction.Heard → RunState → RunState
+      receiving_as p None w = w
+      receiving_as p (Some said) w = received_as p w
 
       abbrev said_of : MessageClass → RunState → Option transaction.Heard
       said_of p w = class_result (length (openings w.actions)) (live w.actions) s.peer (message_in s.parsed) p
@@ -518,48 +518,48 @@ module _ (d : Directory) (whole : List EventRecord) (own_law : (m : Message Star
       abbrev Taken : MessageClass → RunState → Type 0
       Taken p w = p ≡ class_of (head_of (message_in s.parsed)) (live w.actions)
 
-      heard_good : (p : MessageClass) (w : RunState) → Taken p w → Good d whole w → Good d whole (heard_as p w)
-      heard_good p w is g = silent_good d whole (DidHear s.peer (message_in s.parsed) at p) w (heard_as p w) is refl refl refl refl refl g
+      received_good : (p : MessageClass) (w : RunState) → Taken p w → Good d whole w → Good d whole (received_as p w)
+      received_good p w is g = silent_good d whole (DidHear s.peer (message_in s.parsed) at p) w (received_as p w) is refl refl refl refl refl g
 
-      again_still : (p : MessageClass) (o : Option (Peer × List ℕ)) (w : RunState) → IfSome o (λ sent. IsSentIn w.actions sent.1) → IfSome o (λ sent. IsSentIn (heard_as p w).actions sent.1)
+      again_still : (p : MessageClass) (o : Option (Peer × List ℕ)) (w : RunState) → IfSome o (λ sent. IsSentIn w.actions sent.1) → IfSome o (λ sent. IsSentIn (received_as p w).actions sent.1)
       again_still p None w t = tt
       again_still p (Some sent) w t = sent_still (DidHear s.peer (message_in s.parsed) at p) w.actions sent.1 t
 
-      said_good : (p : MessageClass) (w : RunState) → Taken p w → Good d whole w → Good d whole (after_classified_message d token at s (said_of p w) (hearing_as p (said_of p w) w))
+      said_good : (p : MessageClass) (w : RunState) → Taken p w → Good d whole w → Good d whole (after_classified_message d token at s (said_of p w) (receiving_as p (said_of p w) w))
       said_good part.Fresh w is g =
-          opened_good (is_cancel (head_of (message_in s.parsed))) (length (openings w.actions)) (option_map key_of (find (is_invite_of (head_of (message_in s.parsed))) (live w.actions))) (heard_as part.Fresh w)
-          (heard_good part.Fresh w is g)
+          opened_good (is_cancel (head_of (message_in s.parsed))) (length (openings w.actions)) (option_map key_of (find (is_invite_of (head_of (message_in s.parsed))) (live w.actions))) (received_as part.Fresh w)
+          (received_good part.Fresh w is g)
       said_good part.Full w is g = too_many_good w g
-      said_good (part.Repeat key) w is g = repeating_good _ (heard_as (part.Repeat key) w) (again_still (part.Repeat key) _ w (repeat_own w.actions s.peer key g.acts)) (heard_good (part.Repeat key) w is g)
-      said_good (part.RepeatedFinal key) w is g = repeating_good _ (heard_as (part.RepeatedFinal key) w) (again_still (part.RepeatedFinal key) _ w (same_again w.actions key g.acts)) (heard_good (part.RepeatedFinal key) w is g)
+      said_good (part.Repeat key) w is g = repeating_good _ (received_as (part.Repeat key) w) (again_still (part.Repeat key) _ w (repeat_own w.actions s.peer key g.acts)) (received_good (part.Repeat key) w is g)
+      said_good (part.RepeatedFinal key) w is g = repeating_good _ (received_as (part.RepeatedFinal key) w) (again_still (part.RepeatedFinal key) _ w (same_again w.actions key g.acts)) (received_good (part.RepeatedFinal key) w is g)
       said_good (part.Answer key) w is g =
-          responding_good (tkey key) (owner_of_branch (awaited_request_branch s) (branch_in s.parsed.vias) (calls_in d (heard_as (part.Answer key) w)).entries (subscriptions_in w)) (heard_as (part.Answer key) w)
-          (heard_good (part.Answer key) w is g)
-      said_good (part.Acked key) w is g = heard_good (part.Acked key) w is g
-      said_good part.AckOf2xx w is g = acknowledging_good (dialog_owner_in d s.parsed (heard_as part.AckOf2xx w)) (heard_as part.AckOf2xx w)
-          (is_ack_heard (message_in s.parsed) (live w.actions) is) (heard_good part.AckOf2xx w is g)
-      said_good part.Stray w is g = heard_good part.Stray w is g
+          responding_good (tkey key) (owner_of_branch (awaited_request_branch s) (branch_in s.parsed.vias) (calls_in d (received_as (part.Answer key) w)).entries (subscriptions_in w)) (received_as (part.Answer key) w)
+          (received_good (part.Answer key) w is g)
+      said_good (part.Acked key) w is g = received_good (part.Acked key) w is g
+      said_good part.AckOf2xx w is g = acknowledging_good (dialog_owner_in d s.parsed (received_as part.AckOf2xx w)) (received_as part.AckOf2xx w)
+          (is_ack_received (message_in s.parsed) (live w.actions) is) (received_good part.AckOf2xx w is g)
+      said_good part.Stray w is g = received_good part.Stray w is g
 
       -- the transactions once it is received
-      hearing_is : (o : Option transaction.Heard) (w : RunState) → with_received_action at s o w ≡ hearing_as (class_of (head_of (message_in s.parsed)) (live w.actions)) o w
-      hearing_is None w = refl
-      hearing_is (Some said) w = refl
+      receiving_is : (o : Option transaction.Heard) (w : RunState) → with_received_action at s o w ≡ receiving_as (class_of (head_of (message_in s.parsed)) (live w.actions)) o w
+      receiving_is None w = refl
+      receiving_is (Some said) w = refl
 
-      told_good : (w : RunState) → Good d whole w → Good d whole (after_message d token at s w)
-      told_good w g =
+      after_message_good : (w : RunState) → Good d whole w → Good d whole (after_message d token at s w)
+      after_message_good w g =
           let p : MessageClass = class_of (head_of (message_in s.parsed)) (live w.actions) in
-          subst (λ (v : RunState). Good d whole (after_classified_message d token at s (said_of p w) v)) (sym (hearing_is (said_of p w) w)) (said_good p w refl g)
+          subst (λ (v : RunState). Good d whole (after_classified_message d token at s (said_of p w) v)) (sym (receiving_is (said_of p w) w)) (said_good p w refl g)
 
     -- ---- events
 
     -- what is read of an event
-    abbrev IsGoodDigest : ParsedEvent → Type 0
-    IsGoodDigest events.Nothing = Unit {0}
-    IsGoodDigest (events.Refused peer source reply) = MessageHasNoInjection reply
-    IsGoodDigest (events.Received said) = IsReadWithFields said.parsed
-    IsGoodDigest (events.WebRequested request kept rows) = Unit {0}
+    abbrev IsGoodParsedEvent : ParsedEvent → Type 0
+    IsGoodParsedEvent events.Nothing = Unit {0}
+    IsGoodParsedEvent (events.Refused peer source reply) = MessageHasNoInjection reply
+    IsGoodParsedEvent (events.Received said) = IsReadWithFields said.parsed
+    IsGoodParsedEvent (events.WebRequested request kept rows) = Unit {0}
 
-    met_good : (at : ℕ) (x : ParsedEvent) (w : RunState) → IsGoodDigest x → IsMet x → Good d whole w → Good d whole (after_parsed_event d token at x w)
+    met_good : (at : ℕ) (x : ParsedEvent) (w : RunState) → IsGoodParsedEvent x → IsMet x → Good d whole w → Good d whole (after_parsed_event d token at x w)
     met_good at events.Nothing w c e g = g
     met_good at (events.Refused peer source reply) w c e g =
         let tag : List ℕ = tag_for token w.drawn (to_tag_in reply.lines) in
@@ -567,7 +567,7 @@ module _ (d : Directory) (whole : List EventRecord) (own_law : (m : Message Star
         plain_good d whole at peer (message_text said) (with_draws (tags_due (to_tag_in reply.lines)) w)
         (inr (inr (e.own tag said refl (reply_no_injection tag source reply (tag_no_injection token w.drawn (to_tag_in reply.lines) clean_token) c))))
         (alike d whole w (with_draws (tags_due (to_tag_in reply.lines)) w) refl refl refl refl refl g)
-    met_good at (events.Received said) w c e g = told_good at said c e w g
+    met_good at (events.Received said) w c e g = after_message_good at said c e w g
     met_good at (events.WebRequested request kept rows) w c e g =
         let replied : RunState = after_web_reply d at request kept rows w in
         steps.puts d token at StaysGood (steps_good at) (λ account counts v. noted_good (boxes.Puts account counts) v tt) (counts_put_in d.names request kept) replied (record {
@@ -584,14 +584,14 @@ module _ (d : Directory) (whole : List EventRecord) (own_law : (m : Message Star
     handing_good false (row ∷ rows) w g = g
     handing_good true (row ∷ rows) w g = alike d whole w _ refl refl refl refl refl g
 
-    came_good : (at : ℕ) (x : ParsedEvent) (took : Bool) (w : RunState) → IsGoodDigest x → IsMet x → Good d whole w → Good d whole (after_event d token at x took w)
+    came_good : (at : ℕ) (x : ParsedEvent) (took : Bool) (w : RunState) → IsGoodParsedEvent x → IsMet x → Good d whole w → Good d whole (after_event d token at x took w)
     came_good at x took w c e g =
         let begins : RunState = record (with_next_step w) { clock = at } in
         let left : RunState = after_parsed_event d token at x begins in
         handing_good took left.waiting left (met_good at x begins c e (alike d whole (with_next_step w) begins refl refl refl refl refl (begun_good w g)))
 
     abbrev AreGoodNotices : List TimedEvent → Type 0
-    AreGoodNotices xs = Each (λ x. IsGoodDigest x.parsed × IsMet x.parsed) xs
+    AreGoodNotices xs = Each (λ x. IsGoodParsedEvent x.parsed × IsMet x.parsed) xs
 
     after_good : (fuel : ℕ) (xs : List TimedEvent) (w : RunState) → AreGoodNotices xs → Good d whole w → Good d whole (after_events d token fuel xs w)
     after_good fuel [] w c g = g
@@ -601,11 +601,11 @@ module _ (d : Directory) (whole : List EventRecord) (own_law : (m : Message Star
 
     -- ---- what is read
 
-    refused_good : (peer : Peer) (source : Addr) (o : Option (Message Start)) → IfSome o MessageHasNoInjection → IsGoodDigest (events.parsed_refusal peer source o)
+    refused_good : (peer : Peer) (source : Addr) (o : Option (Message Start)) → IfSome o MessageHasNoInjection → IsGoodParsedEvent (events.parsed_refusal peer source o)
     refused_good peer source None c = tt
     refused_good peer source (Some reply) c = c
 
-    read_good : (peer : Peer) (source : Addr) (r : Read) → ReadResultHasNoInjection r → IsGoodDigest (parsed_result d.peers peer source r)
+    read_good : (peer : Peer) (source : Addr) (r : Read) → ReadResultHasNoInjection r → IsGoodParsedEvent (parsed_result d.peers peer source r)
     read_good peer source (Ok m) c = message_view_well peer source (is_trusted peer d.peers.known) m c
     read_good peer source (Err (fault.TooLarge reply)) c = refused_good peer source reply c
     read_good peer source (Err fault.NotSip) c = tt
@@ -613,15 +613,15 @@ module _ (d : Directory) (whole : List EventRecord) (own_law : (m : Message Star
     read_good peer source (Err (fault.Bad place reply)) c = refused_good peer source reply c
     read_good peer source (Err fault.NoMemory) c = tt
 
-    from_good : (source : Addr) (bytes : List ℕ) (o : Option Peer) → IsGoodDigest (parsed_from d.peers source bytes o)
+    from_good : (source : Addr) (bytes : List ℕ) (o : Option Peer) → IsGoodParsedEvent (parsed_from d.peers source bytes o)
     from_good source bytes None = tt
     from_good source bytes (Some peer) = read_good peer source (read_result bytes) (read_result_no_injection bytes)
 
-    datagram_good : (source : Addr) (bytes : List ℕ) → IsGoodDigest (parsed_datagram d source bytes)
+    datagram_good : (source : Addr) (bytes : List ℕ) → IsGoodParsedEvent (parsed_datagram d source bytes)
     unfolding parsed_datagram
     datagram_good source bytes = from_good source bytes (peer_at source d.peers.known)
 
-    event_good : (e : Event) (kept : KeeperOutcomeView) (rows : List Row) → IsGoodDigest (parsed_event d e kept rows)
+    event_good : (e : Event) (kept : KeeperOutcomeView) (rows : List Row) → IsGoodParsedEvent (parsed_event d e kept rows)
     event_good (event.Datagram from at bytes) kept rows = datagram_good from bytes
     event_good (event.Web at bytes) kept rows = tt
     event_good (event.Quiet at) kept rows = tt

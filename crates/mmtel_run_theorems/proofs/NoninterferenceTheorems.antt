@@ -45,14 +45,14 @@ use Rattle.mmtel_run_definitions.specs.Subscriptions.{after_mailbox_upload}
 use Rattle.mmtel_run_theorems.specs.EquivalentStates.{AllEarly, AllLookUpEqually, AllTied, AreAmong, EquivalentConfigs, EventIsTied, EventLooksUpEqually, IsEarly}
 use Rattle.mmtel_run_theorems.specs.Roles.{role_of}
 use Rattle.mmtel_run_theorems.specs.Noninterference.{Noninterference, NoninterferenceInBoth, RenamedAreLookedUpEqually, RunsAreTied}
-use Rattle.mmtel_run_theorems.specs.Mask.{Mask, MaskedEvent, Nothing, Received, Refused, Tests, WebRequested, identities_asked_by, mask, mask_all, mask_event, records_in, state_at_event, tests_beside}
+use Rattle.mmtel_run_theorems.specs.Mask.{Mask, MaskedEvent, Nothing, Received, Refused, Tests, WebRequested, identities_tested_by, mask, mask_all, mask_event, records_in, state_at_event, tests_beside}
 use Rattle.mmtel_run_theorems.specs.RenamedAccounts.{NobodyIsRenamed}
 use Rattle.mmtel_run_theorems.proofs.EquivalentMailboxes.{putting-alike}
 use Rattle.mmtel_run_theorems.proofs.EquivalentOperations.{after_due_deadlines-equivalent, with_next_step-equivalent}
 use Rattle.mmtel_run_theorems.proofs.EquivalentEmits.{Knows, Pair, plain-equivalent, with_draws-equivalent, with_offers-equivalent}
 use Rattle.mmtel_run_theorems.proofs.ActionPrefixes.{after_before, after_handover_before, met_before, with_next_step_before}
 use Rattle.mmtel_run_theorems.proofs.TrustedTransactions.{IsLast, keys_in, knows, older}
-use Rattle.mmtel_run_theorems.proofs.EquivalentTransitions.{Below, told-alike, trusts_same}
+use Rattle.mmtel_run_theorems.proofs.EquivalentTransitions.{Below, message-alike, trusts_same}
 
 -- ---- masked events
 
@@ -247,7 +247,7 @@ module _ (below : Below) (its : PutIts) (others : PutOthers) (records : List She
   Two v w = Pair records d e keys v w
 
   abbrev whos : List Who
-  whos = identities_asked_by records
+  whos = identities_tested_by records
 
   -- ---- bytes that are refused, and the web
 
@@ -317,7 +317,7 @@ module _ (below : Below) (its : PutIts) (others : PutOthers) (records : List She
   after_parsed_event-equivalent at (Events.Received m) Events.Nothing v w same trusted too among looks tied tied_too kw km z = let o = apart _ _ same in absurd (omega (arith, o))
   after_parsed_event-equivalent at (Events.Received m) (Events.Refused q y s) v w same trusted too among looks tied tied_too kw km z = let o = apart _ _ same in absurd (omega (arith, o))
   after_parsed_event-equivalent at (Events.Received m) (Events.Received n) v w same trusted too among looks tied tied_too kw km z =
-      told-alike below records d e token keys sites K before kn at m n v w z
+      message-alike below records d e token keys sites K before kn at m n v w z
       (ap (left_of (without_private (role_of d v m) m)) same)
       (ap (tests_in (tests_beside d.names.accounts whos (role_of d v m) m.parsed)) same)
       trusted (too ∙ sym (trusts_same below records d e token keys sites K before kn n.peer)) looks.0 looks.1 tied tied_too kw km
@@ -480,7 +480,7 @@ module _ (below : Below) (keeps : KeepsPeers) (its : PutIts) (others : PutOthers
       let records : List Sheet = records_in d loaded recorded in
       let final : List TransactionOp = (state_after e token loaded fuel run).actions in
       let keys : TKey → Bool = keys_in d final in
-      let asked : identities_asked_by records ≡ identities_asked_by (records_in e loaded run) = ap (λ (x : Mask). x.asked) same in
+      let asked : identities_tested_by records ≡ identities_tested_by (records_in e loaded run) = ap (λ (x : Mask). x.tested) same in
       let among : AreAmong records (initial_state loaded).texts = loaded_all its others records loaded [] (λ s is. inr (in_left loaded (uploads_of d.names recorded) s is)) (record { each = λ account text is. absurd (no_text text is); none = inl refl }) in
       (after_events-equivalent below its others records d e token keys sites (IsLast final) (older final) (knows keeps d final) fuel (timed_events d recorded) (timed_events e run) (initial_state loaded) (initial_state loaded)
       (ap (λ (x : Mask). x.events) same ∙ ap (λ (z : List Who). mask_all e token fuel z (timed_events e run) (initial_state loaded)) (sym asked))

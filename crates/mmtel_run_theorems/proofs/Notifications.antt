@@ -7,7 +7,7 @@ use Rattle.mmtel_call_services.specs.Opening.{received_history}
 use Rattle.mmtel_call.specs.Table.{step, transition}
 use Rattle.mmtel_call.specs.declared.calls.Call.{Call}
 use Rattle.mmtel_call_theorems.specs.Continuation.{CallsContinue}
-use Rattle.mmtel_call_theorems.specs.Outcomes as story_known
+use Rattle.mmtel_call_theorems.specs.Outcomes as trace_outcomes
 use Rattle.mmtel_call_theorems.specs.Outcomes.{call_inputs_of}
 use Rattle.mmtel_call_theorems.specs.Theorems.{ChargingIsExact}
 use Rattle.mmtel_call_theorems.specs.CallTrace as traces
@@ -64,9 +64,9 @@ module _ (silent : NotifiesNothingLater) (ends : EndsWithoutNotification) (s : T
   }
 
 -- the server's own 181s are those of the diversions that its Outcome contains
-pub lives_told : CallsContinue → ChargingIsExact → NotifiesItsDiversions → NotifiesNothingLater → EndsWithoutNotification → (s : TraceStart) (events : List CallEvent) →
+pub traces_notify : CallsContinue → ChargingIsExact → NotifiesItsDiversions → NotifiesNothingLater → EndsWithoutNotification → (s : TraceStart) (events : List CallEvent) →
     notifications_of s events ≡ notifications_due s.config (opening_in s) (received_history s.arrival.invite) (outcome_after s events).targets
-lives_told goes charged told silent ends s events =
+traces_notify goes charged told silent ends s events =
     let (received, l, r) = matches_trace_beside goes charged s (TellsAlike silent ends s) (beside silent ends s) events in
-    let same : outcome_after s events ≡ story_known.outcome_after s received = λ i. outcome (call_inputs_of s.config s.now (opening_in s) (λ k. l.snapshot k i)) (l.endings i) in
+    let same : outcome_after s events ≡ trace_outcomes.outcome_after s received = λ i. outcome (call_inputs_of s.config s.now (opening_in s) (λ k. l.snapshot k i)) (l.endings i) in
     r ∙ (told s received ∙ (λ i. notifications_due s.config (opening_in s) (received_history s.arrival.invite) (sym same i).targets))

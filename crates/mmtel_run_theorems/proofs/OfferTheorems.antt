@@ -12,7 +12,7 @@ use Rattle.mmtel_run_definitions.specs.View.{view}
 use Rattle.mmtel_run_definitions.specs.Transitions.{RunState, after_event, initial_state, with_next_step}
 use Rattle.mmtel_run_theorems.specs.EquivalentStates.{AllEarly, AllLookUpEqually}
 use Rattle.mmtel_run_theorems.specs.Noninterference.{Masks, MasksOnce, NoninterferenceInBoth, OffersKeepItInOneConfig, OffersKeepNoninterference, RenamedAreLookedUpEqually, SeenByTimedEvents}
-use Rattle.mmtel_run_theorems.specs.Mask.{Mask, MaskedEvent, identities_asked_by, mask, mask_all, mask_event, records_in, records_of, state_at_event}
+use Rattle.mmtel_run_theorems.specs.Mask.{Mask, MaskedEvent, identities_tested_by, mask, mask_all, mask_event, records_in, records_of, state_at_event}
 use Rattle.mmtel_run_theorems.specs.RenamedAccounts.{Neutral, NobodyIsRenamed}
 use Rattle.mmtel_run_theorems.proofs.SentOnce.{Once, begins, early_in}
 
@@ -37,18 +37,18 @@ module _ (d : Directory) (token : List ℕ) where
   world_same n more [] w e = refl
   world_same n more (x ∷ xs) w e = ap (after_events d token (n + more) xs) (one_same n more x w e.0) ∙ world_same n more xs (after_event_in_order d token n x w) e.1
 
-  mask_same : (asked : List Who) (n more : ℕ) (xs : List TimedEvent) (w : RunState) → IsEnoughAfter d token n xs w → mask_all d token (n + more) asked xs w ≡ mask_all d token n asked xs w
-  mask_same asked n more [] w e = refl
-  mask_same asked n more (x ∷ xs) w e =
-      ap (λ (v : RunState). (x.at, mask_event d asked v x.parsed) ∷ mask_all d token (n + more) asked xs (after_event_in_order d token (n + more) x w)) (state_at_event_same n more x w e.0)
-      ∙ (ap (λ (v : RunState). (x.at, mask_event d asked (state_at_event d token n x w) x.parsed) ∷ mask_all d token (n + more) asked xs v) (one_same n more x w e.0)
-      ∙ ap (λ (l : List (ℕ × MaskedEvent)). (x.at, mask_event d asked (state_at_event d token n x w) x.parsed) ∷ l) (mask_same asked n more xs (after_event_in_order d token n x w) e.1))
+  mask_same : (tested : List Who) (n more : ℕ) (xs : List TimedEvent) (w : RunState) → IsEnoughAfter d token n xs w → mask_all d token (n + more) tested xs w ≡ mask_all d token n tested xs w
+  mask_same tested n more [] w e = refl
+  mask_same tested n more (x ∷ xs) w e =
+      ap (λ (v : RunState). (x.at, mask_event d tested v x.parsed) ∷ mask_all d token (n + more) tested xs (after_event_in_order d token (n + more) x w)) (state_at_event_same n more x w e.0)
+      ∙ (ap (λ (v : RunState). (x.at, mask_event d tested (state_at_event d token n x w) x.parsed) ∷ mask_all d token (n + more) tested xs v) (one_same n more x w e.0)
+      ∙ ap (λ (l : List (ℕ × MaskedEvent)). (x.at, mask_event d tested (state_at_event d token n x w) x.parsed) ∷ l) (mask_same tested n more xs (after_event_in_order d token n x w) e.1))
 
   -- of a whole run
   masked_same : (loaded : Texts) (recorded : List EventRecord) (n more : ℕ) → IsEnough d token loaded n recorded → mask d token loaded (n + more) recorded ≡ mask d token loaded n recorded
   masked_same loaded recorded n more e =
-      ap (λ (l : List (ℕ × MaskedEvent)). record { asked = identities_asked_by (records_in d loaded recorded); events = l })
-      (mask_same (identities_asked_by (records_in d loaded recorded)) n more (timed_events d recorded) (initial_state loaded) e)
+      ap (λ (l : List (ℕ × MaskedEvent)). record { tested = identities_tested_by (records_in d loaded recorded); events = l })
+      (mask_same (identities_tested_by (records_in d loaded recorded)) n more (timed_events d recorded) (initial_state loaded) e)
 
   offers_of_run_same : (loaded : Texts) (recorded : List EventRecord) (n more : ℕ) → IsEnough d token loaded n recorded → offers_of_run d token loaded (n + more) recorded ≡ offers_of_run d token loaded n recorded
   offers_of_run_same loaded recorded n more e = ap (λ (w : RunState). w.offers) (world_same n more (timed_events d recorded) (initial_state loaded) e)
@@ -115,8 +115,8 @@ IsShortBy d token loaded xs = (fuel : ℕ) → IsEnoughAfter d token fuel xs (in
 
 abbrev mask_by : Directory → (token : List ℕ) → (loaded : Texts) → (fuel : ℕ) → List TimedEvent → Texts → Mask
 mask_by d token loaded fuel xs uploads = record {
-  asked = identities_asked_by (records_of (loaded ++ uploads));
-  events = mask_all d token fuel (identities_asked_by (records_of (loaded ++ uploads))) xs (initial_state loaded);
+  tested = identities_tested_by (records_of (loaded ++ uploads));
+  events = mask_all d token fuel (identities_tested_by (records_of (loaded ++ uploads))) xs (initial_state loaded);
 }
 
 pub seen_by_notices : SeenByTimedEvents

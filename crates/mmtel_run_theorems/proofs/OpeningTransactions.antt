@@ -12,7 +12,7 @@ use Rattle.mmtel_call_theorems.specs.NoInjection.Emits.{Each}
 use Rattle.mmtel_call_theorems.specs.CallTrace.{TraceStart}
 use Rattle.mmtel_transaction.specs.Operations.{TransactionOp}
 use Rattle.mmtel_run_theorems.proofs.OperationsOfEvents.{HasOpenedRequest, IsOpenedBy, OpensAt}
-use Rattle.mmtel_run_theorems.proofs.TraceInduction.{AllHold, life_holds}
+use Rattle.mmtel_run_theorems.proofs.TraceInduction.{AllHold, trace_holds}
 
 -- what holds for how each call opens holds for how this one did
 module _ (config : CallConfigView) (number : ℕ) (P : TraceStart → Type 0) where
@@ -31,8 +31,8 @@ module _ (config : CallConfigView) (number : ℕ) (P : TraceStart → Type 0) wh
   all-start [] a = tt
   all-start (op ∷ older) a = ((λ mine. record { opens = a.0; comes = comes-so (event_by op number (table_after config older).entries) }), all-start older a.1)
 
-  pub life_starts : (ops : List TableOp) (trace : CallTraceWithTransfers) → AllStart ops → trace_of config number ops ≡ Some trace → P trace.start
-  life_starts ops trace a is = life_holds config number Starts ops trace (all-start ops a) is
+  pub trace_starts : (ops : List TableOp) (trace : CallTraceWithTransfers) → AllStart ops → trace_of config number ops ≡ Some trace → P trace.start
+  trace_starts ops trace a is = trace_holds config number Starts ops trace (all-start ops a) is
 
 module _ (config : CallConfigView) (h : List TransactionOp) where
   abbrev IsStarted : TraceStart → Type 0
@@ -48,16 +48,16 @@ module _ (config : CallConfigView) (h : List TransactionOp) where
   signal-starts x es number (signal.Due call what) o = tt
   signal-starts x es number (signal.Over key) o = tt
 
-  deed-starts : (op : TableOp) (older : List TableOp) → HasOpenedRequest h op → IfSome (opening_by config op (table_after config older)) IsStarted
-  deed-starts (Receives x) older a = signal-starts x (table_after config older).entries _ x.signal a
-  deed-starts (Releases number side) older a = tt
-  deed-starts (Restores number away) older a = tt
-  deed-starts (Finishes number at tokens) older a = tt
-  deed-starts (Drops count) older a = tt
+  op-starts : (op : TableOp) (older : List TableOp) → HasOpenedRequest h op → IfSome (opening_by config op (table_after config older)) IsStarted
+  op-starts (Receives x) older a = signal-starts x (table_after config older).entries _ x.signal a
+  op-starts (Releases number side) older a = tt
+  op-starts (Restores number away) older a = tt
+  op-starts (Finishes number at tokens) older a = tt
+  op-starts (Drops count) older a = tt
 
   all-started : (number : ℕ) (ops : List TableOp) → Each (HasOpenedRequest h) ops → AllStart config number IsStarted ops
   all-started number [] a = tt
-  all-started number (op ∷ older) a = (deed-starts op older a.0, all-started number older a.1)
+  all-started number (op ∷ older) a = (op-starts op older a.0, all-started number older a.1)
 
-  pub life_opened : (number : ℕ) (ops : List TableOp) (trace : CallTraceWithTransfers) → Each (HasOpenedRequest h) ops → trace_of config number ops ≡ Some trace → IsStarted trace.start
-  life_opened number ops trace a is = life_starts config number IsStarted ops trace (all-started number ops a) is
+  pub trace_opened : (number : ℕ) (ops : List TableOp) (trace : CallTraceWithTransfers) → Each (HasOpenedRequest h) ops → trace_of config number ops ≡ Some trace → IsStarted trace.start
+  trace_opened number ops trace a is = trace_starts config number IsStarted ops trace (all-started number ops a) is

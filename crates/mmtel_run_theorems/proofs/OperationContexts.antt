@@ -34,7 +34,7 @@ module _ (d : Directory) (token : List ℕ) (loaded : Texts) (fuel : ℕ) (whole
 
   -- ---- an operation of a run, where these were done before it
 
-  pub record ToldIn (x : ReceivedSignal) (older : List TableOp) : Type 0 where
+  pub record SeesRecordsInForce (x : ReceivedSignal) (older : List TableOp) : Type 0 where
     pub earlier : List EventRecord
     pub event : EventRecord
     pub later : List EventRecord
@@ -46,20 +46,20 @@ module _ (d : Directory) (token : List ℕ) (loaded : Texts) (fuel : ℕ) (whole
     pub view : x.view ≡ in_force_in (at_end_of earlier)
     pub by_then : x.at ≤ clock_at (at_end_of earlier) (moment_of event.event)
 
-  abbrev pub IsTold : TableOp → List TableOp → Type 0
-  IsTold (Receives x) older = ToldIn x older
-  IsTold (Releases number side) older = Unit {0}
-  IsTold (Restores number away) older = Unit {0}
-  IsTold (Finishes number at tokens) older = Unit {0}
-  IsTold (Drops count) older = Unit {0}
+  abbrev pub OpSeesInForce : TableOp → List TableOp → Type 0
+  OpSeesInForce (Receives x) older = SeesRecordsInForce x older
+  OpSeesInForce (Releases number side) older = Unit {0}
+  OpSeesInForce (Restores number away) older = Unit {0}
+  OpSeesInForce (Finishes number at tokens) older = Unit {0}
+  OpSeesInForce (Drops count) older = Unit {0}
 
-  abbrev pub AllTold : List TableOp → Type 0
-  AllTold [] = Unit {0}
-  AllTold (op ∷ older) = IsTold op older × AllTold older
+  abbrev pub AllSeeInForce : List TableOp → Type 0
+  AllSeeInForce [] = Unit {0}
+  AllSeeInForce (op ∷ older) = OpSeesInForce op older × AllSeeInForce older
 
   -- the run of these events, up to that point
-  pub record WellTold (recorded : List EventRecord) : Type 0 where
-    pub operations : AllTold (operations_after (inputs_of d token loaded) fuel recorded)
+  pub record RunSeesInForce (recorded : List EventRecord) : Type 0 where
+    pub operations : AllSeeInForce (operations_after (inputs_of d token loaded) fuel recorded)
     pub keyed : IsKeyed d (at_end_of recorded)
     pub detached : IsWhole (call_config d) None (operations_after (inputs_of d token loaded) fuel recorded)
     pub conferences : Each IsOfRun (at_end_of recorded).conference_ops
@@ -68,32 +68,32 @@ module _ (d : Directory) (token : List ℕ) (loaded : Texts) (fuel : ℕ) (whole
   -- ---- those of one event
 
   module _ (earlier : List EventRecord) (event : EventRecord) (later : List EventRecord) (in_order : whole ≡ earlier ++ event ∷ later) where
-    one-told : (newer : List TableOp) (op : TableOp) (older : List TableOp) →
+    one-sees : (newer : List TableOp) (op : TableOp) (older : List TableOp) →
         operations_after (inputs_of d token loaded) fuel (earlier ++ event ∷ []) ≡ newer ++ op ∷ (older ++ operations_after (inputs_of d token loaded) fuel earlier) →
-        Sees (in_force_in (at_end_of earlier)) (clock_at (at_end_of earlier) (moment_of event.event)) op → IsTold op (older ++ operations_after (inputs_of d token loaded) fuel earlier)
-    one-told newer (Receives x) older is sees =
+        Sees (in_force_in (at_end_of earlier)) (clock_at (at_end_of earlier) (moment_of event.event)) op → OpSeesInForce op (older ++ operations_after (inputs_of d token loaded) fuel earlier)
+    one-sees newer (Receives x) older is sees =
         record { earlier = earlier; event = event; later = later; in_order = in_order; before = older; newer = newer; is = refl; operations = is; view = sees.0; by_then = sees.1 }
-    one-told newer (Releases number side) older is sees = tt
-    one-told newer (Restores number away) older is sees = tt
-    one-told newer (Finishes number at tokens) older is sees = tt
-    one-told newer (Drops count) older is sees = tt
+    one-sees newer (Releases number side) older is sees = tt
+    one-sees newer (Restores number away) older is sees = tt
+    one-sees newer (Finishes number at tokens) older is sees = tt
+    one-sees newer (Drops count) older is sees = tt
 
-    event-told : (newer added : List TableOp) → operations_after (inputs_of d token loaded) fuel (earlier ++ event ∷ []) ≡ newer ++ (added ++ operations_after (inputs_of d token loaded) fuel earlier) →
-        Each (Sees (in_force_in (at_end_of earlier)) (clock_at (at_end_of earlier) (moment_of event.event))) added → AllTold (operations_after (inputs_of d token loaded) fuel earlier) → AllTold (added ++ operations_after (inputs_of d token loaded) fuel earlier)
-    event-told newer [] is sees told = told
-    event-told newer (op ∷ older) is sees told = (
-      one-told newer op older is sees.0,
-      event-told (newer ++ op ∷ []) older (is ∙ sym (append_assoc newer (op ∷ []) (older ++ operations_after (inputs_of d token loaded) fuel earlier))) sees.1 told,
+    event-sees : (newer added : List TableOp) → operations_after (inputs_of d token loaded) fuel (earlier ++ event ∷ []) ≡ newer ++ (added ++ operations_after (inputs_of d token loaded) fuel earlier) →
+        Each (Sees (in_force_in (at_end_of earlier)) (clock_at (at_end_of earlier) (moment_of event.event))) added → AllSeeInForce (operations_after (inputs_of d token loaded) fuel earlier) → AllSeeInForce (added ++ operations_after (inputs_of d token loaded) fuel earlier)
+    event-sees newer [] is sees told = told
+    event-sees newer (op ∷ older) is sees told = (
+      one-sees newer op older is sees.0,
+      event-sees (newer ++ op ∷ []) older (is ∙ sym (append_assoc newer (op ∷ []) (older ++ operations_after (inputs_of d token loaded) fuel earlier))) sees.1 told,
     )
 
-    more-told : LegsGoBack → ConferencesReplyInTheirOwn → WellTold earlier → WellTold (earlier ++ event ∷ [])
-    more-told back own_law told =
+    more-sees : LegsGoBack → ConferencesReplyInTheirOwn → RunSeesInForce earlier → RunSeesInForce (earlier ++ event ∷ [])
+    more-sees back own_law told =
         let w : RunState = at_end_of earlier in
         let next : at_end_of (earlier ++ event ∷ []) ≡ after_event_in_order d token fuel (timed_event_of d event) w = one-event earlier event in
         let a : Adds d (clock_at w (moment_of event.event)) w None (after_event_in_order d token fuel (timed_event_of d event) w) = event_adds d token back own_law fuel (timed_event_of d event) w told.keyed told.detached told.conferences told.awaited in
         let is : operations_after (inputs_of d token loaded) fuel (earlier ++ event ∷ []) ≡ a.added ++ operations_after (inputs_of d token loaded) fuel earlier = ap (λ (w : RunState). w.call_ops) next ∙ a.is in
         record {
-          operations = subst AllTold (sym is) (event-told [] a.added is a.sees told.operations);
+          operations = subst AllSeeInForce (sym is) (event-sees [] a.added is a.sees told.operations);
           keyed = subst (IsKeyed d) (sym next) a.keyed;
           detached = subst (λ (w : RunState). IsWhole (call_config d) None w.call_ops) (sym next) a.whole;
           conferences = subst (λ (w : RunState). Each IsOfRun w.conference_ops) (sym next) a.conferences;
@@ -102,11 +102,11 @@ module _ (d : Directory) (token : List ℕ) (loaded : Texts) (fuel : ℕ) (whole
 
   -- ---- those of the whole
 
-  rest-told : LegsGoBack → ConferencesReplyInTheirOwn → (earlier rest : List EventRecord) → whole ≡ earlier ++ rest → WellTold earlier → WellTold (earlier ++ rest)
-  rest-told back own_law earlier [] is told = subst WellTold (sym (append-nil earlier)) told
-  rest-told back own_law earlier (event ∷ rest) is told =
+  rest-sees : LegsGoBack → ConferencesReplyInTheirOwn → (earlier rest : List EventRecord) → whole ≡ earlier ++ rest → RunSeesInForce earlier → RunSeesInForce (earlier ++ rest)
+  rest-sees back own_law earlier [] is told = subst RunSeesInForce (sym (append-nil earlier)) told
+  rest-sees back own_law earlier (event ∷ rest) is told =
       let join : (earlier ++ event ∷ []) ++ rest ≡ earlier ++ event ∷ rest = append_assoc earlier (event ∷ []) rest in
-      subst WellTold join (rest-told back own_law (earlier ++ event ∷ []) rest (is ∙ sym join) (more-told earlier event rest is back own_law told))
+      subst RunSeesInForce join (rest-sees back own_law (earlier ++ event ∷ []) rest (is ∙ sym join) (more-sees earlier event rest is back own_law told))
 
-  pub all_told : LegsGoBack → ConferencesReplyInTheirOwn → WellTold whole
-  all_told back own_law = rest-told back own_law [] whole refl (record { operations = tt; keyed = record { opened = le_refl 0; below = tt; rises = tt; own = tt }; detached = tt; conferences = tt; awaited = record { run = tt; requested = tt; answered = tt } })
+  pub all_see_in_force : LegsGoBack → ConferencesReplyInTheirOwn → RunSeesInForce whole
+  all_see_in_force back own_law = rest-sees back own_law [] whole refl (record { operations = tt; keyed = record { opened = le_refl 0; below = tt; rises = tt; own = tt }; detached = tt; conferences = tt; awaited = record { run = tt; requested = tt; answered = tt } })

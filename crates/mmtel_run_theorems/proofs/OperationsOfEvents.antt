@@ -354,14 +354,14 @@ module _ (d : Directory) (token : List ℕ) (back : LegsGoBack) (own_law : Confe
   emit_still at (emit.ArmSeat room seat what when) w so t = quiet w _ refl refl refl refl (grows_refl w.actions) t
 
   -- others may be sent after it
-  emit_deeds : (at : ℕ) (x : Emit) (w : RunState) → (with_emit at x w).call_ops ≡ w.call_ops
-  emit_deeds at (emit.Ask peer message) w = refl
-  emit_deeds at (emit.Reply key message) w = refl
-  emit_deeds at (emit.Plain peer text) w = refl
-  emit_deeds at (emit.Ack key message) w = refl
-  emit_deeds at (emit.Settled key own) w = refl
-  emit_deeds at (emit.Arm call what when) w = refl
-  emit_deeds at (emit.ArmSeat room seat what when) w = refl
+  emit_ops : (at : ℕ) (x : Emit) (w : RunState) → (with_emit at x w).call_ops ≡ w.call_ops
+  emit_ops at (emit.Ask peer message) w = refl
+  emit_ops at (emit.Reply key message) w = refl
+  emit_ops at (emit.Plain peer text) w = refl
+  emit_ops at (emit.Ack key message) w = refl
+  emit_ops at (emit.Settled key own) w = refl
+  emit_ops at (emit.Arm call what when) w = refl
+  emit_ops at (emit.ArmSeat room seat what when) w = refl
 
   emit_keys : (at : ℕ) (x : Emit) (w : RunState) → keys w.actions ≤ keys (with_emit at x w).actions
   emit_keys at (emit.Ask peer message) w = keys_grow (DidAsk peer message at) w.actions
@@ -382,7 +382,7 @@ module _ (d : Directory) (token : List ℕ) (back : LegsGoBack) (own_law : Confe
   with_emits_still : {away : Option ℕ} (at : ℕ) (xs : List Emit) (w : RunState) → Each (MaySend w) xs → StillAt away w → StillAt away (with_emits at xs w)
   with_emits_still at [] w so t = t
   with_emits_still at (x ∷ xs) w so t =
-      with_emits_still at xs (with_emit at x w) (sent_later w (with_emit at x w) xs (emit_deeds at x w) (emit_keys at x w) so.1) (emit_still at x w so.0 t)
+      with_emits_still at xs (with_emit at x w) (sent_later w (with_emit at x w) xs (emit_ops at x w) (emit_keys at x w) so.1) (emit_still at x w so.0 t)
 
   -- ---- an operation on calls
 
@@ -721,50 +721,50 @@ module _ (d : Directory) (token : List ℕ) (back : LegsGoBack) (own_law : Confe
     responding_still key OfConferences w t = after_conference_signal_still now (of_room.Answer key s) w tt t
 
     -- the message was classified as this
-    abbrev heard_as : MessageClass → RunState → RunState
-    heard_as p w = record w { actions = DidHear s.peer (message_in s.parsed) now p ∷ w.actions }
+    abbrev received_as : MessageClass → RunState → RunState
+    received_as p w = record w { actions = DidHear s.peer (message_in s.parsed) now p ∷ w.actions }
 
-    abbrev hearing_as : MessageClass → Option transaction.Heard → RunState → RunState
-    hearing_as p None w = w
-    hearing_as p (Some said) w = heard_as p w
+    abbrev receiving_as : MessageClass → Option transaction.Heard → RunState → RunState
+    receiving_as p None w = w
+    receiving_as p (Some said) w = received_as p w
 
     abbrev said_of : MessageClass → RunState → Option transaction.Heard
     said_of p w = class_result (keys w.actions) (live w.actions) s.peer (message_in s.parsed) p
 
-    heard_still : (p : MessageClass) (w : RunState) → p ≡ class_of (head_of (message_in s.parsed)) (live w.actions) → StillSo w → StillSo (heard_as p w)
-    heard_still p w taken t = quiet w (heard_as p w) refl refl refl refl (grows (DidHear s.peer (message_in s.parsed) now p) w.actions (λ r. (taken, r)) tt) t
+    received_still : (p : MessageClass) (w : RunState) → p ≡ class_of (head_of (message_in s.parsed)) (live w.actions) → StillSo w → StillSo (received_as p w)
+    received_still p w taken t = quiet w (received_as p w) refl refl refl refl (grows (DidHear s.peer (message_in s.parsed) now p) w.actions (λ r. (taken, r)) tt) t
 
-    said_adds : (p : MessageClass) (w : RunState) → p ≡ class_of (head_of (message_in s.parsed)) (live w.actions) → StillSo w → AddsSo (after_classified_message d token now s (said_of p w) (hearing_as p (said_of p w) w))
+    said_adds : (p : MessageClass) (w : RunState) → p ≡ class_of (head_of (message_in s.parsed)) (live w.actions) → StillSo w → AddsSo (after_classified_message d token now s (said_of p w) (receiving_as p (said_of p w) w))
     said_adds part.Fresh w taken t =
-        requested_adds (keys w.actions) (heard_as part.Fresh w) (omega (arith, keys_fresh s.peer (message_in s.parsed) now w.actions)) t.adds.keyed (_, get-next (openings w.actions) _, record { server = refl; peer = refl; state = refl; done = refl; refused = refl; over = refl }) (λ op from. (tt, acts_later (call_config d) (keys w.actions) op w.call_ops w.actions (le_refl (keys w.actions)) from t.adds.awaited.answered))
-        (heard_still part.Fresh w taken t)
+        requested_adds (keys w.actions) (received_as part.Fresh w) (omega (arith, keys_fresh s.peer (message_in s.parsed) now w.actions)) t.adds.keyed (_, get-next (openings w.actions) _, record { server = refl; peer = refl; state = refl; done = refl; refused = refl; over = refl }) (λ op from. (tt, acts_later (call_config d) (keys w.actions) op w.call_ops w.actions (le_refl (keys w.actions)) from t.adds.awaited.answered))
+        (received_still part.Fresh w taken t)
         (is_cancel (head_of (message_in s.parsed))) (option_map key_of (find (is_invite_of (head_of (message_in s.parsed))) (live w.actions)))
     said_adds part.Full w taken t = alone w _ refl refl (grows_refl w.actions) t.adds
-    said_adds (part.Repeat key) w taken t = (repeating_still _ (heard_as (part.Repeat key) w) (heard_still (part.Repeat key) w taken t)).adds
-    said_adds (part.RepeatedFinal key) w taken t = (repeating_still _ (heard_as (part.RepeatedFinal key) w) (heard_still (part.RepeatedFinal key) w taken t)).adds
+    said_adds (part.Repeat key) w taken t = (repeating_still _ (received_as (part.Repeat key) w) (received_still (part.Repeat key) w taken t)).adds
+    said_adds (part.RepeatedFinal key) w taken t = (repeating_still _ (received_as (part.RepeatedFinal key) w) (received_still (part.RepeatedFinal key) w taken t)).adds
     said_adds (part.Answer key) w taken t =
-        (responding_still (tkey key) (owner_of_branch (awaited_request_branch s) (branch_in s.parsed.vias) (calls_in d (heard_as (part.Answer key) w)).entries (subscriptions_in w)) (heard_as (part.Answer key) w)
-        (heard_still (part.Answer key) w taken t)).adds
-    said_adds (part.Acked key) w taken t = (heard_still (part.Acked key) w taken t).adds
-    said_adds part.AckOf2xx w taken t = (acknowledging_still (dialog_owner_in d s.parsed (heard_as part.AckOf2xx w)) (heard_as part.AckOf2xx w) (heard_still part.AckOf2xx w taken t)).adds
-    said_adds part.Stray w taken t = (heard_still part.Stray w taken t).adds
+        (responding_still (tkey key) (owner_of_branch (awaited_request_branch s) (branch_in s.parsed.vias) (calls_in d (received_as (part.Answer key) w)).entries (subscriptions_in w)) (received_as (part.Answer key) w)
+        (received_still (part.Answer key) w taken t)).adds
+    said_adds (part.Acked key) w taken t = (received_still (part.Acked key) w taken t).adds
+    said_adds part.AckOf2xx w taken t = (acknowledging_still (dialog_owner_in d s.parsed (received_as part.AckOf2xx w)) (received_as part.AckOf2xx w) (received_still part.AckOf2xx w taken t)).adds
+    said_adds part.Stray w taken t = (received_still part.Stray w taken t).adds
 
     -- the transactions once it is received
-    hearing_is : (o : Option transaction.Heard) (w : RunState) → with_received_action now s o w ≡ hearing_as (class_of (head_of (message_in s.parsed)) (live w.actions)) o w
-    hearing_is None w = refl
-    hearing_is (Some said) w = refl
+    receiving_is : (o : Option transaction.Heard) (w : RunState) → with_received_action now s o w ≡ receiving_as (class_of (head_of (message_in s.parsed)) (live w.actions)) o w
+    receiving_is None w = refl
+    receiving_is (Some said) w = refl
 
-    told_adds : (w : RunState) → StillSo w → AddsSo (after_message d token now s w)
-    told_adds w t =
+    after_message_adds : (w : RunState) → StillSo w → AddsSo (after_message d token now s w)
+    after_message_adds w t =
         let p : MessageClass = class_of (head_of (message_in s.parsed)) (live w.actions) in
-        subst (λ (v : RunState). AddsSo (after_classified_message d token now s (said_of p w) v)) (sym (hearing_is (said_of p w) w)) (said_adds p w refl t)
+        subst (λ (v : RunState). AddsSo (after_classified_message d token now s (said_of p w) v)) (sym (receiving_is (said_of p w) w)) (said_adds p w refl t)
 
   -- ---- the event
 
   after_parsed_event_adds : (x : ParsedEvent) (w : RunState) → StillSo w → AddsSo (after_parsed_event d token now x w)
   after_parsed_event_adds events.Nothing w t = t.adds
   after_parsed_event_adds (events.Refused peer source reply) w t = alone w _ refl refl (grows_refl w.actions) t.adds
-  after_parsed_event_adds (events.Received said) w t = told_adds said w t
+  after_parsed_event_adds (events.Received said) w t = after_message_adds said w t
   after_parsed_event_adds (events.WebRequested request kept rows) w t =
       let v : RunState = after_web_reply d now request kept rows w in after_mailbox_upload_adds (counts_put_in d.names request kept) v (alone w v refl refl (grows_refl w.actions) t.adds)
 

@@ -64,19 +64,19 @@ after_settling-key : (own : Option ℕ) (e : Entry) → (after_settling own e).k
 after_settling-key None e = refl
 after_settling-key (Some own) e = refl
 
-heard-key : (step : ℕ) (m : Message Start) (now : ℕ) (taken : MessageClass) (e : Entry) → (change_on_receipt step m now taken e).key ≡ e.key
-heard-key step m now part.Fresh e = refl
-heard-key step m now part.Full e = refl
-heard-key step m now (part.Repeat key) e = refl
-heard-key step m now (part.RepeatedFinal key) e = refl
-heard-key step m now (part.Answer key) e = if-key (e.key == key) _ e e.key (after_response-key step (head_of m).status now e) refl
-heard-key step m now (part.Acked key) e = if-key (e.key == key) _ e e.key (if-key e.is_acked e _ e.key refl refl) refl
-heard-key step m now part.AckOf2xx e = if-key (is_ack_of (head_of m) e) _ e e.key refl refl
-heard-key step m now part.Stray e = refl
+received-key : (step : ℕ) (m : Message Start) (now : ℕ) (taken : MessageClass) (e : Entry) → (change_on_receipt step m now taken e).key ≡ e.key
+received-key step m now part.Fresh e = refl
+received-key step m now part.Full e = refl
+received-key step m now (part.Repeat key) e = refl
+received-key step m now (part.RepeatedFinal key) e = refl
+received-key step m now (part.Answer key) e = if-key (e.key == key) _ e e.key (after_response-key step (head_of m).status now e) refl
+received-key step m now (part.Acked key) e = if-key (e.key == key) _ e e.key (if-key e.is_acked e _ e.key refl refl) refl
+received-key step m now part.AckOf2xx e = if-key (is_ack_of (head_of m) e) _ e e.key refl refl
+received-key step m now part.Stray e = refl
 
 change-key : (step order : ℕ) (c : TransactionOp) (e : Entry) → (change step order c e).key ≡ e.key
 change-key step order (DidBegin n) e = refl
-change-key step order (DidHear p m now taken) e = heard-key step m now taken e
+change-key step order (DidHear p m now taken) e = received-key step m now taken e
 change-key step order (DidAsk p m now) e = refl
 change-key step order (DidReply key m now) e =
     let answer : Option ReliableResponse = reliable_response_of step order m (message_text m) now in
@@ -334,19 +334,19 @@ module _ (p : Peer) (h : List TransactionOp) (x : Entry) (n : ℕ) (key : x.key 
       let one : e ≡ x = one-at (now_all h) n e x is (own ∙ same) at in
       absurd (let f : false ≡ true = sym w.refused ∙ (ap (λ (e : Entry). e.is_refused) (sym one) ∙ refused) in cc)
 
-  heard-waits : (step : ℕ) (m : Message Start) (now : ℕ) (taken : MessageClass) → IsTo (IsAt (now_all h)) taken → IsWaiting p (change_on_receipt step m now taken x)
-  heard-waits step m now part.Fresh to = w
-  heard-waits step m now part.Full to = w
-  heard-waits step m now (part.Repeat k) to = w
-  heard-waits step m now (part.RepeatedFinal k) to = w
-  heard-waits step m now (part.Answer k) to = unless-hit k (after_response step (head_of m).status now) (λ same. answer-none k to same)
-  heard-waits step m now (part.Acked k) to = unless-hit k (after_failure_ack step now) (λ same. after_failure_ack-none k to same)
-  heard-waits step m now part.AckOf2xx to =
+  received-waits : (step : ℕ) (m : Message Start) (now : ℕ) (taken : MessageClass) → IsTo (IsAt (now_all h)) taken → IsWaiting p (change_on_receipt step m now taken x)
+  received-waits step m now part.Fresh to = w
+  received-waits step m now part.Full to = w
+  received-waits step m now (part.Repeat k) to = w
+  received-waits step m now (part.RepeatedFinal k) to = w
+  received-waits step m now (part.Answer k) to = unless-hit k (after_response step (head_of m).status now) (λ same. answer-none k to same)
+  received-waits step m now (part.Acked k) to = unless-hit k (after_failure_ack step now) (λ same. after_failure_ack-none k to same)
+  received-waits step m now part.AckOf2xx to =
       let none : is_ack_of (head_of m) x ≡ false =
       ap (λ done. x.is_server && is_invite x.head && is_success done && not x.is_acked && is_same_call x.head (head_of m) && bytes_eq x.to_tag (head_of m).to_tag) w.done
       ∙ no-2xx x.is_server (is_invite x.head) (not x.is_acked) (is_same_call x.head (head_of m)) (bytes_eq x.to_tag (head_of m).to_tag) in
       subst (IsWaiting p) (sym (if-false (is_ack_of (head_of m) x) _ x none)) w
-  heard-waits step m now part.Stray to = w
+  received-waits step m now part.Stray to = w
 
   reply-waits : (step order : ℕ) (k : ℕ) (m : Message Start) (now : ℕ) → is_final_in n (DidReply k m now) ≡ false → IsWaiting p (change step order (DidReply k m now) x)
   reply-waits step order k m now none = unless-hit k (after_any_reply step order m now) (λ same.
@@ -377,7 +377,7 @@ module _ (p : Peer) (h : List TransactionOp) (x : Entry) (n : ℕ) (key : x.key 
   change-waits : (c : TransactionOp) → IsRun (c ∷ h) → is_final_in n c ≡ false → IsWaiting p (change (step_of h) (send_count h) c x)
   change-waits (DidBegin step) run none = w
   change-waits (DidHear q m now taken) run none =
-      heard-waits (step_of h) m now taken (subst (IsTo (IsAt (now_all h))) (sym run.0) (taken-to (IsAt (now_all h)) (head_of m) (live h) (live-at h)))
+      received-waits (step_of h) m now taken (subst (IsTo (IsAt (now_all h))) (sym run.0) (taken-to (IsAt (now_all h)) (head_of m) (live h) (live-at h)))
   change-waits (DidAsk q m now) run none = w
   change-waits (DidReply k m now) run none = reply-waits (step_of h) (send_count h) k m now none
   change-waits (DidAck k m) run none = ack-waits (step_of h) (send_count h) k m

@@ -144,12 +144,12 @@ signal-other n k (signal.Silent branch method) less h = tt
 signal-other n k (signal.Due call what) less h = tt
 signal-other n k (signal.Over key) less h = tt
 
-deed-other : (n k : ℕ) (op : TableOp) → k < n → IsFrom n op → IsOtherOp (tkey k) op
-deed-other n k (Receives x) less h = signal-other n k x.signal less h
-deed-other n k (Releases number side) less h = tt
-deed-other n k (Restores number away) less h = tt
-deed-other n k (Finishes number at tokens) less h = tt
-deed-other n k (Drops count) less h = tt
+op-other : (n k : ℕ) (op : TableOp) → k < n → IsFrom n op → IsOtherOp (tkey k) op
+op-other n k (Receives x) less h = signal-other n k x.signal less h
+op-other n k (Releases number side) less h = tt
+op-other n k (Restores number away) less h = tt
+op-other n k (Finishes number at tokens) less h = tt
+op-other n k (Drops count) less h = tt
 
 signal-less : (n m : ℕ) (s : Signal) → m ≤ n → OpensFrom n s → OpensFrom m s
 signal-less n m (signal.Arrived key invite served registration identities) le h = omega (arith, le, h)
@@ -171,7 +171,7 @@ from-less n m (Drops count) le h = tt
 may-later : (config : CallConfigView) (n : ℕ) (op : TableOp) (ops : List TableOp) (k : ℕ) (message : Message Start) → IsFrom n op → MayReply config n ops k message → MayReply config n (op ∷ ops) k message
 may-later config n op ops k message from (inl by) =
     inl (record { newer = op ∷ by.newer; older = by.older; all = ap (λ (ops : List TableOp). op ∷ ops) by.all; brought = by.brought; below = by.below })
-may-later config n op ops k message from (inr away) = inr (record { below = away.below; other = (deed-other n k op away.below from, away.other) })
+may-later config n op ops k message from (inr away) = inr (record { below = away.below; other = (op-other n k op away.below from, away.other) })
 
 act-later : (config : CallConfigView) (n : ℕ) (op : TableOp) (ops : List TableOp) (act : TransactionOp) → IsFrom n op → IsReplyAllowed config n ops act → IsReplyAllowed config n (op ∷ ops) act
 act-later config n op ops (DidBegin step) from a = tt

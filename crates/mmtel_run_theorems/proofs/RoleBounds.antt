@@ -138,8 +138,8 @@ module _ (wholes : MessagesHaveNothingPrivate) (config : CallConfigView) (keys :
     both_own true false e = absurd (true_false (sym e))
     both_own false other e = absurd (true_false (sym e))
 
-    some_loose : (y z : AbandonedInvite) → Some z ≡ Some y → z ≡ y
-    some_loose y z e = cc
+    some_abandoned : (y z : AbandonedInvite) → Some z ≡ Some y → z ≡ y
+    some_abandoned y z e = cc
 
     some_taken : (y z : AnsweredInvite) → Some z ≡ Some y → z ≡ y
     some_taken y z e = cc
@@ -147,10 +147,10 @@ module _ (wholes : MessagesHaveNothingPrivate) (config : CallConfigView) (keys :
     some_flight : (y z : RelayedTransaction) → Some z ≡ Some y → z ≡ y
     some_flight y z e = cc
 
-    loose_own : (c : Call) (l : Option AbandonedInvite) (x : Option AnsweredInvite) (f : Option RelayedTransaction) (y : AbandonedInvite) → l ≡ Some y → hides (other_role c m l x f) ≡ true → comes_from y.invite.dialogue.peer m ≡ true
-    loose_own c None x f y is e = absurd (let n : None ≡ Some y = is in cc)
-    loose_own c (Some z) x f y is e =
-        subst (λ (w : AbandonedInvite). comes_from w.invite.dialogue.peer m ≡ true) (some_loose y z is) (both_own (is_of_abandoned m (Some z)) (is_of_answered m x) e).0
+    abandoned_own : (c : Call) (l : Option AbandonedInvite) (x : Option AnsweredInvite) (f : Option RelayedTransaction) (y : AbandonedInvite) → l ≡ Some y → hides (other_role c m l x f) ≡ true → comes_from y.invite.dialogue.peer m ≡ true
+    abandoned_own c None x f y is e = absurd (let n : None ≡ Some y = is in cc)
+    abandoned_own c (Some z) x f y is e =
+        subst (λ (w : AbandonedInvite). comes_from w.invite.dialogue.peer m ≡ true) (some_abandoned y z is) (both_own (is_of_abandoned m (Some z)) (is_of_answered m x) e).0
 
     taken_own : (c : Call) (l : Option AbandonedInvite) (x : Option AnsweredInvite) (f : Option RelayedTransaction) (y : AnsweredInvite) → x ≡ Some y → hides (other_role c m l x f) ≡ true → comes_from y.invite.dialogue.peer m ≡ true
     taken_own c l None f y is e = absurd (let n : None ≡ Some y = is in cc)
@@ -184,12 +184,12 @@ module _ (wholes : MessagesHaveNothingPrivate) (config : CallConfigView) (keys :
         → ((at : ℕ) (l : AbandonedInvite) → position (is_of_branch branch) c.abandoned ≡ Some at → slice_get c.abandoned at ≡ Some l → keys key ≡ trusts config l.invite.dialogue.peer)
         → ((at : ℕ) (x : AnsweredInvite) → position (is_answered_invite branch) c.answered_invites ≡ Some at → slice_get c.answered_invites at ≡ Some x → keys key ≡ trusts config x.invite.dialogue.peer)
         → MayReceiveOther T key branch (role_of_other branch c) m c
-    others key branch c loose taken =
+    others key branch c abandoned_one taken =
         let l : Option AbandonedInvite = left_at branch c in
         let x : Option AnsweredInvite = had_at branch c in
         let f : Option RelayedTransaction = flying_at branch c in
         record {
-          abandoned = λ at y p g. is_answer key (other_role c m l x f) y.invite.dialogue.peer (loose_own c l x f y (ap (λ (o : Option ℕ). abandoned_invite_at o c.abandoned) p ∙ g)) (loose at y p g);
+          abandoned = λ at y p g. is_answer key (other_role c m l x f) y.invite.dialogue.peer (abandoned_own c l x f y (ap (λ (o : Option ℕ). abandoned_invite_at o c.abandoned) p ∙ g)) (abandoned_one at y p g);
           answered = λ at y p g. is_answer key (other_role c m l x f) y.invite.dialogue.peer (taken_own c l x f y (ap (λ (o : Option ℕ). answered_invite_at o c.answered_invites) p ∙ g)) (taken at y p g);
           in_flight = λ none gone at y p g. flight_own c l x f y (ap (λ (o : Option ℕ). abandoned_invite_at o c.abandoned) none) (ap (λ (o : Option ℕ). answered_invite_at o c.answered_invites) gone)
               (ap (λ (o : Option ℕ). relayed_at o c.relayed) p ∙ g);

@@ -102,10 +102,10 @@ module _ (wholes : MessagesHaveNothingPrivate) (d : Directory) (keys : TKey → 
       ∙ (ap (λ (b : Bool). fresh_by b (is_cancel (head_of (message_in m.parsed))) (is_subscribing x u m.parsed)) (subscribe_opens_nothing m.parsed is)
       ∙ (ap (λ (b : Bool). fresh_by false b (is_subscribing x u m.parsed)) other ∙ ap (fresh_by false false) subscribes))
 
-  pub request_hears : (c : CallNo × Side) (key : TKey) → class_of (head_of (message_in m.parsed)) (live u.actions) ≡ part.Fresh → is_cancel (head_of (message_in m.parsed)) ≡ false →
+  pub request_receives : (c : CallNo × Side) (key : TKey) → class_of (head_of (message_in m.parsed)) (live u.actions) ≡ part.Fresh → is_cancel (head_of (message_in m.parsed)) ≡ false →
       named_by m.parsed entries ≡ Some c → (x.reliable ≡ false → goes_across c.1 m ≡ false) → IsFromOwnPeer S key m
       → CallMayReceive S (is_numbered c.0.0) (of_call.Request c.1 key m) (role_of x u m) entries
-  request_hears c key p other named off asked place i q g =
+  request_receives c key p other named off asked place i q g =
       (asked, subst (λ (r : Role). FitsIn i.call.phase i.call c.1 m r) (sym (fresh_is c p other named)) (request_fits x.reliable c.0.0 place c.1 m i entries off q g))
 
   pub opening_is : class_of (head_of (message_in m.parsed)) (live u.actions) ≡ part.Fresh → is_opening m.parsed ≡ true → role_of x u m ≡ opening_role (hides_caller x u m.parsed)
@@ -113,9 +113,9 @@ module _ (wholes : MessagesHaveNothingPrivate) (d : Directory) (keys : TKey → 
       role_is part.Fresh p
       ∙ ap (λ (b : Bool). fresh_by b (is_cancel (head_of (message_in m.parsed))) (is_subscribing x u m.parsed)) opens
 
-  pub ack_hears : (c : CallNo × Side) → class_of (head_of (message_in m.parsed)) (live u.actions) ≡ part.AckOf2xx → named_by m.parsed entries ≡ Some c →
+  pub ack_receives : (c : CallNo × Side) → class_of (head_of (message_in m.parsed)) (live u.actions) ≡ part.AckOf2xx → named_by m.parsed entries ≡ Some c →
       CallMayReceive S (is_numbered c.0.0) (of_call.Ack c.1 m) (role_of x u m) entries
-  ack_hears c p named place i q g = (
+  ack_receives c p named place i q g = (
     subst (λ (r : Role). FitsIn i.call.phase i.call c.1 m r) (sym (role_is part.AckOf2xx p ∙ dialog_is c named))
         (request_fits x.reliable c.0.0 place c.1 m i entries (λ off. no_ack_across c.1 m (ack_taken (message_in m.parsed) (live u.actions) p)) q g),
     sent_any (trust_of (call_config x) (λ key. false)) S (λ peer. sym (same peer)) i.call.phase i.call c.1 m (tied.ack c.0.0 c.1 i named (entry_found c.0.0 place i entries q g)),
@@ -144,9 +144,9 @@ module _ (wholes : MessagesHaveNothingPrivate) (d : Directory) (keys : TKey → 
       ∙ ap (λ (e : Option Entry). unwrap_or (role_in_entry branch m e) (role_in_conference_response branch m (conferences_in x u)))
       (ap (λ (o : Option ℕ). entry_at o entries) (sent_with branch is ∙ q) ∙ g)
 
-  pub answer_hears : (key : ℕ) → class_of (head_of (message_in m.parsed)) (live u.actions) ≡ part.Answer key →
+  pub answer_receives : (key : ℕ) → class_of (head_of (message_in m.parsed)) (live u.actions) ≡ part.Answer key →
       CallMayReceive S (has_sent_branch (awaited_request_branch m)) (of_call.Answer (tkey key) m) (role_of x u m) entries
-  answer_hears key p place i q g =
+  answer_receives key p place i q g =
       answer_by wholes (call_config d) keys m told (answer_response (message_in m.parsed) (live u.actions) key p) (awaited_request_branch m) (tkey key) (role_of x u m) i
       (λ branch is. role_is (part.Answer key) p ∙ answer_is branch place i q g is)
       (λ branch is.
@@ -234,9 +234,9 @@ module _ (wholes : MessagesHaveNothingPrivate) (d : Directory) (keys : TKey → 
         let t = tie.participant at place room seat found got asked_there got_too in
         record { invite = invite_by seat.invite (λ hidden. (its hidden).1) t.invite; leg = answer_of (dialogue_of seat).peer (λ hidden. (its hidden).0) t.leg }
 
-  pub seat_hears : (key : ℕ) → class_of (head_of (message_in m.parsed)) (live u.actions) ≡ part.Answer key →
+  pub seat_receives : (key : ℕ) → class_of (head_of (message_in m.parsed)) (live u.actions) ≡ part.Answer key →
       owner_of_branch (awaited_request_branch m) (branch_in m.parsed.vias) entries (subscriptions_in u) ≡ OfConferences → IsResponseTo S (tkey key) (record { message = m; role = role_of x u m }) table
-  seat_hears key p rooms = by (awaited_request_branch m) refl
+  seat_receives key p rooms = by (awaited_request_branch m) refl
     where
       none : is_of_calls (awaited_request_branch m) entries ≡ false
       none = of_no_call (is_of_calls (awaited_request_branch m) entries) (is_of_subscriptions (branch_in m.parsed.vias) (subscriptions_in u)) rooms

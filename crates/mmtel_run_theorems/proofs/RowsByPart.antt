@@ -148,11 +148,11 @@ unfolding is_numbered
 numbered n e h = h
 
 -- for a call that no operation opens
-no-life : (opens : Option TraceStart) (came : Option CallEvent) (was : Option CallTraceWithTransfers) → continued_trace opens came was ≡ None → (opens ≡ None) × (was ≡ None)
-no-life (Some s) came was h = absurd (none-some (record { start = s; events = [] }) (sym h))
-no-life None came None h = (refl, refl)
-no-life None None (Some trace) h = absurd (none-some trace (sym h))
-no-life None (Some x) (Some trace) h = absurd (none-some (record trace { events = x ∷ trace.events }) (sym h))
+no-trace : (opens : Option TraceStart) (came : Option CallEvent) (was : Option CallTraceWithTransfers) → continued_trace opens came was ≡ None → (opens ≡ None) × (was ≡ None)
+no-trace (Some s) came was h = absurd (none-some (record { start = s; events = [] }) (sym h))
+no-trace None came None h = (refl, refl)
+no-trace None None (Some trace) h = absurd (none-some trace (sym h))
+no-trace None (Some x) (Some trace) h = absurd (none-some (record trace { events = x ∷ trace.events }) (sym h))
 
 met-by-number : (opens : Option TraceStart) (met : Option Entry) (n : ℕ) → opens ≡ None → is_number n (number_by opens met) ≡ true → (e : Entry) × (met ≡ Some e) × (is_numbered n e ≡ true)
 met-by-number (Some s) met n none h = absurd (none-some s (sym none))
@@ -167,7 +167,7 @@ module _ (steps : CallsTakeTheirSteps) (config : CallConfigView) (n : ℕ) where
       let table = table_after config older in
       let fewer_older : HasNumbers config older = fewer config op older few in
       go (is_number n (call_of config op table)) refl h (λ none. no-rows older fewer_older none) (λ is none.
-      let nothing = no-life (opening_by config op table) (event_by op n table.entries) (trace_of config n older) none in
+      let nothing = no-trace (opening_by config op table) (event_by op n table.entries) (trace_of config n older) none in
       let met = met-by-number (opening_by config op table) (entry_by op table.entries) n nothing.0 is in
       met-numbered op n table.entries met.0 met.1 met.2 (steps config older n fewer_older ∙ ap entry_in nothing.1))
     where
@@ -189,8 +189,8 @@ over-cause (Detached detached) h = absurd (let e : false ≡ true = h in cc)
 over-cause (Over cause) h = (cause, refl)
 
 module _ (steps : CallsTakeTheirSteps) (exact : CallsOfTablesAreExact) (config : CallConfigView) (ops : List TableOp) (few : HasNumbers config ops) (put : ArePutBack config ops) where
-  life-rows : (n : ℕ) (trace : CallTraceWithTransfers) → CallIsExact config ops n trace → AreOfCalls (charging_records_of config n ops)
-  life-rows n trace is = go (is_over (call_after trace.start trace.events).phase) refl
+  trace-rows : (n : ℕ) (trace : CallTraceWithTransfers) → CallIsExact config ops n trace → AreOfCalls (charging_records_of config n ops)
+  trace-rows n trace is = go (is_over (call_after trace.start trace.events).phase) refl
     where
       go : (b : Bool) → is_over (call_after trace.start trace.events).phase ≡ b → AreOfCalls (charging_records_of config n ops)
       go false goes = subst AreOfCalls (sym (is.runs put goes).1) tt
@@ -204,7 +204,7 @@ module _ (steps : CallsTakeTheirSteps) (exact : CallsOfTablesAreExact) (config :
     where
       go : (o : Option CallTraceWithTransfers) → trace_of config n ops ≡ o → AreOfCalls (charging_records_of config n ops)
       go None none = subst AreOfCalls (sym (no-rows steps config n ops few none)) tt
-      go (Some trace) is = life-rows n trace (exact config ops n trace few is)
+      go (Some trace) is = trace-rows n trace (exact config ops n trace few is)
 
 -- ---- and so all CDRs
 

@@ -51,13 +51,13 @@ use Rattle.mmtel_run_theorems.proofs.Finals.{finals_come}
 use Rattle.mmtel_run_theorems.proofs.CallOutputs.{calls_go_out, replies_said}
 use Rattle.mmtel_run_theorems.proofs.OperationsOfEvents.{IsKeyed}
 use Rattle.mmtel_run_theorems.proofs.CallKeys.{keys_few}
-use Rattle.mmtel_run_theorems.proofs.OpeningTransactions.{life_opened}
+use Rattle.mmtel_run_theorems.proofs.OpeningTransactions.{trace_opened}
 use Rattle.mmtel_run_theorems.proofs.Replies.{AllRepliesAllowed}
 use Rattle.mmtel_run_theorems.proofs.NoInjection.{all_own}
-use Rattle.mmtel_run_theorems.proofs.Transfers.{lent_at_once, put_back}
-use Rattle.mmtel_run_theorems.proofs.Snapshots.{LifeStood, life_stood, reached}
-use Rattle.mmtel_run_theorems.proofs.Notifications.{lives_told}
-use Rattle.mmtel_run_theorems.proofs.OperationContexts.{WellTold, all_told}
+use Rattle.mmtel_run_theorems.proofs.Transfers.{detached_at_once, put_back}
+use Rattle.mmtel_run_theorems.proofs.Snapshots.{TraceStood, reached, trace_stood}
+use Rattle.mmtel_run_theorems.proofs.Notifications.{traces_notify}
+use Rattle.mmtel_run_theorems.proofs.OperationContexts.{RunSeesInForce, all_see_in_force}
 use Rattle.mmtel_run_theorems.proofs.StepMoments.{all_timed}
 use Rattle.mmtel_run_theorems.proofs.NoFinalWhileOffered.{answered_below, answered_own, none_final}
 
@@ -106,7 +106,7 @@ module _ (back : LegsGoBack) (room_replies : ConferencesReplyInTheirOwn) (steps 
       RowsAreCharged d (state_after d token loaded fuel recorded)
   charged due metered named d token loaded fuel recorded short =
       let w : RunState = state_after d token loaded fuel recorded in
-      let told : WellTold d token loaded fuel recorded recorded = all_told d token loaded fuel recorded back room_replies in
+      let told : RunSeesInForce d token loaded fuel recorded recorded = all_see_in_force d token loaded fuel recorded back room_replies in
       rows_charged steps exact_law rows_law seats d w (filed d token loaded fuel recorded) (has_numbers d w told.keyed short) (put_back (call_config d) None w.call_ops told.detached) told.conferences due metered named
 
   pub seats_charged : ParticipantsAreAccountedFor → ParticipantsAreMetered → RowsAreAccountedFor → RowsAreInOrder → BeginsChangeNothing → RunParticipantsChargedOnce
@@ -116,22 +116,22 @@ module _ (back : LegsGoBack) (room_replies : ConferencesReplyInTheirOwn) (steps 
     timed = all_timed d token begins fuel (timed_events d recorded) (initial_state loaded);
   }
 
-  module _ (own_law : CallOutputsAreOfTheTrace) (call_replies : CallsReplyInTheirOwn) (nobodys : OtherOperationsOutputNothing) (goes : CallsContinue) (charging : ChargingIsExact) (told_law : NotifiesItsDiversions) (silent : NotifiesNothingLater) (ends : EndsWithoutNotification)
+  module _ (own_law : CallOutputsAreOfTheTrace) (call_replies : CallsReplyInTheirOwn) (nobodys : OtherOperationsOutputNothing) (goes : CallsContinue) (charging : ChargingIsExact) (notifies_law : NotifiesItsDiversions) (silent : NotifiesNothingLater) (ends : EndsWithoutNotification)
       (bound_law : StaysWithinBound) (forwards : DiversionsHaveForwards) (texts : TextsAreThoseKept) (last : LastIsInForce) (views : CallsSeeWhatIsInForce) (begins : BeginsChangeNothing) where
     comes : (d : Directory) (token : List ℕ) (loaded : Texts) (fuel : ℕ) (recorded : List EventRecord) → IsShort (state_after d token loaded fuel recorded) →
         (number : ℕ) (trace : CallTraceWithTransfers) → trace_of (call_config d) number (state_after d token loaded fuel recorded).call_ops ≡ Some trace → CallReachesOutcome d token loaded fuel recorded number trace
     comes d token loaded fuel recorded short number trace is =
         let w : RunState = state_after d token loaded fuel recorded in
-        let told : WellTold d token loaded fuel recorded recorded = all_told d token loaded fuel recorded back room_replies in
+        let told : RunSeesInForce d token loaded fuel recorded recorded = all_see_in_force d token loaded fuel recorded back room_replies in
         let few : HasNumbers (call_config d) w.call_ops = has_numbers d w told.keyed short in
         let put : ArePutBack (call_config d) w.call_ops = put_back (call_config d) None w.call_ops told.detached in
         let exact : CallIsExact (call_config d) w.call_ops number trace = exact_law (call_config d) w.call_ops number trace few is in
         let own : OutputsAreOfTheTrace (call_config d) w.call_ops number trace = own_law (call_config d) w.call_ops number trace few is in
-        let lived : LifeStood texts last views d token loaded fuel recorded number trace = life_stood texts last views d token loaded fuel recorded number w.call_ops trace told.operations is in
+        let lived : TraceStood texts last views d token loaded fuel recorded number trace = trace_stood texts last views d token loaded fuel recorded number w.call_ops trace told.operations is in
         let rows : rows_of_call w number ≡ charging_records_of (call_config d) number w.call_ops = of_call steps exact_law rows_law seats d w (filed d token loaded fuel recorded) few put told.conferences number in
         let shown : ShowsOutcome trace = exact.shown told.keyed.own in
         let awaited : AwaitsItsFinal w trace.start =
-        (λ none. let (e, is, waits) = life_opened (call_config d) w.actions number w.call_ops trace told.awaited.requested is in
+        (λ none. let (e, is, waits) = trace_opened (call_config d) w.actions number w.call_ops trace told.awaited.requested is in
         still_awaited trace.start.arrival.invite.peer w.actions trace.start.arrival.key.0 e told.awaited.run is waits none) in
         record {
           exact = exact;
@@ -147,7 +147,7 @@ module _ (back : LegsGoBack) (room_replies : ConferencesReplyInTheirOwn) (steps 
               w.actions told.awaited.answered);
           sent = calls_go_out d token begins loaded fuel recorded number;
           answered =
-              let (e, opens, waits) = life_opened (call_config d) w.actions number w.call_ops trace told.awaited.requested is in
+              let (e, opens, waits) = trace_opened (call_config d) w.actions number w.call_ops trace told.awaited.requested is in
               finals_come w trace.start trace.events (emits_of (call_config d) number w.call_ops) exact.emits (opening_in trace.start) (outcome_after trace.start trace.events).targets
               (outcome_after trace.start trace.events).result (exact.throughout told.keyed.own) (calls_go_out d token begins loaded fuel recorded number)
               (replies_said d token begins loaded fuel recorded) told.awaited.run e opens waits
@@ -159,9 +159,9 @@ module _ (back : LegsGoBack) (room_replies : ConferencesReplyInTheirOwn) (steps 
           watched = exact.watched;
           session = exact.session;
           expires = exact.expires;
-          restored = lent_at_once back (call_config d) number w.call_ops trace told.detached is;
+          restored = detached_at_once back (call_config d) number w.call_ops trace told.detached is;
           notified =
-              lives_told goes charging told_law silent ends trace.start trace.events
+              traces_notify goes charging notifies_law silent ends trace.start trace.events
               ∙ ap (λ (config : CallConfigView). notifications_due config (opening_in trace.start) (received_history trace.start.arrival.invite) (outcome_after trace.start trace.events).targets) own.opening.0;
           bounded = bounded bound_law forwards d trace own.opening.0 shown;
           charged = record {

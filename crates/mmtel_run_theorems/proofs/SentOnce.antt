@@ -8,7 +8,7 @@ use Rattle.mmtel_b2bua.specs.Operations as histories
 use Rattle.mmtel_b2bua.specs.Operations.{Drops, Finishes, Receives, Releases, Restores, TableOp, step_on_finish, step_on_receive_after, table_after}
 use Rattle.mmtel_b2bua.specs.Detaching.{entries_after_release, entries_after_restore, entry_after_release, entry_after_restore, finish_step, place_of, released_at, released_leg_of, released_where, restored_at, restored_where, step_of_finish, step_of_finish_at, step_of_finish_in}
 use Rattle.mmtel_b2bua.specs.Queries.{party}
-use Rattle.mmtel_b2bua.specs.Tables.{TableStep, busy_with, call_step, entry_for, invites_by, opening_step, put_at, snapshot_at, step_in, step_of_arrival as opened_in, step_of_entry_at, step_of_receiver as heard_in, step_of_signal}
+use Rattle.mmtel_b2bua.specs.Tables.{TableStep, busy_with, call_step, entry_for, invites_by, opening_step, put_at, snapshot_at, step_in, step_of_arrival as opened_in, step_of_entry_at, step_of_receiver as received_in, step_of_signal}
 use Rattle.mmtel_b2bua.specs.declared.entries.Entry.{Entry}
 use Rattle.mmtel_b2bua.specs.declared.entries.InviteKey.{InviteKey}
 use Rattle.mmtel_b2bua.specs.declared.signals.Signal.{Signal}
@@ -184,9 +184,9 @@ module _ (steps : StepsSendOnce) (openings : OpeningsSendOnce) (config : CallCon
     in_well x invites None es had = stays es had
     in_well x invites (Some place) es had = at_well x invites place (slice_get es place) es refl had
 
-    heard_well : (whose : Entry → Bool) (x : calls.Signal) (invites : List InviteKey) (es : List Entry) → Each (Sent before) es →
-        MovesWell (heard_in config at view whose x invites es (empty_output tokens))
-    heard_well whose x invites es had = in_well x invites (position whose es) es had
+    received_well : (whose : Entry → Bool) (x : calls.Signal) (invites : List InviteKey) (es : List Entry) → Each (Sent before) es →
+        MovesWell (received_in config at view whose x invites es (empty_output tokens))
+    received_well whose x invites es had = in_well x invites (position whose es) es had
 
     opened_well : (a : Arrival) (es : List Entry) → Each (Sent before) es → MovesWell (opened_in config at view a es (empty_output tokens))
     opened_well a es had =
@@ -203,27 +203,27 @@ module _ (steps : StepsSendOnce) (openings : OpeningsSendOnce) (config : CallCon
     unfolding step_of_signal
     taken_well number (signal.Arrived key invite served registration identities) es had =
         opened_well (record { number = record { 0 = number }; key = key; invite = invite; served = served; registration = registration; identities = identities }) es had
-    taken_well number (signal.Request call side key request) es had = heard_well (is_numbered call.0) (of_call.Request side key request) (invites_by side key request) es had
-    taken_well number (signal.Ack call side ack) es had = heard_well (is_numbered call.0) (of_call.Ack side ack) [] es had
-    taken_well number (signal.Cancel call key cancel invite) es had = heard_well (is_numbered call.0) (of_call.Cancel key cancel invite) [] es had
-    taken_well number (signal.Answer key response) es had = heard_well (has_sent_branch (awaited_request_branch response)) (of_call.Answer key response) [] es had
-    taken_well number (signal.Silent branch method) es had = heard_well (has_sent_branch (timed_out_branch branch method)) (of_call.Silent branch method) [] es had
-    taken_well number (signal.Due call what) es had = heard_well (is_numbered call.0) (of_call.Due what) [] es had
-    taken_well number (signal.Over key) es had = heard_well (has_received_key key) (of_call.Ended key) [] es had
+    taken_well number (signal.Request call side key request) es had = received_well (is_numbered call.0) (of_call.Request side key request) (invites_by side key request) es had
+    taken_well number (signal.Ack call side ack) es had = received_well (is_numbered call.0) (of_call.Ack side ack) [] es had
+    taken_well number (signal.Cancel call key cancel invite) es had = received_well (is_numbered call.0) (of_call.Cancel key cancel invite) [] es had
+    taken_well number (signal.Answer key response) es had = received_well (has_sent_branch (awaited_request_branch response)) (of_call.Answer key response) [] es had
+    taken_well number (signal.Silent branch method) es had = received_well (has_sent_branch (timed_out_branch branch method)) (of_call.Silent branch method) [] es had
+    taken_well number (signal.Due call what) es had = received_well (is_numbered call.0) (of_call.Due what) [] es had
+    taken_well number (signal.Over key) es had = received_well (has_received_key key) (of_call.Ended key) [] es had
 
   -- a leg is taken out or put back, and a call ends without it
   module _ (others : Once) where
-    lent_at_sent : (side : Side) (place : ℕ) (o : Option Entry) (es : List Entry) → slice_get es place ≡ o → Each (Sent before) es → Each (Sent before) (released_at side place o es)
-    lent_at_sent side place None es is had = had
-    lent_at_sent side place (Some e) es is had = each_set (Sent before) es place (entry_after_release side e) (others.detached config.sip side e.call before (each_at (Sent before) es place e had is)) had
+    released_at_sent : (side : Side) (place : ℕ) (o : Option Entry) (es : List Entry) → slice_get es place ≡ o → Each (Sent before) es → Each (Sent before) (released_at side place o es)
+    released_at_sent side place None es is had = had
+    released_at_sent side place (Some e) es is had = each_set (Sent before) es place (entry_after_release side e) (others.detached config.sip side e.call before (each_at (Sent before) es place e had is)) had
 
-    lent_by_sent : (side : Side) (o : Option ℕ) (es : List Entry) → Each (Sent before) es → Each (Sent before) (released_where side o es)
-    lent_by_sent side None es had = had
-    lent_by_sent side (Some place) es had = lent_at_sent side place (slice_get es place) es refl had
+    released_by_sent : (side : Side) (o : Option ℕ) (es : List Entry) → Each (Sent before) es → Each (Sent before) (released_where side o es)
+    released_by_sent side None es had = had
+    released_by_sent side (Some place) es had = released_at_sent side place (slice_get es place) es refl had
 
     released_sent : (number : ℕ) (side : Side) (es : List Entry) → Each (Sent before) es → Each (Sent before) (entries_after_release number side es)
     unfolding entries_after_release
-    released_sent number side es had = lent_by_sent side (place_of number es) es had
+    released_sent number side es had = released_by_sent side (place_of number es) es had
 
     back_at_sent : (away : Released) (place : ℕ) (o : Option Entry) (es : List Entry) → slice_get es place ≡ o → Each (Sent before) es → Each (Sent before) (restored_at away place o es)
     back_at_sent away place None es is had = had
@@ -292,15 +292,15 @@ with_emits_rooms at (emit.Settled key own ∷ out) w = with_emits_rooms at out (
 with_emits_rooms at (emit.Arm call what when ∷ out) w = with_emits_rooms at out (with_emit at (emit.Arm call what when) w)
 with_emits_rooms at (emit.ArmSeat room seat what when ∷ out) w = with_emits_rooms at out (with_emit at (emit.ArmSeat room seat what when) w)
 
-with_emits_deeds : (at : ℕ) (out : List Emit) (w : RunState) → (with_emits at out w).call_ops ≡ w.call_ops
-with_emits_deeds at [] w = refl
-with_emits_deeds at (emit.Ask peer m ∷ out) w = with_emits_deeds at out (with_emit at (emit.Ask peer m) w)
-with_emits_deeds at (emit.Reply key m ∷ out) w = with_emits_deeds at out (with_emit at (emit.Reply key m) w)
-with_emits_deeds at (emit.Plain peer text ∷ out) w = with_emits_deeds at out (with_emit at (emit.Plain peer text) w)
-with_emits_deeds at (emit.Ack key m ∷ out) w = with_emits_deeds at out (with_emit at (emit.Ack key m) w)
-with_emits_deeds at (emit.Settled key own ∷ out) w = with_emits_deeds at out (with_emit at (emit.Settled key own) w)
-with_emits_deeds at (emit.Arm call what when ∷ out) w = with_emits_deeds at out (with_emit at (emit.Arm call what when) w)
-with_emits_deeds at (emit.ArmSeat room seat what when ∷ out) w = with_emits_deeds at out (with_emit at (emit.ArmSeat room seat what when) w)
+with_emits_ops : (at : ℕ) (out : List Emit) (w : RunState) → (with_emits at out w).call_ops ≡ w.call_ops
+with_emits_ops at [] w = refl
+with_emits_ops at (emit.Ask peer m ∷ out) w = with_emits_ops at out (with_emit at (emit.Ask peer m) w)
+with_emits_ops at (emit.Reply key m ∷ out) w = with_emits_ops at out (with_emit at (emit.Reply key m) w)
+with_emits_ops at (emit.Plain peer text ∷ out) w = with_emits_ops at out (with_emit at (emit.Plain peer text) w)
+with_emits_ops at (emit.Ack key m ∷ out) w = with_emits_ops at out (with_emit at (emit.Ack key m) w)
+with_emits_ops at (emit.Settled key own ∷ out) w = with_emits_ops at out (with_emit at (emit.Settled key own) w)
+with_emits_ops at (emit.Arm call what when ∷ out) w = with_emits_ops at out (with_emit at (emit.Arm call what when) w)
+with_emits_ops at (emit.ArmSeat room seat what when ∷ out) w = with_emits_ops at out (with_emit at (emit.ArmSeat room seat what when) w)
 
 module _ (d : Directory) (token : List ℕ) where
   -- each INVITE of a call and of a conference was sent to its peer; and INVITEs have numbers of their own
@@ -378,7 +378,7 @@ module _ (d : Directory) (token : List ℕ) where
       holds_by : Holds w → Holds (with_call_output at op output w)
       holds_by had =
           same_sent (asks_after output.out asks) (asks_of (with_emits at output.out mid).actions) output.tokens.drawn (with_emits at output.out mid).drawn (Drops (length output.rows) ∷ op ∷ w.call_ops) (with_emits at output.out mid).call_ops w.conference_ops (with_emits at output.out mid).conference_ops
-          (sym (with_emits_asks at output.out mid)) (sym (with_emits_drawn at output.out mid)) (sym (with_emits_deeds at output.out mid)) (sym (with_emits_rooms at output.out mid)) (now had)
+          (sym (with_emits_asks at output.out mid)) (sym (with_emits_drawn at output.out mid)) (sym (with_emits_ops at output.out mid)) (sym (with_emits_rooms at output.out mid)) (now had)
 
       bringing_goes : Goes w (with_call_output at op output w)
       bringing_goes = record { early = early_by; holds = holds_by }
@@ -412,45 +412,45 @@ module _ (d : Directory) (token : List ℕ) where
 
     -- an operation on the conferences
     module _ (at : ℕ) (op : rooms.TableOp) (w : RunState) (text : tokens_of_op op ≡ tokens_now token w) where
-      abbrev out_desk : StepOutput
-      out_desk = output_of_conference_op d op w
+      abbrev conference_output : StepOutput
+      conference_output = output_of_conference_op d op w
 
       abbrev room_asks : SentRequests
       room_asks = asks_of w.actions
 
       abbrev room_mid : RunState
-      room_mid = record w { drawn = out_desk.tokens.drawn; conference_ops = rooms.Drops (length out_desk.rows) ∷ op ∷ w.conference_ops; waiting = w.waiting ++ out_desk.rows }
+      room_mid = record w { drawn = conference_output.tokens.drawn; conference_ops = rooms.Drops (length conference_output.rows) ∷ op ∷ w.conference_ops; waiting = w.waiting ++ conference_output.rows }
 
-      sends : Holds w → OpSendsOnce d.sip room_asks (tokens_now token w) out_desk (rooms.table_after (conference_config d) (op ∷ w.conference_ops))
-      sends had = subst (λ (t : TokensView). OpSendsOnce d.sip room_asks t out_desk (rooms.table_after (conference_config d) (op ∷ w.conference_ops))) text (once.conferences (conference_config d) w.conference_ops op room_asks had.conferences_sent)
+      sends : Holds w → OpSendsOnce d.sip room_asks (tokens_now token w) conference_output (rooms.table_after (conference_config d) (op ∷ w.conference_ops))
+      sends had = subst (λ (t : TokensView). OpSendsOnce d.sip room_asks t conference_output (rooms.table_after (conference_config d) (op ∷ w.conference_ops))) text (once.conferences (conference_config d) w.conference_ops op room_asks had.conferences_sent)
 
       room_early : Holds w → IsEarly (after_conference_op d at op w) → IsEarly w
       room_early had less =
-          let small : out_desk.tokens.drawn < 2 ^ 60 = subst (λ (n : ℕ). n < 2 ^ 60) (with_emits_drawn at out_desk.out room_mid) less in
-          let on : w.drawn ≤ out_desk.tokens.drawn = numbers_on d.sip token w.drawn out_desk.tokens.drawn out_desk.out ((sends had).out_in small) in
+          let small : conference_output.tokens.drawn < 2 ^ 60 = subst (λ (n : ℕ). n < 2 ^ 60) (with_emits_drawn at conference_output.out room_mid) less in
+          let on : w.drawn ≤ conference_output.tokens.drawn = numbers_on d.sip token w.drawn conference_output.tokens.drawn conference_output.out ((sends had).out_in small) in
           omega (arith, on, small)
 
-      room_now : Holds w → AreSent (asks_after out_desk.out room_asks) out_desk.tokens.drawn w.call_ops (rooms.Drops (length out_desk.rows) ∷ op ∷ w.conference_ops)
+      room_now : Holds w → AreSent (asks_after conference_output.out room_asks) conference_output.tokens.drawn w.call_ops (rooms.Drops (length conference_output.rows) ∷ op ∷ w.conference_ops)
       room_now had = record {
-        calls_sent = each_same (EntryWasSent d.sip room_asks) (EntryWasSent d.sip (asks_after out_desk.out room_asks))
-            (λ e is. call_more (RequestWasSent d.sip room_asks) (RequestWasSent d.sip (asks_after out_desk.out room_asks))
-            (λ method branch peer was. sent_now room_asks out_desk.out method branch peer (sent_before d.sip room_asks (requests_in out_desk.out) method branch peer was)) e.call is)
+        calls_sent = each_same (EntryWasSent d.sip room_asks) (EntryWasSent d.sip (asks_after conference_output.out room_asks))
+            (λ e is. call_more (RequestWasSent d.sip room_asks) (RequestWasSent d.sip (asks_after conference_output.out room_asks))
+            (λ method branch peer was. sent_now room_asks conference_output.out method branch peer (sent_before d.sip room_asks (requests_in conference_output.out) method branch peer was)) e.call is)
             (calls_in d w).entries had.calls_sent;
         conferences_sent =
-            let all = table_more (SomeInviteWasSent d.sip (room_asks ++ requests_in out_desk.out)) (SomeInviteWasSent d.sip (asks_after out_desk.out room_asks)) (sent_now room_asks out_desk.out (codes "INVITE"))
+            let all = table_more (SomeInviteWasSent d.sip (room_asks ++ requests_in conference_output.out)) (SomeInviteWasSent d.sip (asks_after conference_output.out room_asks)) (sent_now room_asks conference_output.out (codes "INVITE"))
             (rooms.table_after (conference_config d) (op ∷ w.conference_ops)) (sends had).conferences_in in
             record { live_in = all.live_in; abandoned_in = all.abandoned_in };
         numbered = λ less.
             let are = (sends had).out_in less in
-            let on : w.drawn ≤ out_desk.tokens.drawn = numbers_on d.sip token w.drawn out_desk.tokens.drawn out_desk.out are in
-            falls_after d.sip token w.drawn out_desk.tokens.drawn out_desk.out room_asks are (had.numbered (omega (arith, on, less)));
+            let on : w.drawn ≤ conference_output.tokens.drawn = numbers_on d.sip token w.drawn conference_output.tokens.drawn conference_output.out are in
+            falls_after d.sip token w.drawn conference_output.tokens.drawn conference_output.out room_asks are (had.numbered (omega (arith, on, less)));
       }
 
       room_holds : Holds w → Holds (after_conference_op d at op w)
       room_holds had =
-          same_sent (asks_after out_desk.out room_asks) (asks_of (with_emits at out_desk.out room_mid).actions) out_desk.tokens.drawn (with_emits at out_desk.out room_mid).drawn w.call_ops (with_emits at out_desk.out room_mid).call_ops
-          (rooms.Drops (length out_desk.rows) ∷ op ∷ w.conference_ops) (with_emits at out_desk.out room_mid).conference_ops
-          (sym (with_emits_asks at out_desk.out room_mid)) (sym (with_emits_drawn at out_desk.out room_mid)) (sym (with_emits_deeds at out_desk.out room_mid)) (sym (with_emits_rooms at out_desk.out room_mid)) (room_now had)
+          same_sent (asks_after conference_output.out room_asks) (asks_of (with_emits at conference_output.out room_mid).actions) conference_output.tokens.drawn (with_emits at conference_output.out room_mid).drawn w.call_ops (with_emits at conference_output.out room_mid).call_ops
+          (rooms.Drops (length conference_output.rows) ∷ op ∷ w.conference_ops) (with_emits at conference_output.out room_mid).conference_ops
+          (sym (with_emits_asks at conference_output.out room_mid)) (sym (with_emits_drawn at conference_output.out room_mid)) (sym (with_emits_ops at conference_output.out room_mid)) (sym (with_emits_rooms at conference_output.out room_mid)) (room_now had)
 
       housed_goes : Goes w (after_conference_op d at op w)
       housed_goes = record { early = room_early; holds = room_holds }
@@ -471,9 +471,9 @@ module _ (d : Directory) (token : List ℕ) where
       unfolding after_join
       opens_drawn = refl
 
-      opens_deeds : (with_conference_output at (rooms.Opens c) (output_of_conference_op d (rooms.Opens c) w) w).call_ops ≡ w.call_ops
+      opens_ops : (with_conference_output at (rooms.Opens c) (output_of_conference_op d (rooms.Opens c) w) w).call_ops ≡ w.call_ops
       unfolding after_join
-      opens_deeds = refl
+      opens_ops = refl
 
       opens_sent : TableWasSent (SomeInviteWasSent d.sip (asks_of w.actions)) (conferences_in d w) →
           TableWasSent (SomeInviteWasSent d.sip (asks_of w.actions)) (conferences_in d (with_conference_output at (rooms.Opens c) (output_of_conference_op d (rooms.Opens c) w) w))
@@ -483,7 +483,7 @@ module _ (d : Directory) (token : List ℕ) where
       opens_goes : Goes w (with_conference_output at (rooms.Opens c) (output_of_conference_op d (rooms.Opens c) w) w)
       opens_goes = record {
         early = λ had less. subst (λ (n : ℕ). n < 2 ^ 60) opens_drawn less;
-        holds = λ had. same_sent (asks_of w.actions) _ w.drawn _ w.call_ops _ _ _ (sym opens_quiet) (sym opens_drawn) (sym opens_deeds) refl
+        holds = λ had. same_sent (asks_of w.actions) _ w.drawn _ w.call_ops _ _ _ (sym opens_quiet) (sym opens_drawn) (sym opens_ops) refl
             (record { calls_sent = had.calls_sent; conferences_sent = opens_sent had.conferences_sent; numbered = had.numbered });
       }
 
@@ -511,7 +511,7 @@ module _ (d : Directory) (token : List ℕ) where
         record {
           early = λ had less. subst (λ (n : ℕ). n < 2 ^ 60) (with_emits_drawn at out w) less;
           holds = λ had. same_sent (asks_after out known) (asks_of v.actions) w.drawn v.drawn w.call_ops v.call_ops w.conference_ops v.conference_ops
-              (sym (with_emits_asks at out w)) (sym (with_emits_drawn at out w)) (sym (with_emits_deeds at out w)) (sym (with_emits_rooms at out w)) (record {
+              (sym (with_emits_asks at out w)) (sym (with_emits_drawn at out w)) (sym (with_emits_ops at out w)) (sym (with_emits_rooms at out w)) (record {
                 calls_sent = each_same (EntryWasSent d.sip known) (EntryWasSent d.sip (asks_after out known))
                     (λ e is. call_more (RequestWasSent d.sip known) (RequestWasSent d.sip (asks_after out known)) (λ method branch peer was. sent_after d.sip method branch peer out known (inl was)) e.call is)
                     (table_after (call_config d) w.call_ops).entries had.calls_sent;
@@ -718,19 +718,19 @@ module _ (d : Directory) (token : List ℕ) where
       answering_goes (Some (heard.AckOf2xx message)) w = acknowledging_goes (dialog_owner_in d s.parsed w) w
       answering_goes (Some heard.Stray) w = same w
 
-      hearing_goes : (o : Option transaction.Heard) (w : RunState) → Goes w (with_received_action at s o w)
-      hearing_goes None w = same w
-      hearing_goes (Some taken) w = drew_more w (with_received_action at s (Some taken) w) 0 refl (omega arith) refl refl
+      receiving_goes : (o : Option transaction.Heard) (w : RunState) → Goes w (with_received_action at s o w)
+      receiving_goes None w = same w
+      receiving_goes (Some taken) w = drew_more w (with_received_action at s (Some taken) w) 0 refl (omega arith) refl refl
 
-      told_goes : (w : RunState) → Goes w (after_message d token at s w)
-      told_goes w =
+      after_message_goes : (w : RunState) → Goes w (after_message d token at s w)
+      after_message_goes w =
           let said = hear_result w.actions s.peer (message_in s.parsed) in
-          then_goes w (with_received_action at s said w) (after_classified_message d token at s said (with_received_action at s said w)) (hearing_goes said w) (answering_goes said (with_received_action at s said w))
+          then_goes w (with_received_action at s said w) (after_classified_message d token at s said (with_received_action at s said w)) (receiving_goes said w) (answering_goes said (with_received_action at s said w))
 
     met_goes : (at : ℕ) (x : ParsedEvent) (w : RunState) → Goes w (after_parsed_event d token at x w)
     met_goes at Nothing w = same w
     met_goes at (Refused peer source reply) w = drew_more w _ (tags_due (to_tag_in reply.lines)) refl refl refl refl
-    met_goes at (Received said) w = told_goes at said w
+    met_goes at (Received said) w = after_message_goes at said w
     met_goes at (WebRequested request kept rows) w =
         let v : RunState = after_web_reply d at request kept rows w in
         then_goes w v (after_web_request d token at request kept rows w) (drew_more w v 0 refl (omega arith) refl refl) (putting_goes at (counts_put_in d.names request kept) v)

@@ -67,8 +67,8 @@ call_opening_other : (full : Bool) → IsOther (call_opening full)
 call_opening_other true = λ e. omega (arith, e)
 call_opening_other false = tt
 
-audio_other : (message : ParsedMessage) (course : Disposition) → IsOther course → IsOther (audio_or_refusal message course)
-audio_other message course f = other_if (offers_audio message.body) course (Respond (plain_response 488)) f (λ e. omega (arith, e))
+audio_other : (message : ParsedMessage) (chosen : Disposition) → IsOther chosen → IsOther (audio_or_refusal message chosen)
+audio_other message chosen f = other_if (offers_audio message.body) chosen (Respond (plain_response 488)) f (λ e. omega (arith, e))
 
 invite_disposition_other : (directory : Directory) (full : Bool) (message : ParsedMessage) (target : Result Uri Refusal) → IsOther (invite_disposition_at directory full message target)
 invite_disposition_other directory full message (Ok target) =
@@ -94,17 +94,17 @@ method_other directory full message =
     (other_if (is_register message) (registration_disposition directory.names.accounts message) _ (registration_disposition_other directory message)
     (other_if (is_subscribe message) Subscribe (Respond (plain_response 481)) tt (λ e. omega (arith, e))))))
 
-dialog_other : (holder : DialogOwner) → IsOther (entry_into holder)
+dialog_other : (owner : DialogOwner) → IsOther (entry_into owner)
 dialog_other (InCall call side) = tt
 dialog_other (InConference room seat) = tt
 dialog_other (InSubscription sub) = tt
 
-in_dialog_disposition_other : (holder : DialogOwner) (message : ParsedMessage) → IsOther (in_dialog_disposition holder message)
-in_dialog_disposition_other holder message = other_if (is_subscribe message && is_of_no_subscription holder) (Respond (plain_response 481)) (entry_into holder) (λ e. omega (arith, e)) (dialog_other holder)
+in_dialog_disposition_other : (owner : DialogOwner) (message : ParsedMessage) → IsOther (in_dialog_disposition owner message)
+in_dialog_disposition_other owner message = other_if (is_subscribe message && is_of_no_subscription owner) (Respond (plain_response 481)) (entry_into owner) (λ e. omega (arith, e)) (dialog_other owner)
 
 in_other : (directory : Directory) (full : Bool) (named : Option DialogOwner) (message : ParsedMessage) → IsOther (disposition_in directory full named message)
 in_other directory full None message = method_other directory full message
-in_other directory full (Some holder) message = in_dialog_disposition_other holder message
+in_other directory full (Some owner) message = in_dialog_disposition_other owner message
 
 -- it is a disposition that is no 422
 not_so : (one : Disposition) (answer : StatusResponse) → IsOther one → one ≡ Respond answer → answer.code ≡ 422 → ⊥
@@ -139,8 +139,8 @@ small_of (Err session.Malformed) e = absurd (let f : false ≡ true = e in cc)
 small_of (Err (session.Small interval)) e = (interval, refl)
 
 module _ (directory : Directory) (merged full : Bool) (named : Option DialogOwner) (message : ParsedMessage) (answer : StatusResponse) (so : answer.code ≡ 422) where
-  abbrev Told : Type 0
-  Told = RequestsShortSession directory message × IsElseAccepted directory merged (is_some named) message × (answer ≡ interval_too_small)
+  abbrev IsIntervalTooSmall : Type 0
+  IsIntervalTooSmall = RequestsShortSession directory message × IsElseAccepted directory merged (is_some named) message × (answer ≡ interval_too_small)
 
   -- the disposition where this is the first condition that applies
   abbrev by_first : List (Bool × StatusResponse) → Disposition
@@ -169,12 +169,12 @@ module _ (directory : Directory) (merged full : Bool) (named : Option DialogOwne
 
   -- one more condition: it holds, and its response is another; or it does not
   on_next : (condition : Bool) (given : StatusResponse) (others : List (Bool × StatusResponse)) (code : ℕ) → given.code ≡ code → (code ≡ 422 → ⊥) →
-      (condition ≡ false → by_first others ≡ Respond answer → Told) → by_first ((condition, given) ∷ others) ≡ Respond answer → Told
-  on_next true given others code number other goes is = refused_other Told code answer given is so number other
+      (condition ≡ false → by_first others ≡ Respond answer → IsIntervalTooSmall) → by_first ((condition, given) ∷ others) ≡ Respond answer → IsIntervalTooSmall
+  on_next true given others code number other goes is = refused_other IsIntervalTooSmall code answer given is so number other
   on_next false given others code number other goes is = goes refl is
 
   on_short : (b : Bool) → (is_timed directory message.start && is_short_session (check message.session)) ≡ b → IsElseAccepted directory merged (is_some named) message →
-      by_first ((b, interval_too_small) ∷ []) ≡ Respond answer → Told
+      by_first ((b, interval_too_small) ∷ []) ≡ Respond answer → IsIntervalTooSmall
   on_short true holds taken is =
       let (timed, small) = and_parts (is_timed directory message.start) (is_short_session (check message.session)) holds in
       let (timer, method) = and_parts directory.timer (is_method (codes "INVITE") message.start || is_method (codes "UPDATE") message.start) timed in
@@ -183,7 +183,7 @@ module _ (directory : Directory) (merged full : Bool) (named : Option DialogOwne
       (record { timer = timer; method = method; interval = interval; small = asked }, taken, sym same)
   on_short false holds taken is = absurd (not_so (disposition_in directory full named (public_part message)) answer (in_other directory full named (public_part message)) is so)
 
-  alone_at : disposition directory merged full named message ≡ Respond answer → Told
+  alone_at : disposition directory merged full named message ≡ Respond answer → IsIntervalTooSmall
   unfolding disposition
   alone_at is =
       on_next (not (is_known_method directory message.start)) (response_with_allow directory 405) foreign 405 refl (λ e. omega (arith, e))

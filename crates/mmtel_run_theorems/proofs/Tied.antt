@@ -236,11 +236,11 @@ module _ (differ : TokensDiffer) (owners : OwnersAreLive)
         ack_in e.call.phase e.call side m sent.phase_in sent.others_in.answered_in
 
     -- what was read of an event
-    digest_tied : (x : ParsedEvent) → ((m : MessageView) → x ≡ Events.Received m → WasRead m) → EventIsTied d w x
-    digest_tied Events.Nothing was = tt
-    digest_tied (Events.Refused peer source reply) was = tt
-    digest_tied (Events.Received m) was = record { response = response_tied m (was m refl); conference = seat_tied m (was m refl); ack = ack_tied m }
-    digest_tied (Events.WebRequested request kept rows) was = tt
+    parsed_event_tied : (x : ParsedEvent) → ((m : MessageView) → x ≡ Events.Received m → WasRead m) → EventIsTied d w x
+    parsed_event_tied Events.Nothing was = tt
+    parsed_event_tied (Events.Refused peer source reply) was = tt
+    parsed_event_tied (Events.Received m) was = record { response = response_tied m (was m refl); conference = seat_tied m (was m refl); ack = ack_tied m }
+    parsed_event_tied (Events.WebRequested request kept rows) was = tt
 
   -- ---- a run
 
@@ -254,7 +254,7 @@ module _ (differ : TokensDiffer) (owners : OwnersAreLive)
   all_tied : (once : Once) (fuel : ℕ) (xs : List TimedEvent) (w : RunState) → Holds d token w → AllRead xs → AllTied d token fuel xs w
   all_tied once fuel [] w had all = tt
   all_tied once fuel (x ∷ xs) w had all = (
-    λ early. digest_tied (state_at_event d token fuel x w) ((coming_goes d token once fuel x w).holds had) early x.parsed all.0,
+    λ early. parsed_event_tied (state_at_event d token fuel x w) ((coming_goes d token once fuel x w).holds had) early x.parsed all.0,
     all_tied once fuel xs (after_event_in_order d token fuel x w) ((one_goes d token once fuel x w).holds had) all.1,
   )
 
@@ -263,11 +263,11 @@ module _ (differ : TokensDiffer) (owners : OwnersAreLive)
 abbrev WasReadOf : ParsedEvent → Type 0
 WasReadOf x = (m : MessageView) → x ≡ Events.Received m → WasRead m
 
-abbrev heard_of : MessageView → ParsedEvent → MessageView
-heard_of other Events.Nothing = other
-heard_of other (Events.Refused peer source reply) = other
-heard_of other (Events.Received said) = said
-heard_of other (Events.WebRequested request kept rows) = other
+abbrev received_of : MessageView → ParsedEvent → MessageView
+received_of other Events.Nothing = other
+received_of other (Events.Refused peer source reply) = other
+received_of other (Events.Received said) = said
+received_of other (Events.WebRequested request kept rows) = other
 
 nothing_read : WasReadOf Events.Nothing
 nothing_read m e = let apart : Events.Nothing ≡ Events.Received m = e in absurd cc
@@ -277,7 +277,7 @@ refused_read peer source None m e = nothing_read m e
 refused_read peer source (Some reply) m e = let apart : Events.Refused peer source reply ≡ Events.Received m = e in absurd cc
 
 read_read : (d : Directory) (peer : Peer) (source : Addr) (bytes : List ℕ) (r : Read) → read_result bytes ≡ r → WasReadOf (parsed_result d.peers peer source r)
-read_read d peer source bytes (Ok message) is m e = subst WasRead (ap (heard_of m) e) (record { bytes = bytes; trusted = is_trusted peer d.peers.known; message = message; read = is; is = refl })
+read_read d peer source bytes (Ok message) is m e = subst WasRead (ap (received_of m) e) (record { bytes = bytes; trusted = is_trusted peer d.peers.known; message = message; read = is; is = refl })
 read_read d peer source bytes (Err (fault.TooLarge reply)) is m e = refused_read peer source reply m e
 read_read d peer source bytes (Err fault.NotSip) is m e = nothing_read m e
 read_read d peer source bytes (Err (fault.TooMany reply)) is m e = refused_read peer source reply m e

@@ -29,11 +29,11 @@ module _ (config : CallConfigView) (number : ℕ) (P : TraceStart → List CallE
   goes None (Some x) (Some earlier) trace o e before is =
       subst (λ (trace : CallTraceWithTransfers). P trace.start trace.events) (same_Some (record earlier { events = x ∷ earlier.events }) trace is) (e earlier.start earlier.events (before earlier refl))
 
-  pub life_holds : (ops : List TableOp) (trace : CallTraceWithTransfers) → AllHold ops → trace_of config number ops ≡ Some trace → P trace.start trace.events
+  pub trace_holds : (ops : List TableOp) (trace : CallTraceWithTransfers) → AllHold ops → trace_of config number ops ≡ Some trace → P trace.start trace.events
   unfolding trace_of
-  life_holds [] trace a is = absurd (none-some trace is)
-  life_holds (op ∷ older) trace a is =
-      go (is_number number (call_of config op (table_after config older))) refl is (λ trace. life_holds older trace a.1)
+  trace_holds [] trace a is = absurd (none-some trace is)
+  trace_holds (op ∷ older) trace a is =
+      go (is_number number (call_of config op (table_after config older))) refl is (λ trace. trace_holds older trace a.1)
     where
       go : (b : Bool) → is_number number (call_of config op (table_after config older)) ≡ b →
           (if b then continued_trace (opening_by config op (table_after config older)) (event_by op number (table_after config older).entries) (trace_of config number older) else trace_of config number older) ≡ Some trace →

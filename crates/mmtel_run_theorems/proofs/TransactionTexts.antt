@@ -258,17 +258,17 @@ module _ (K : ℕ → Bool → Type 0) (T : List ℕ → Type 0) where
     IsOfClient part.AckOf2xx = Unit {0}
     IsOfClient part.Stray = Unit {0}
 
-    heard-keeps : (step : ℕ) (m : Message Start) (now : ℕ) (taken : MessageClass) (e : Entry) → IsOfClient taken → Keeps K T e → Keeps K T (change_on_receipt step m now taken e)
-    heard-keeps step m now part.Fresh e c k = k
-    heard-keeps step m now part.Full e c k = k
-    heard-keeps step m now (part.Repeat key) e c k = k
-    heard-keeps step m now (part.RepeatedFinal key) e c k = k
-    heard-keeps step m now (part.Answer key) e c k =
+    received-keeps : (step : ℕ) (m : Message Start) (now : ℕ) (taken : MessageClass) (e : Entry) → IsOfClient taken → Keeps K T e → Keeps K T (change_on_receipt step m now taken e)
+    received-keeps step m now part.Fresh e c k = k
+    received-keeps step m now part.Full e c k = k
+    received-keeps step m now (part.Repeat key) e c k = k
+    received-keeps step m now (part.RepeatedFinal key) e c k = k
+    received-keeps step m now (part.Answer key) e c k =
         change_of_key-keeps key (after_response step (head_of m).status now) e
         (λ same k. after_response-keeps step (head_of m).status now e (one e.key e.is_server false k.kind (subst (λ (n : ℕ). K n false) (sym same) c)) k) k
-    heard-keeps step m now (part.Acked key) e c k = change_of_key-keeps key (after_failure_ack step now) e (λ same k. after_failure_ack-keeps step now e k) k
-    heard-keeps step m now part.AckOf2xx e c k = after_failure_ack-2xx-keeps step (head_of m) e k
-    heard-keeps step m now part.Stray e c k = k
+    received-keeps step m now (part.Acked key) e c k = change_of_key-keeps key (after_failure_ack step now) e (λ same k. after_failure_ack-keeps step now e k) k
+    received-keeps step m now part.AckOf2xx e c k = after_failure_ack-2xx-keeps step (head_of m) e k
+    received-keeps step m now part.Stray e c k = k
 
     abbrev IsGoodChange : TransactionOp → Type 0
     IsGoodChange (DidBegin step) = Unit {0}
@@ -281,7 +281,7 @@ module _ (K : ℕ → Bool → Type 0) (T : List ℕ → Type 0) where
 
     change-keeps : (step order : ℕ) (c : TransactionOp) (e : Entry) → IsGoodChange c → Keeps K T e → Keeps K T (change step order c e)
     change-keeps step order (DidBegin n) e g k = k
-    change-keeps step order (DidHear p m now taken) e g k = heard-keeps step m now taken e g k
+    change-keeps step order (DidHear p m now taken) e g k = received-keeps step m now taken e g k
     change-keeps step order (DidAsk p m now) e g k = k
     change-keeps step order (DidReply key m now) e g k =
         change_of_key-keeps key (after_any_reply step order m now) e (λ same k. after_any_reply-keeps step order m now e g k) k

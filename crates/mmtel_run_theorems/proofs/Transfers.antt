@@ -12,7 +12,7 @@ use Rattle.mmtel_b2bua.specs.Detaching.{can_restore, entries_after_release, entr
 use Rattle.mmtel_b2bua.specs.declared.entries.Entry.{Entry}
 use Rattle.mmtel_b2bua_theorems.specs.TracesOfTables.{ArePutBack, arrival_of, call_of, continued_trace, event_by, is_number, number_of, opening_by, received_event, signal_of_call, start_by, trace_of}
 use Rattle.mmtel_b2bua_theorems.specs.Legs.{LegsGoBack}
-use Rattle.mmtel_b2bua_theorems.specs.TracesWithTransfers as lives
+use Rattle.mmtel_b2bua_theorems.specs.TracesWithTransfers as transfers
 use Rattle.mmtel_b2bua_theorems.specs.TracesWithTransfers.{CallEvent, CallTraceWithTransfers}
 use Rattle.mmtel_call_services.specs.CallConfig.{CallConfigView}
 use Rattle.mmtel_call_services.specs.declared.openings.Arrival.{Arrival}
@@ -87,12 +87,12 @@ abbrev RestoresAtOnce : CallTraceWithTransfers → Type 0
 RestoresAtOnce trace = AreRestoredAtOnce false trace.events
 
 module _ (back : LegsGoBack) (config : CallConfigView) (number : ℕ) where
-  hears : (x : ReceivedSignal) (es : List Entry) (opens : Option Arrival) (came : Option calls.Signal) (was : Option CallTraceWithTransfers) (trace : CallTraceWithTransfers) → ((earlier : CallTraceWithTransfers) → was ≡ Some earlier → RestoresAtOnce earlier) →
+  receives : (x : ReceivedSignal) (es : List Entry) (opens : Option Arrival) (came : Option calls.Signal) (was : Option CallTraceWithTransfers) (trace : CallTraceWithTransfers) → ((earlier : CallTraceWithTransfers) → was ≡ Some earlier → RestoresAtOnce earlier) →
       continued_trace (option_map (start_by config x es) opens) (option_map (received_event x number es) came) was ≡ Some trace → RestoresAtOnce trace
-  hears x es (Some a) came was trace before h = subst RestoresAtOnce (same_Some _ trace h) tt
-  hears x es None came None trace before h = absurd (none-some trace h)
-  hears x es None None (Some earlier) trace before h = subst RestoresAtOnce (same_Some earlier trace h) (before earlier refl)
-  hears x es None (Some s) (Some earlier) trace before h = subst RestoresAtOnce (same_Some _ trace h) (before earlier refl)
+  receives x es (Some a) came was trace before h = subst RestoresAtOnce (same_Some _ trace h) tt
+  receives x es None came None trace before h = absurd (none-some trace h)
+  receives x es None None (Some earlier) trace before h = subst RestoresAtOnce (same_Some earlier trace h) (before earlier refl)
+  receives x es None (Some s) (Some earlier) trace before h = subst RestoresAtOnce (same_Some _ trace h) (before earlier refl)
 
   -- two operations on one call
   both : (x y : CallEvent) → ((events : List CallEvent) → AreRestoredAtOnce false events → AreRestoredAtOnce false (y ∷ x ∷ events)) → (one two : Option ℕ) → one ≡ two → (was : Option CallTraceWithTransfers) (trace : CallTraceWithTransfers) →
@@ -127,37 +127,37 @@ module _ (back : LegsGoBack) (config : CallConfigView) (number : ℕ) where
       trace_of config number (Restores n leg ∷ Releases m side ∷ older) ≡ Some trace → ((trace : CallTraceWithTransfers) → trace_of config number older ≡ Some trace → RestoresAtOnce trace) → RestoresAtOnce trace
   unfolding trace_of
   restored n leg m side older trace w h before =
-      both (lives.Releases side) (lives.Restores leg) (λ events lent. lent) (call_of config (Releases m side) (table_after config older)) (call_of config (Restores n leg) (table_after config (Releases m side ∷ older)))
+      both (transfers.Releases side) (transfers.Restores leg) (λ events detached. detached) (call_of config (Releases m side) (table_after config older)) (call_of config (Restores n leg) (table_after config (Releases m side ∷ older)))
       (one-call n m side older w) (trace_of config number older) trace before h
 
   finished : (n at : ℕ) (tokens : TokensView) (m : ℕ) (side : Side) (older : List TableOp) (trace : CallTraceWithTransfers) → Went n m side older →
       trace_of config number (Finishes n at tokens ∷ Releases m side ∷ older) ≡ Some trace → ((trace : CallTraceWithTransfers) → trace_of config number older ≡ Some trace → RestoresAtOnce trace) → RestoresAtOnce trace
   unfolding trace_of
   finished n at tokens m side older trace w h before =
-      both (lives.Releases side) (lives.Finishes at (empty_output tokens)) (λ events lent. lent) (call_of config (Releases m side) (table_after config older))
+      both (transfers.Releases side) (transfers.Finishes at (empty_output tokens)) (λ events detached. detached) (call_of config (Releases m side) (table_after config older))
       (call_of config (Finishes n at tokens) (table_after config (Releases m side ∷ older))) (one-call n m side older w) (trace_of config number older) trace before h
 
-  pub lent_at_once : (ops : List TableOp) (trace : CallTraceWithTransfers) → IsWhole config None ops → trace_of config number ops ≡ Some trace → RestoresAtOnce trace
+  pub detached_at_once : (ops : List TableOp) (trace : CallTraceWithTransfers) → IsWhole config None ops → trace_of config number ops ≡ Some trace → RestoresAtOnce trace
   unfolding trace_of
-  lent_at_once [] trace w h = absurd (none-some trace h)
-  lent_at_once (Receives x ∷ older) trace w h = go (is_number number (call_of config (Receives x) (table_after config older))) h (λ trace. lent_at_once older trace w)
+  detached_at_once [] trace w h = absurd (none-some trace h)
+  detached_at_once (Receives x ∷ older) trace w h = go (is_number number (call_of config (Receives x) (table_after config older))) h (λ trace. detached_at_once older trace w)
     where
       go : (b : Bool) →
           (if b then continued_trace (opening_by config (Receives x) (table_after config older)) (event_by (Receives x) number (table_after config older).entries) (trace_of config number older) else trace_of config number older) ≡ Some trace →
           ((trace : CallTraceWithTransfers) → trace_of config number older ≡ Some trace → RestoresAtOnce trace) → RestoresAtOnce trace
-      go true h before = hears x (table_after config older).entries (arrival_of (next_number (table_after config older).opened) x.signal) (signal_of_call x.signal) (trace_of config number older) trace before h
+      go true h before = receives x (table_after config older).entries (arrival_of (next_number (table_after config older).opened) x.signal) (signal_of_call x.signal) (trace_of config number older) trace before h
       go false h before = before trace h
-  lent_at_once (Releases n side ∷ older) trace w h = absurd w
-  lent_at_once (Restores n leg ∷ []) trace w h = absurd w.1
-  lent_at_once (Restores n leg ∷ Receives x ∷ older) trace w h = absurd w.1
-  lent_at_once (Restores n leg ∷ Releases m side ∷ older) trace w h = restored n leg m side older trace w.1 h (λ trace. lent_at_once older trace w.1.2)
-  lent_at_once (Restores n leg ∷ Restores m other ∷ older) trace w h = absurd w.1
-  lent_at_once (Restores n leg ∷ Finishes m at tokens ∷ older) trace w h = absurd w.1
-  lent_at_once (Restores n leg ∷ Drops count ∷ older) trace w h = absurd w.1
-  lent_at_once (Finishes n at tokens ∷ []) trace w h = absurd w
-  lent_at_once (Finishes n at tokens ∷ Receives x ∷ older) trace w h = absurd w
-  lent_at_once (Finishes n at tokens ∷ Releases m side ∷ older) trace w h = finished n at tokens m side older trace w h (λ trace. lent_at_once older trace w.2)
-  lent_at_once (Finishes n at tokens ∷ Restores m other ∷ older) trace w h = absurd w
-  lent_at_once (Finishes n at tokens ∷ Finishes m later others ∷ older) trace w h = absurd w
-  lent_at_once (Finishes n at tokens ∷ Drops count ∷ older) trace w h = absurd w
-  lent_at_once (Drops count ∷ older) trace w h = lent_at_once older trace w h
+  detached_at_once (Releases n side ∷ older) trace w h = absurd w
+  detached_at_once (Restores n leg ∷ []) trace w h = absurd w.1
+  detached_at_once (Restores n leg ∷ Receives x ∷ older) trace w h = absurd w.1
+  detached_at_once (Restores n leg ∷ Releases m side ∷ older) trace w h = restored n leg m side older trace w.1 h (λ trace. detached_at_once older trace w.1.2)
+  detached_at_once (Restores n leg ∷ Restores m other ∷ older) trace w h = absurd w.1
+  detached_at_once (Restores n leg ∷ Finishes m at tokens ∷ older) trace w h = absurd w.1
+  detached_at_once (Restores n leg ∷ Drops count ∷ older) trace w h = absurd w.1
+  detached_at_once (Finishes n at tokens ∷ []) trace w h = absurd w
+  detached_at_once (Finishes n at tokens ∷ Receives x ∷ older) trace w h = absurd w
+  detached_at_once (Finishes n at tokens ∷ Releases m side ∷ older) trace w h = finished n at tokens m side older trace w h (λ trace. detached_at_once older trace w.2)
+  detached_at_once (Finishes n at tokens ∷ Restores m other ∷ older) trace w h = absurd w
+  detached_at_once (Finishes n at tokens ∷ Finishes m later others ∷ older) trace w h = absurd w
+  detached_at_once (Finishes n at tokens ∷ Drops count ∷ older) trace w h = absurd w
+  detached_at_once (Drops count ∷ older) trace w h = detached_at_once older trace w h

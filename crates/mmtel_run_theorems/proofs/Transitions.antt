@@ -359,14 +359,14 @@ module _ (d : Directory) (token : List ℕ) (R : ℕ → RunState → RunState �
     answering_at (Some (heard.AckOf2xx message)) w = acknowledging_at (dialog_owner_in d s.parsed w) w
     answering_at (Some heard.Stray) w = still at w
 
-    hearing_at : (o : Option transaction.Heard) → Walks at (with_received_action at s o)
-    hearing_at None w = still at w
-    hearing_at (Some taken) w = k.acting at (DidHear s.peer (message_in s.parsed) at (class_of (head_of (message_in s.parsed)) (live w.actions))) w _ tt refl refl refl refl
+    receiving_at : (o : Option transaction.Heard) → Walks at (with_received_action at s o)
+    receiving_at None w = still at w
+    receiving_at (Some taken) w = k.acting at (DidHear s.peer (message_in s.parsed) at (class_of (head_of (message_in s.parsed)) (live w.actions))) w _ tt refl refl refl refl
 
-    told_at : Walks at (after_message d token at s)
-    told_at w =
+    after_message_at : Walks at (after_message d token at s)
+    after_message_at w =
         let said = hear_result w.actions s.peer (message_in s.parsed) in
-        k.next at w (with_received_action at s said w) (after_message d token at s w) (hearing_at said w) (answering_at said (with_received_action at s said w))
+        k.next at w (with_received_action at s said w) (after_message d token at s w) (receiving_at said w) (answering_at said (with_received_action at s said w))
 
   -- ---- events
 
@@ -384,7 +384,7 @@ module _ (d : Directory) (token : List ℕ) (R : ℕ → RunState → RunState �
   after_parsed_event_at : (at : ℕ) (x : ParsedEvent) → Walks at (after_parsed_event d token at x)
   after_parsed_event_at at Nothing w = still at w
   after_parsed_event_at at (Refused peer source reply) w = with_refusal_of_bytes_at at peer source reply w
-  after_parsed_event_at at (Received said) w = told_at at said w
+  after_parsed_event_at at (Received said) w = after_message_at at said w
   after_parsed_event_at at (WebRequested request kept rows) w = after_web_request_at at request kept rows w
 
   after_handover_at : (at : ℕ) (took : Bool) (rows : List Row) → Walks at (after_handover took rows)

@@ -88,19 +88,19 @@ after_ack_2xx_key step m e = if_key _ _ _ e.key refl refl
 change_of_key_key : (key : ℕ) (f : Entry → Entry) (e : Entry) → (f e).key ≡ e.key → (change_of_key key f e).key ≡ e.key
 change_of_key_key key f e same = if_key (e.key == key) (f e) e e.key same refl
 
-heard_key : (step : ℕ) (m : Message Start) (now : ℕ) (t : MessageClass) (e : Entry) → (change_on_receipt step m now t e).key ≡ e.key
-heard_key step m now part.Fresh e = refl
-heard_key step m now part.Full e = refl
-heard_key step m now (part.Repeat key) e = refl
-heard_key step m now (part.RepeatedFinal key) e = refl
-heard_key step m now (part.Answer key) e = change_of_key_key key (after_response step (head_of m).status now) e (after_response_key step (head_of m).status now e)
-heard_key step m now (part.Acked key) e = change_of_key_key key (after_failure_ack step now) e (after_failure_ack_key step now e)
-heard_key step m now part.AckOf2xx e = after_ack_2xx_key step (head_of m) e
-heard_key step m now part.Stray e = refl
+received_key : (step : ℕ) (m : Message Start) (now : ℕ) (t : MessageClass) (e : Entry) → (change_on_receipt step m now t e).key ≡ e.key
+received_key step m now part.Fresh e = refl
+received_key step m now part.Full e = refl
+received_key step m now (part.Repeat key) e = refl
+received_key step m now (part.RepeatedFinal key) e = refl
+received_key step m now (part.Answer key) e = change_of_key_key key (after_response step (head_of m).status now) e (after_response_key step (head_of m).status now e)
+received_key step m now (part.Acked key) e = change_of_key_key key (after_failure_ack step now) e (after_failure_ack_key step now e)
+received_key step m now part.AckOf2xx e = after_ack_2xx_key step (head_of m) e
+received_key step m now part.Stray e = refl
 
 change_key : (step order : ℕ) (c : TransactionOp) (e : Entry) → (change step order c e).key ≡ e.key
 change_key step order (DidBegin n) e = refl
-change_key step order (DidHear p m now t) e = heard_key step m now t e
+change_key step order (DidHear p m now t) e = received_key step m now t e
 change_key step order (DidAsk p m now) e = refl
 change_key step order (DidReply key m now) e = change_of_key_key key (after_any_reply step order m now) e (after_any_reply_key step order m now e)
 change_key step order (DidAck key m) e = change_of_key_key key (with_kept_ack (message_text m)) e (with_kept_ack_key (message_text m) e)
@@ -126,19 +126,19 @@ joined n [] fs b c = c
 joined n (e ∷ es) fs b c = (b.0, joined n es fs b.1 c)
 
 -- what an operation opens has the next number, if it opens any
-heard_next : (step key : ℕ) (p : Peer) (m : Message Start) (now : ℕ) (t : MessageClass) → AllBelow (key + length (opened_on_receipt step key p m now t)) (opened_on_receipt step key p m now t)
-heard_next step key p m now part.Fresh = (omega arith, tt)
-heard_next step key p m now part.Full = tt
-heard_next step key p m now (part.Repeat k) = tt
-heard_next step key p m now (part.RepeatedFinal k) = tt
-heard_next step key p m now (part.Answer k) = tt
-heard_next step key p m now (part.Acked k) = tt
-heard_next step key p m now part.AckOf2xx = tt
-heard_next step key p m now part.Stray = tt
+received_next : (step key : ℕ) (p : Peer) (m : Message Start) (now : ℕ) (t : MessageClass) → AllBelow (key + length (opened_on_receipt step key p m now t)) (opened_on_receipt step key p m now t)
+received_next step key p m now part.Fresh = (omega arith, tt)
+received_next step key p m now part.Full = tt
+received_next step key p m now (part.Repeat k) = tt
+received_next step key p m now (part.RepeatedFinal k) = tt
+received_next step key p m now (part.Answer k) = tt
+received_next step key p m now (part.Acked k) = tt
+received_next step key p m now part.AckOf2xx = tt
+received_next step key p m now part.Stray = tt
 
 next_below : (step order key : ℕ) (c : TransactionOp) → AllBelow (key + length (opens step order key c)) (opens step order key c)
 next_below step order key (DidBegin n) = tt
-next_below step order key (DidHear p m now t) = heard_next step key p m now t
+next_below step order key (DidHear p m now t) = received_next step key p m now t
 next_below step order key (DidAsk p m now) = (omega arith, tt)
 next_below step order key (DidReply k m now) = tt
 next_below step order key (DidAck k m) = tt

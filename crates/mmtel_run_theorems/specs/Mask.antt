@@ -45,8 +45,8 @@ records_in directory loaded recorded = records_of (loaded ++ uploads_of director
 abbrev pub parts_of : Sheet → List Who
 parts_of sheet = identity_parts (diversion_rules sheet.diversion) ++ identity_parts (rules_of sheet.incoming)
 
-abbrev pub identities_asked_by : List Sheet → List Who
-identities_asked_by records = flat_map parts_of records
+abbrev pub identities_tested_by : List Sheet → List Who
+identities_tested_by records = flat_map parts_of records
 
 -- ---- the tests of an INVITE that opens a call or a conference, or asks to join one, where it hides its caller
 
@@ -59,15 +59,15 @@ pub record Tests : Type 0 where
   pub matches : List Bool
 
 abbrev pub tests_of : List AccountIdentity → List Who → ParsedMessage → Tests
-tests_of accounts asked message = record {
+tests_of accounts tested message = record {
   caller = caller_account accounts message;
   somebody = has_identity (caller_of message);
-  matches = map (identity_holds (caller_of message)) asked;
+  matches = map (identity_holds (caller_of message)) tested;
 }
 
 -- where the caller is not hidden, the message itself shows all of this
 abbrev pub tests_beside : List AccountIdentity → List Who → Role → ParsedMessage → Option Tests
-tests_beside accounts asked role message = if is_opening message && hides role then Some (tests_of accounts asked message) else None
+tests_beside accounts tested role message = if is_opening message && hides role then Some (tests_of accounts tested message) else None
 
 -- ---- what is compared
 
@@ -81,30 +81,30 @@ pub data MaskedEvent : Type 0 where
   WebRequested : (put : Option (Account × List ℕ)) → (waits : Option (Account × Counts)) → MaskedEvent
 
 -- in the state in which the event comes, with these tests of callers
-abbrev pub mask_event : Directory → (asked : List Who) → RunState → ParsedEvent → MaskedEvent
-mask_event directory asked state Events.Nothing = Nothing
-mask_event directory asked state (Events.Refused peer source reply) = Refused peer source reply
-mask_event directory asked state (Events.Received message) =
-    Received (without_private (role_of directory state message) message) (tests_beside directory.names.accounts asked (role_of directory state message) message.parsed)
-mask_event directory asked state (Events.WebRequested request kept rows) = WebRequested (stored_upload kept (upload_in directory.names request)) (counts_put_in directory.names request kept)
+abbrev pub mask_event : Directory → (tested : List Who) → RunState → ParsedEvent → MaskedEvent
+mask_event directory tested state Events.Nothing = Nothing
+mask_event directory tested state (Events.Refused peer source reply) = Refused peer source reply
+mask_event directory tested state (Events.Received message) =
+    Received (without_private (role_of directory state message) message) (tests_beside directory.names.accounts tested (role_of directory state message) message.parsed)
+mask_event directory tested state (Events.WebRequested request kept rows) = WebRequested (stored_upload kept (upload_in directory.names request)) (counts_put_in directory.names request kept)
 
 -- the state in which an event comes: after the timers that are due by then, in a step of its own
 abbrev pub state_at_event : Directory → (token : List ℕ) → (fuel : ℕ) → TimedEvent → RunState → RunState
 state_at_event directory token fuel notice state = record (with_next_step (after_due_deadlines directory token fuel (clock_at state notice.at) state)) { clock = clock_at state notice.at }
 
-abbrev pub mask_all : Directory → (token : List ℕ) → (fuel : ℕ) → (asked : List Who) → List TimedEvent → RunState → List (ℕ × MaskedEvent)
-mask_all directory token fuel asked [] state = []
-mask_all directory token fuel asked (notice ∷ others) state =
-    (notice.at, mask_event directory asked (state_at_event directory token fuel notice state) notice.parsed) ∷
-    mask_all directory token fuel asked others (after_event_in_order directory token fuel notice state)
+abbrev pub mask_all : Directory → (token : List ℕ) → (fuel : ℕ) → (tested : List Who) → List TimedEvent → RunState → List (ℕ × MaskedEvent)
+mask_all directory token fuel tested [] state = []
+mask_all directory token fuel tested (notice ∷ others) state =
+    (notice.at, mask_event directory tested (state_at_event directory token fuel notice state) notice.parsed) ∷
+    mask_all directory token fuel tested others (after_event_in_order directory token fuel notice state)
 
 -- the value by which two runs are compared: the tests of callers in the run, and its events, each with its moment
 pub record Mask : Type 0 where
-  pub asked : List Who
+  pub tested : List Who
   pub events : List (ℕ × MaskedEvent)
 
 abbrev pub mask : Directory → (token : List ℕ) → (loaded : Texts) → (fuel : ℕ) → List EventRecord → Mask
 mask directory token loaded fuel recorded = record {
-  asked = identities_asked_by (records_in directory loaded recorded);
-  events = mask_all directory token fuel (identities_asked_by (records_in directory loaded recorded)) (timed_events directory recorded) (initial_state loaded);
+  tested = identities_tested_by (records_in directory loaded recorded);
+  events = mask_all directory token fuel (identities_tested_by (records_in directory loaded recorded)) (timed_events directory recorded) (initial_state loaded);
 }

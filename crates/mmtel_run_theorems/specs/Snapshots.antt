@@ -5,7 +5,7 @@ use Rattle.std.specs.Option.{option_map}
 use Rattle.mmtel_b2bua.specs.Entries.{busy_beside}
 use Rattle.mmtel_b2bua.specs.Operations.{ReceivedSignal, Receives, TableOp, table_after}
 use Rattle.mmtel_b2bua_theorems.specs.TracesOfTables.{call_of, is_number, trace_of}
-use Rattle.mmtel_b2bua_theorems.specs.TracesWithTransfers as lives
+use Rattle.mmtel_b2bua_theorems.specs.TracesWithTransfers as transfers
 use Rattle.mmtel_b2bua_theorems.specs.TracesWithTransfers.{CallEvent, CallTraceWithTransfers, call_after}
 use Rattle.mmtel_call_services.specs.CallConfig.{calls_among}
 use Rattle.mmtel_call_theorems.specs.Outcomes.{diversions_made_in}
@@ -76,15 +76,15 @@ pub record ReceivedIn (run : RunInputs) (fuel : ℕ) (recorded : List EventRecor
   pub received : traces.TraceStep
   pub earlier : List CallEvent
   pub later : List CallEvent
-  pub in_order : trace.events ≡ later ++ lives.Receives received ∷ earlier
+  pub in_order : trace.events ≡ later ++ transfers.Receives received ∷ earlier
   pub so : now ≡ received.now
-  pub snapshot : SnapshotIn run fuel recorded number (record { start = trace.start; events = lives.Receives received ∷ earlier }) None received.now
+  pub snapshot : SnapshotIn run fuel recorded number (record { start = trace.start; events = transfers.Receives received ∷ earlier }) None received.now
 
 -- the step in which the call of this trace made its next diversion after k others, and so reached the target of it: that in which it opened, or the one after which it had made
 -- more than k, and before which no more than k; and the state in that step
 pub data ReachedIn (run : RunInputs) (fuel : ℕ) (recorded : List EventRecord) (number : ℕ) (trace : CallTraceWithTransfers) (k : ℕ) (now : SnapshotView) : Type 0 where
   Opening : nat_lt k (diversions_made_by trace.start []) ≡ true → now ≡ trace.start.now → ReachedIn run fuel recorded number trace k now
   Later : (step : ReceivedIn run fuel recorded number trace now) → nat_lt k (diversions_made_by trace.start step.earlier) ≡ false →
-      nat_lt k (diversions_made_by trace.start (lives.Receives step.received ∷ step.earlier)) ≡ true → ReachedIn run fuel recorded number trace k now
+      nat_lt k (diversions_made_by trace.start (transfers.Receives step.received ∷ step.earlier)) ≡ true → ReachedIn run fuel recorded number trace k now
   -- the call has not made it, and the state is that of some step of it
   NotYet : nat_lt k (diversions_made_by trace.start trace.events) ≡ false → ReceivedIn run fuel recorded number trace now ⊎ (now ≡ trace.start.now) → ReachedIn run fuel recorded number trace k now

@@ -56,8 +56,8 @@ module _ (laws : RunTheorems) (none : NothingIsDelivered) (both : PartsAreDelive
     -- nothing was passed to the link as the event was read, and it received nothing as the outputs were passed
     module _ (read : LinkState) (new : ServingState) (e : Event) (told : ReceivesMore mid.link.input read.input (e ∷ []) × ReadsOn read) (same : read.output ≡ mid.link.output)
         (received : new.link.input ≡ read.input) (rose : RoseBy (new_losses read.output new.link.output) read.delivery_faults new.link.delivery_faults) where
-      heard_new : ReceivesMore mid.link.input new.link.input (e ∷ [])
-      heard_new = subst (λ (input : Option LinkInput). ReceivesMore mid.link.input input (e ∷ [])) (sym received) told.0
+      received_new : ReceivesMore mid.link.input new.link.input (e ∷ [])
+      received_new = subst (λ (input : Option LinkInput). ReceivesMore mid.link.input input (e ∷ [])) (sym received) told.0
 
       -- something may have been lost in passing the outputs
       read_new : ReadsBetween start.link.input new.link.input start.link.output new.link.output start.link.delivery_faults new.link.delivery_faults
@@ -72,7 +72,7 @@ module _ (laws : RunTheorems) (none : NothingIsDelivered) (both : PartsAreDelive
           let one : EventRecord = event_record e served.step.outcome served.step.rows served.step.rows_accepted in
           record {
             recorded = s.recorded ++ one ∷ [];
-            effect = made_more laws start s.recorded turns mid s.effect new [] served.offers e heard_new served.step;
+            effect = made_more laws start s.recorded turns mid s.effect new [] served.offers e received_new served.step;
             read = read_new;
             delivered_all = gave_then laws.draws laws.always both s.recorded start.server mid.server s.effect.serves start.link.output mid.link.output s.delivered_all one new.server served.offers
                 served.step.adds served.known served.peers new.link.output
@@ -91,7 +91,7 @@ module _ (laws : RunTheorems) (none : NothingIsDelivered) (both : PartsAreDelive
               recorded = s.recorded ++ one ∷ [];
               effect = made_broken laws start s.recorded turns mid s.effect most less new e
                   (λ kept rows. (took : Bool) → AddsPrefixInRun mid.server [] ev.offers (event_record e kept rows took) × AddsPrefixWhileServing mid.server [] ev.offers (event_record e kept rows took))
-                  heard_new ev.aborted;
+                  received_new ev.aborted;
               read = reads_all_last start.link.input new.link.input start.link.output new.link.output start.link.delivery_faults new.link.delivery_faults read_new;
               delivered_all = gave_none;
               noninterference = front_kept (s.recorded ++ one ∷ []) new.link.output gave_none;
@@ -101,7 +101,7 @@ module _ (laws : RunTheorems) (none : NothingIsDelivered) (both : PartsAreDelive
         cut : (x : memory.NoMemory) → EventEffect e (since read) new (Err x) → ServeEffect most start new (Err NoMemory)
         cut x ev =
             let one : EventRecord = event_record e ev.step.outcome ev.step.rows ev.step.rows_accepted in
-            let made = made_more laws start s.recorded turns mid s.effect new [] ev.offers e heard_new ev.step in
+            let made = made_more laws start s.recorded turns mid s.effect new [] ev.offers e received_new ev.step in
             let gave_some : DeliveryAborted ((s.recorded ++ one ∷ []) ++ lost_events []) start.server start.link.output new.link.output =
             subst (λ (l : List EventRecord). DeliveryAborted l start.server start.link.output new.link.output) (sym (append-nil (s.recorded ++ one ∷ [])))
             (gave_part laws.draws laws.always both s.recorded start.server mid.server s.effect.serves start.link.output mid.link.output s.delivered_all one new.server ev.offers

@@ -89,8 +89,8 @@ module _ (op : TableOp) (files : (config : CallConfigView) (table : Table) → (
       has_failed = now.works i;
     }
 
-    pub lent_once : RepresentsWithOffers d token before (record s { calls = calls }) out (with_call_op op w)
-    lent_once = record {
+    pub detached_once : RepresentsWithOffers d token before (record s { calls = calls }) out (with_call_op op w)
+    detached_once = record {
       represents = record {
         same_directory = did_it.represents.same_directory;
         tokens = did_it.represents.tokens;
@@ -135,13 +135,13 @@ module _ (op : TableOp) (files : (config : CallConfigView) (table : Table) → (
     }
 
   -- what is done from there on is done after it
-  pub follows_lent : (g : Directory → List ℕ → RunState → RunState) (new : Server) (out out2 : List Offer) → Follows (record s { calls = calls }) out new out2 g
+  pub follows_detached : (g : Directory → List ℕ → RunState → RunState) (new : Server) (out out2 : List Offer) → Follows (record s { calls = calls }) out new out2 g
       → Follows s out new out2 (λ d token w. g d token (with_call_op op w))
-  follows_lent g new out out2 follows d token before w did_it short = follows d token before (with_call_op op w) (lent_once d token before out w did_it) short
+  follows_detached g new out out2 follows d token before w did_it short = follows d token before (with_call_op op w) (detached_once d token before out w did_it) short
 
-  pub breaks_lent : (g : Directory → List ℕ → RunState → RunState) (out out2 : List Offer) → AddsOfferPrefix (record s { calls = calls }) out out2 g
+  pub breaks_detached : (g : Directory → List ℕ → RunState → RunState) (out out2 : List Offer) → AddsOfferPrefix (record s { calls = calls }) out out2 g
       → AddsOfferPrefix s out out2 (λ d token w. g d token (with_call_op op w))
-  breaks_lent g out out2 breaks d token before w did_it short = breaks d token before (with_call_op op w) (lent_once d token before out w did_it) short
+  breaks_detached g out out2 breaks d token before w did_it short = breaks d token before (with_call_op op w) (detached_once d token before out w did_it) short
 
 -- no leg is taken out: what is done from there on is done in the unchanged state
 module _ (number : ℕ) (side : Side) (s : Server) (calls : CallsView) (none : released_leg_of number side s.calls.table.entries ≡ None)

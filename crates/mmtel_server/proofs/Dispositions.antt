@@ -54,18 +54,18 @@ module _ (d : Directory) (m : ParsedMessage) where
       (either (is_method (codes "INVITE") m.start) _ _ (in_full (uri_of (request_uri m.start)))
       (either (is_register m) _ _ registered (either (is_subscribe m) Subscribe (Respond (plain_response 481)) refl refl))))
 
-  by_holder : (holder : DialogOwner) → opens (entry_into holder) ≡ false
-  by_holder (InCall call side) = refl
-  by_holder (InConference room seat) = refl
-  by_holder (InSubscription sub) = refl
+  by_owner : (owner : DialogOwner) → opens (entry_into owner) ≡ false
+  by_owner (InCall call side) = refl
+  by_owner (InConference room seat) = refl
+  by_owner (InSubscription sub) = refl
 
-  enters : (holder : DialogOwner) → opens (in_dialog_disposition holder m) ≡ false
-  enters holder = either (is_subscribe m && is_of_no_subscription holder) (Respond (plain_response 481)) (entry_into holder) refl (by_holder holder)
+  enters : (owner : DialogOwner) → opens (in_dialog_disposition owner m) ≡ false
+  enters owner = either (is_subscribe m && is_of_no_subscription owner) (Respond (plain_response 481)) (entry_into owner) refl (by_owner owner)
 
   by_refusal : (named : Option DialogOwner) (o : Option StatusResponse) → opens (disposition_by d true named m o) ≡ false
   by_refusal named (Some answer) = refl
   by_refusal None None = by_its_method
-  by_refusal (Some holder) None = enters holder
+  by_refusal (Some owner) None = enters owner
 
 opens_none : (d : Directory) (merged : Bool) (named : Option DialogOwner) (m : ParsedMessage) → opens (disposition d merged true named m) ≡ false
 unfolding disposition

@@ -124,14 +124,14 @@ module _ (d : Directory) (token : List ℕ) where
   answers_none at s (Some (heard.AckOf2xx x)) w = acknowledges_none at s (dialog_owner_in d s.parsed w) w
   answers_none at s (Some heard.Stray) w = refl
 
-  hears_none : (at : ℕ) (s : MessageView) (o : Option transaction.Heard) (w : RunState) → FilesNone w (with_received_action at s o w)
-  hears_none at s None w = refl
-  hears_none at s (Some taken) w = refl
+  receiving_files_none : (at : ℕ) (s : MessageView) (o : Option transaction.Heard) (w : RunState) → FilesNone w (with_received_action at s o w)
+  receiving_files_none at s None w = refl
+  receiving_files_none at s (Some taken) w = refl
 
   pub met_none : (at : ℕ) (x : ParsedEvent) (w : RunState) → FilesNone w (after_parsed_event d token at x w)
   met_none at Nothing w = refl
   met_none at (Refused peer source reply) w = refl
-  met_none at (Received s) w = let taken = hear_result w.actions s.peer (message_in s.parsed) in answers_none at s taken (with_received_action at s taken w) ∙ hears_none at s taken w
+  met_none at (Received s) w = let taken = hear_result w.actions s.peer (message_in s.parsed) in answers_none at s taken (with_received_action at s taken w) ∙ receiving_files_none at s taken w
   met_none at (WebRequested request kept rows) w =
       boxes.puts FilesNone then_none (λ v. refl) (λ op v. refl) d token at (λ v. refl) (emitted_none at) (λ armed v. refl) (λ k m answer v. refl)
       (counts_put_in d.names request kept) (after_web_reply d at request kept rows w)

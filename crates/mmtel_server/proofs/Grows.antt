@@ -233,14 +233,14 @@ module _ (law : NumbersNeverFall) (d : Directory) (token : List ℕ) (at : ℕ) 
   answers s (Some (heard.AckOf2xx x)) w = acknowledges s w
   answers s (Some heard.Stray) w = same w
 
-  pub hears_one : (s : MessageView) (o : Option transaction.Heard) (w : RunState) → Grows w (with_received_action at s o w)
-  hears_one s None w = same w
-  hears_one s (Some taken) w = acts_more _ w (omega arith)
+  pub receives_one : (s : MessageView) (o : Option transaction.Heard) (w : RunState) → Grows w (with_received_action at s o w)
+  receives_one s None w = same w
+  receives_one s (Some taken) w = acts_more _ w (omega arith)
 
-  pub told_grows : (s : MessageView) (w : RunState) → Grows w (after_message d token at s w)
-  told_grows s w =
+  pub message_grows : (s : MessageView) (w : RunState) → Grows w (after_message d token at s w)
+  message_grows s w =
       let taken = hear_result w.actions s.peer (message_in s.parsed) in
-      grows_on w (with_received_action at s taken w) (after_message_as d token at s taken w) (hears_one s taken w) (answers s taken (with_received_action at s taken w))
+      grows_on w (with_received_action at s taken w) (after_message_as d token at s taken w) (receives_one s taken w) (answers s taken (with_received_action at s taken w))
 
   -- ---- web requests
 
@@ -258,7 +258,7 @@ module _ (law : NumbersNeverFall) (d : Directory) (token : List ℕ) (at : ℕ) 
   pub met_grows : (x : ParsedEvent) (w : RunState) → Grows w (after_parsed_event d token at x w)
   met_grows Nothing w = same w
   met_grows (Refused peer source reply) w = grows_with_refusal token at peer source reply w
-  met_grows (Received s) w = told_grows s w
+  met_grows (Received s) w = message_grows s w
   met_grows (WebRequested request kept rows) w = serves_whole request kept rows w
 
   clocked : (w : RunState) → Grows w (record (with_next_step w) { clock = at })

@@ -27,7 +27,7 @@ use Rattle.mmtel_transaction.specs.declared.words.TKey.{TKey}
 use Rattle.mmtel_types.specs.declared.addrs.Addr.{Addr}
 use Rattle.mmtel_types.specs.declared.numbers.Peer.{Peer}
 use Rattle.mmtel_server.proofs.Counts.{has_capacity}
-use Rattle.mmtel_server.proofs.Grows.{short_of, told_grows}
+use Rattle.mmtel_server.proofs.Grows.{message_grows, short_of}
 use Rattle.mmtel_server.specs.Follows.{AddsOfferPrefix, Follows, IsMessageOf, NumbersNeverFall}
 use Rattle.mmtel_server.specs.Representation.{IsPrefixBetween, RepresentsWithOffers}
 use Rattle.mmtel_server.specs.declared.servers.Server.{Server}
@@ -81,29 +81,29 @@ goes_on d token before s t out w h did stands = record {
 module _ (law : NumbersNeverFall) (few : FewAreOpened) (s : Server) (t : Transactions) (out : List Offer) (at : ℕ) (peer : Peer) (source : Addr) (trusted : Bool) (m : Message Start) (taken : Heard)
     (hears_it : MayOpen s.transactions t (λ h. after_hear h peer m at) (λ h. Some taken ≡ hear_result h peer m)) (d : Directory) (token : List ℕ) (before : List Offer) (w : RunState)
     (did : RepresentsWithOffers d token before s out w) (short : IsShort (after_message d token at (message_view peer source trusted m) w)) where
-  heard_so : Represents t (after_hear w.actions peer m at) × (Some taken ≡ hear_result w.actions peer m)
-  heard_so = hears_it w.actions did.represents.transactions
-      (has_capacity few w.actions (short_of w (after_message d token at (message_view peer source trusted m) w) (told_grows law d token at (message_view peer source trusted m) w) short).actions)
+  received_so : Represents t (after_hear w.actions peer m at) × (Some taken ≡ hear_result w.actions peer m)
+  received_so = hears_it w.actions did.represents.transactions
+      (has_capacity few w.actions (short_of w (after_message d token at (message_view peer source trusted m) w) (message_grows law d token at (message_view peer source trusted m) w) short).actions)
 
   back : IsMessageOf m taken
-  back = taken_so peer m taken (length (openings w.actions)) (live w.actions) (class_of (head_of m) (live w.actions)) heard_so.1
+  back = taken_so peer m taken (length (openings w.actions)) (live w.actions) (class_of (head_of m) (live w.actions)) received_so.1
 
   same : after_classified_message d token at (message_view peer source trusted m) (Some taken) (record w { actions = after_hear w.actions peer m at }) ≡ after_message d token at (message_view peer source trusted m) w
-  same = ap (λ (o : Option Heard). after_message_as d token at (message_view peer source trusted m) o w) heard_so.1
+  same = ap (λ (o : Option Heard). after_message_as d token at (message_view peer source trusted m) o w) received_so.1
 
   went : RepresentsWithOffers d token before (record s { transactions = t }) out (record w { actions = after_hear w.actions peer m at })
-  went = goes_on d token before s t out w (after_hear w.actions peer m at) did heard_so.0
+  went = goes_on d token before s t out w (after_hear w.actions peer m at) did received_so.0
 
-  pub heard_done : (s2 : Server) (out2 : List Offer)
+  pub received_done : (s2 : Server) (out2 : List Offer)
       → ((x : Message Start) → IsMessageOf x taken → Follows (record s { transactions = t }) out s2 out2 (λ d token. after_classified_message d token at (message_view peer source trusted x) (Some taken)))
       → RepresentsWithOffers d token before s2 out2 (after_message d token at (message_view peer source trusted m) w)
-  heard_done s2 out2 follows = subst (λ (x : RunState). RepresentsWithOffers d token before s2 out2 x) same
+  received_done s2 out2 follows = subst (λ (x : RunState). RepresentsWithOffers d token before s2 out2 x) same
       (follows m back d token before (record w { actions = after_hear w.actions peer m at }) went (subst IsShort (sym same) short))
 
-  pub heard_cut : (out2 : List Offer)
+  pub received_cut : (out2 : List Offer)
       → ((x : Message Start) → IsMessageOf x taken → AddsOfferPrefix (record s { transactions = t }) out out2 (λ d token. after_classified_message d token at (message_view peer source trusted x) (Some taken)))
       → IsPrefixBetween out out2 (before ++ (after_message d token at (message_view peer source trusted m) w).offers)
-  heard_cut out2 breaks = subst (λ (x : RunState). IsPrefixBetween out out2 (before ++ x.offers)) same
+  received_cut out2 breaks = subst (λ (x : RunState). IsPrefixBetween out out2 (before ++ x.offers)) same
       (breaks m back d token before (record w { actions = after_hear w.actions peer m at }) went (subst IsShort (sym same) short))
 
 -- a message beyond the capacity

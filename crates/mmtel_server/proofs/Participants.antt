@@ -286,8 +286,8 @@ module _ (law : NumbersNeverFall) (at : ℕ) (key : TKey) (said : MessageView) (
   due d token w = replacement_in said.parsed (output_of_conference_op d (conference_signal_op token at (of_room.Request room seat key said) w) w).out
 
   -- memory ran out while the output of the request was executed
-  pub heard_breaks : AddsOfferPrefix mid out between (λ d token. with_emits at given) → AddsOfferPrefix s out between (λ d token. after_participant_request d token at key said room seat)
-  heard_breaks breaks =
+  pub received_breaks : AddsOfferPrefix mid out between (λ d token. with_emits at given) → AddsOfferPrefix s out between (λ d token. after_participant_request d token at key said room seat)
+  received_breaks breaks =
       broke_first received (λ d token. after_participant_request d token at key said room seat) s out between (λ d token w. replaces_asked_grows law d token at said.peer room seat (due d token w) (received d token w))
       (housed_breaks (λ d token w. conference_signal_op token at (of_room.Request room seat key said) w) s mid emits given at out between is told breaks)
 
@@ -295,8 +295,8 @@ module _ (law : NumbersNeverFall) (at : ℕ) (key : TKey) (said : MessageView) (
     abbrev then_due : Directory → List ℕ → RunState → RunState
     then_due d token = after_replaces d token at said.peer room seat accepted
 
-    heard_first : Follows s out there between received
-    heard_first = housed_follows (λ d token w. conference_signal_op token at (of_room.Request room seat key said) w) s mid emits given at out between is told there first
+    received_first : Follows s out there between received
+    received_first = housed_follows (λ d token w. conference_signal_op token at (of_room.Request room seat key said) w) s mid emits given at out between is told there first
 
     module _ (d : Directory) (token : List ℕ) (before : List Offer) (w : RunState) (did : RepresentsWithOffers d token before s out w) (short : IsShort (after_participant_request d token at key said room seat w)) where
       same_due : accepted ≡ due d token w
@@ -308,12 +308,12 @@ module _ (law : NumbersNeverFall) (at : ℕ) (key : TKey) (said : MessageView) (
     pub entered_follows : (new : Server) → Follows there between new now (λ d token. after_replaces d token at said.peer room seat accepted) → Follows s out new now (λ d token. after_participant_request d token at key said room seat)
     entered_follows new follows d token before w did short =
         subst (λ (o : Option Replaces). RepresentsWithOffers d token before new now (after_replaces d token at said.peer room seat o (received d token w))) (same_due d token before w did short)
-        (followed received then_due s there new out between now (λ d token w. replaces_asked_grows law d token at said.peer room seat accepted w) heard_first follows
+        (followed received then_due s there new out between now (λ d token w. replaces_asked_grows law d token at said.peer room seat accepted w) received_first follows
         d token before w did (few_due d token before w did short))
 
     pub entered_breaks : AddsOfferPrefix there between now (λ d token. after_replaces d token at said.peer room seat accepted) → AddsOfferPrefix s out now (λ d token. after_participant_request d token at key said room seat)
     entered_breaks breaks d token before w did short =
         subst (λ (o : Option Replaces). IsPrefixBetween out now (before ++ (after_replaces d token at said.peer room seat o (received d token w)).offers)) (same_due d token before w did short)
         (offer_prefix_added received then_due s there out between now (λ d token w. seats law d token at (of_room.Request room seat key said) w)
-        (λ d token w. replaces_asked_grows law d token at said.peer room seat accepted w) heard_first breaks
+        (λ d token w. replaces_asked_grows law d token at said.peer room seat accepted w) received_first breaks
         d token before w did (few_due d token before w did short))

@@ -43,8 +43,8 @@ each_none giving gave (e ∷ es) stands = stands
 
 module _ (input : LinkInput) (count : ℕ) (over : Bool) (e : Event) (next : next_arrival input ≡ Some e) where
   -- one more, of which so many bytes are read
-  heard_one : (later : Option LinkInput) → later ≡ Some (read_to input count over) → ReceivesMore (Some input) later (read_part count e ∷ [])
-  heard_one later is = subst (λ (l : Option LinkInput). ReceivesMore (Some input) l (read_part count e ∷ [])) (sym is) (refl, received_next input.events input.reads count e next)
+  received_one : (later : Option LinkInput) → later ≡ Some (read_to input count over) → ReceivesMore (Some input) later (read_part count e ∷ [])
+  received_one later is = subst (λ (l : Option LinkInput). ReceivesMore (Some input) l (read_part count e ∷ [])) (sym is) (refl, received_next input.events input.reads count e next)
 
   read_one : (later : Option LinkInput) (giving gave : ℕ) → later ≡ Some (read_to input count over) → IsRead giving gave count e → ReadEach (Some input) later giving gave
   read_one later giving gave is read =
@@ -68,14 +68,14 @@ pub came_datagram : (input later : Option LinkInput) (giving : ℕ) (from : Addr
     → ReceivesMore input later (event.Datagram from at bytes ∷ []) × ReadEach input later giving giving
 came_datagram None later giving from at bytes h = (receives_unexposed later (event.Datagram from at bytes ∷ []) h, tt)
 came_datagram (Some input) later giving from at bytes h = (
-  heard_one input 0 false (event.Datagram from at bytes) h.0 later h.1,
+  received_one input 0 false (event.Datagram from at bytes) h.0 later h.1,
   read_one input 0 false (event.Datagram from at bytes) h.0 later giving giving h.1 refl,
 )
 
 pub came_quiet : (input later : Option LinkInput) (giving at : ℕ) → NextIfExposed input later (Ok (arrival.Quiet at)) → ReceivesMore input later (event.Quiet at ∷ []) × ReadEach input later giving giving
 came_quiet None later giving at h = (receives_unexposed later (event.Quiet at ∷ []) h, tt)
 came_quiet (Some input) later giving at h = (
-  heard_one input 0 false (event.Quiet at) h.0 later h.1,
+  received_one input 0 false (event.Quiet at) h.0 later h.1,
   read_one input 0 false (event.Quiet at) h.0 later giving giving h.1 refl,
 )
 
@@ -94,7 +94,7 @@ web_read input later giving gave at whole bytes next read needed =
     let all : web_bytes (next_arrival input) ≡ whole = ap web_bytes next in
     let these : take (length bytes) whole ≡ bytes = subst (λ (l : List ℕ). take (length bytes) l ≡ bytes) all read.2 in
     let out = subst (λ (l : List ℕ). (IsReadOut (length bytes) l × (gave ≡ giving)) ⊎ Rose giving gave) all read.3 in (
-      subst (λ (l : List ℕ). ReceivesMore (Some input) later (event.Web at l ∷ [])) these (heard_one input (length bytes) read.0 (event.Web at whole) next later read.1),
+      subst (λ (l : List ℕ). ReceivesMore (Some input) later (event.Web at l ∷ [])) these (received_one input (length bytes) read.0 (event.Web at whole) next later read.1),
       read_one input (length bytes) read.0 (event.Web at whole) next later giving gave read.1 (needed_of whole bytes these needed, out),
     )
 
@@ -109,7 +109,7 @@ one_lost : (input : LinkInput) (later : Option LinkInput) (e : Event) → next_a
 one_lost input later e next read =
     let one : length (read.1 ∷ []) ≤ 1 = omega arith in
     let adds : AddsOne (Some input) later = subst (λ (l : Option LinkInput). AddsOne (Some input) l) (sym read.2) (read.1 ∷ [], one, refl) in
-    (read_part read.1 e ∷ [], omega arith, (heard_one input read.1 read.0 e next later read.2, adds))
+    (read_part read.1 e ∷ [], omega arith, (received_one input read.1 read.0 e next later read.2, adds))
 
 pub lost_web : (input mid later : Option LinkInput) (giving gave at : ℕ) (e : NoMemory) → NextIfExposed input mid (Ok (arrival.Web at)) → (IsReading input mid [] → ReadsRequest input later giving gave (Err e))
     → (events : List Event) × (length events ≤ 1) × (ReceivesMore input later events × AddsOne input later)

@@ -367,8 +367,8 @@ module _ (sub : SubNo) (m : Message Start) (s : Server) where
   pub is_live_so : (peer : Peer) → peer_of sub s.boxes.table ≡ Some peer → is_live sub s.boxes.table ≡ true
   is_live_so peer some = receives_some (subscription_numbered sub s.boxes.table) peer some
 
-  pub hears_none : peer_of sub s.boxes.table ≡ None → (out : List Offer) → Follows s out s out (λ d token. with_mailbox_op (Receives sub m))
-  hears_none none out =
+  pub receives_nothing : peer_of sub s.boxes.table ≡ None → (out : List Offer) → Follows s out s out (λ d token. with_mailbox_op (Receives sub m))
+  receives_nothing none out =
       notes_action (Receives sub m) s s.boxes out
       (sym (ap (λ (l : List Subscription). with_table s.boxes (record s.boxes.table { live = l })) (changed_none (is_numbered sub) (subscription_after_request m) s.boxes.table.live (receives_none (subscription_numbered sub s.boxes.table) none))))
 

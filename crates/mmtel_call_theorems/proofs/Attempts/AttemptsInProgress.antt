@@ -105,23 +105,23 @@ module _ (config : CallConfigView) (before : StepOutput) where
 
   -- ---- an offer
 
-  offer_moves : (at : ℕ) (caller : Leg) (service : Option Service) (waiting : Bool) (aim : Destination) (room : ℕ) (c : Call) (output : StepOutput) → c.attempts + c.diversions.remaining < room → So c output →
-      Goes at c caller room (attempt_start config at caller service waiting aim c output)
-  offer_moves at caller service waiting aim room c output less had =
+  offer_moves : (at : ℕ) (caller : Leg) (service : Option Service) (waiting : Bool) (destination : Destination) (room : ℕ) (c : Call) (output : StepOutput) → c.attempts + c.diversions.remaining < room → So c output →
+      Goes at c caller room (attempt_start config at caller service waiting destination c output)
+  offer_moves at caller service waiting destination room c output less had =
       let o = c.opening in
-      let shown : List Line = attempt_lines config o c.diversions service aim.peer in
-      let d : Dialogue = attempt_dialog_of o aim output in
+      let shown : List Line = attempt_lines config o c.diversions service destination.peer in
+      let d : Dialogue = attempt_dialog_of o destination output in
       let third : StepOutput = after_draw (after_draw output) in
       let m : Message Start = invite_of d config.sip (token third) shown waiting o.invite.parsed in
       let read : branch_of config.sip m ≡ token third = branch_read d 1 (codes "INVITE") (relayed_parts config.sip (token third) (shown ++ alert_lines waiting) o.invite.parsed) in
-      let marked : event_of config.sip o.number (emit.Ask aim.peer m) ≡ Invited aim.peer aim.uri (token third) ∷ [] = ap (λ branch. Invited aim.peer aim.uri branch ∷ []) read in
+      let marked : event_of config.sip o.number (emit.Ask destination.peer m) ≡ Invited destination.peer destination.uri (token third) ∷ [] = ap (λ branch. Invited destination.peer destination.uri branch ∷ []) read in
       let drawn : So c (after_draw third) = record { new = had.new; out = had.out; seen = had.seen } in
-      let asked : StepOutput = with_emit (emit.Ask aim.peer m) (after_draw third) in
+      let asked : StepOutput = with_emit (emit.Ask destination.peer m) (after_draw third) in
       let cap = due_word.Cap (next_attempt c) in
       record {
-        marks = Invited aim.peer aim.uri (token third) ∷ Armed cap (at + max_attempt_time) ∷ [];
-        adds = adds_emit config.sip o.number before asked (emit.Arm o.number cap (at + max_attempt_time)) (Invited aim.peer aim.uri (token third) ∷ []) (Armed cap (at + max_attempt_time) ∷ []) (own_deadline config.sip o.number cap (at + max_attempt_time))
-            (adds_emit config.sip o.number before (after_draw third) (emit.Ask aim.peer m) [] (Invited aim.peer aim.uri (token third) ∷ []) marked drawn);
+        marks = Invited destination.peer destination.uri (token third) ∷ Armed cap (at + max_attempt_time) ∷ [];
+        adds = adds_emit config.sip o.number before asked (emit.Arm o.number cap (at + max_attempt_time)) (Invited destination.peer destination.uri (token third) ∷ []) (Armed cap (at + max_attempt_time) ∷ []) (own_deadline config.sip o.number cap (at + max_attempt_time))
+            (adds_emit config.sip o.number before (after_draw third) (emit.Ask destination.peer m) [] (Invited destination.peer destination.uri (token third) ∷ []) marked drawn);
         came = record { observed = refl; leg = refl; rang = refl; number = refl; now_attempts = refl; latest = refl; side = refl; early = refl; now_acks = refl; few = next_few c.attempts c.diversions.remaining room less };
       }
 

@@ -56,7 +56,7 @@ use Rattle.mmtel_call_theorems.specs.Attempts.Theorems.{deadlines_of, early_tag}
 use Rattle.mmtel_call_theorems.specs.Attempts.Observed.{Armed, AttemptEvent, AttemptInProgress, acks_after, acks_after_ack, acks_after_request, acks_after_response, acks_relayed, early_by, early_in, is_in_early, is_relayed, is_relayed_by, is_response_to, last_by, last_by_request, relayed_response, rings_by}
 use Rattle.mmtel_call_theorems.proofs.Attempts.AttemptsInProgress.{Moves, goes_on_moves, over_moves}
 use Rattle.mmtel_call_theorems.proofs.Attempts.Reading.{Adds, adds_emit, adds_nothing, adds_quiet, own_deadline}
-use Rattle.mmtel_call_theorems.proofs.Attempts.Sending.{Unseen, cancelled_unseen, dismissing_unseen, final_acked_unseen, notified_unseen, other_waits, relayed_unseen, replied_unseen, settled_unseen, timed_out_waits, unheard_unseen, unlisted_unseen}
+use Rattle.mmtel_call_theorems.proofs.Attempts.Sending.{Unseen, cancelled_unseen, dismissing_unseen, final_acked_unseen, notified_unseen, other_waits, refused_request_unseen, relayed_unseen, replied_unseen, settled_unseen, timed_out_waits, unlisted_unseen}
 use Rattle.mmtel_session.specs.Intervals.{expiry_interval_of}
 
 -- the no-reply time of the record under which the call was offered
@@ -98,7 +98,7 @@ abbrev pub offered : OfferedAttempt → Call → Call
 offered x c = record c { phase = Offered x }
 
 -- it continues to wait for the same attempt, after this
-pub record StillWaits (at : ℕ) (config : CallConfigView) (x : OfferedAttempt) (c : Call) (before : StepOutput) (last : Option ℕ) (told : AttemptUpdate) (s : StepResult) (y : OfferedAttempt) : Type 0 where
+pub record StillWaits (at : ℕ) (config : CallConfigView) (x : OfferedAttempt) (c : Call) (before : StepOutput) (last : Option ℕ) (update : AttemptUpdate) (s : StepResult) (y : OfferedAttempt) : Type 0 where
   pub phase : s.call.phase ≡ Offered y
   pub attempts : s.call.attempts ≡ c.attempts
   pub remaining : s.call.diversions.remaining ≡ c.diversions.remaining
@@ -108,15 +108,15 @@ pub record StillWaits (at : ℕ) (config : CallConfigView) (x : OfferedAttempt) 
   pub branch : y.attempt.invite.branch ≡ x.attempt.invite.branch
   pub leg : y.callee.leg.dialogue.peer ≡ x.callee.leg.dialogue.peer
   pub side : y.callee.leg.dialogue.side ≡ x.callee.leg.dialogue.side
-  pub rang : y.attempt.rang ≡ (x.attempt.rang || told.rings)
-  pub early : early_tag y.callee ≡ told.early
-  pub acks : s.call.acks ≡ told.acks
+  pub rang : y.attempt.rang ≡ (x.attempt.rang || update.rings)
+  pub early : early_tag y.callee ≡ update.early
+  pub acks : s.call.acks ≡ update.acks
   pub service : y.attempt.service ≡ x.attempt.service
-  pub adds : Adds config.sip c.opening.number before s.output (events_rung x.attempt.number at (its_time x) (told.rings && not x.attempt.rang))
+  pub adds : Adds config.sip c.opening.number before s.output (events_rung x.attempt.number at (its_time x) (update.rings && not x.attempt.rang))
 
-pub data Passes (at : ℕ) (config : CallConfigView) (x : OfferedAttempt) (c : Call) (before : StepOutput) (last : Option ℕ) (told : AttemptUpdate) (end : Option AttemptEndView) (s : StepResult) : Type 0 where
-  Waits : end ≡ None → (y : OfferedAttempt) → StillWaits at config x c before last told s y → Passes at config x c before last told end s
-  Leaves : (how : AttemptEndView) → end ≡ Some how → Moves config before at c.opening.number c.attempts c.acks last (c.attempts + c.diversions.remaining) s → Passes at config x c before last told end s
+pub data Passes (at : ℕ) (config : CallConfigView) (x : OfferedAttempt) (c : Call) (before : StepOutput) (last : Option ℕ) (update : AttemptUpdate) (end : Option AttemptEndView) (s : StepResult) : Type 0 where
+  Waits : end ≡ None → (y : OfferedAttempt) → StillWaits at config x c before last update s y → Passes at config x c before last update end s
+  Leaves : (how : AttemptEndView) → end ≡ Some how → Moves config before at c.opening.number c.attempts c.acks last (c.attempts + c.diversions.remaining) s → Passes at config x c before last update end s
 
 or_false : (b : Bool) → b ≡ (b || false)
 or_false true = refl
@@ -130,19 +130,19 @@ module _ (config : CallConfigView) (now : SnapshotView) (x : OfferedAttempt) (c 
   So output = Unseen config c.opening.number before output
 
   abbrev Does : (last : Option ℕ) → AttemptUpdate → Option AttemptEndView → StepResult → Type 0
-  Does last told end s = Passes now.at config x c before last told end s
+  Does last update end s = Passes now.at config x c before last update end s
 
   -- nothing new is observed
   abbrev Same : AttemptUpdate
   Same = record { rings = false; early = early_tag x.callee; acks = c.acks }
 
-  does_either : (last : Option ℕ) (told : AttemptUpdate) (b : Bool) (end end2 : Option AttemptEndView) (s s2 : StepResult) → Does last told end s → Does last told end2 s2 → Does last told (if b then end else end2) (if b then s else s2)
-  does_either last told true end end2 s s2 f g = f
-  does_either last told false end end2 s s2 f g = g
+  does_either : (last : Option ℕ) (update : AttemptUpdate) (b : Bool) (end end2 : Option AttemptEndView) (s s2 : StepResult) → Does last update end s → Does last update end2 s2 → Does last update (if b then end else end2) (if b then s else s2)
+  does_either last update true end end2 s s2 f g = f
+  does_either last update false end end2 s s2 f g = g
 
-  does_one : (last : Option ℕ) (told : AttemptUpdate) (b : Bool) (end : Option AttemptEndView) (s s2 : StepResult) → Does last told end s → Does last told end s2 → Does last told end (if b then s else s2)
-  does_one last told true end s s2 f g = f
-  does_one last told false end s s2 f g = g
+  does_one : (last : Option ℕ) (update : AttemptUpdate) (b : Bool) (end : Option AttemptEndView) (s s2 : StepResult) → Does last update end s → Does last update end s2 → Does last update end (if b then s else s2)
+  does_one last update true end s s2 f g = f
+  does_one last update false end s s2 f g = g
 
   -- nothing is observed, and it continues to wait as before
   waits : (s : StepResult) → s.call.phase ≡ Offered x → s.call.attempts ≡ c.attempts → s.call.diversions.remaining ≡ c.diversions.remaining → s.call.acks ≡ c.acks → So s.output → Does Last Same None s
@@ -164,11 +164,11 @@ module _ (config : CallConfigView) (now : SnapshotView) (x : OfferedAttempt) (c 
   })
 
   -- a request of a side was accepted, or a request was sent to one
-  waits_received : (y : OfferedAttempt) (last : Option ℕ) (told : AttemptUpdate) (s : StepResult) → s.call.phase ≡ Offered y → s.call.attempts ≡ c.attempts → s.call.diversions.remaining ≡ c.diversions.remaining → told.rings ≡ false →
+  waits_received : (y : OfferedAttempt) (last : Option ℕ) (update : AttemptUpdate) (s : StepResult) → s.call.phase ≡ Offered y → s.call.attempts ≡ c.attempts → s.call.diversions.remaining ≡ c.diversions.remaining → update.rings ≡ false →
       y.caller.dialogue.remote_cseq ≡ last → y.attempt.number ≡ x.attempt.number → y.attempt.invite.dialogue ≡ x.attempt.invite.dialogue → y.attempt.invite.branch ≡ x.attempt.invite.branch →
-      y.callee.leg.dialogue.peer ≡ x.callee.leg.dialogue.peer → y.callee.leg.dialogue.side ≡ x.callee.leg.dialogue.side → y.attempt.rang ≡ x.attempt.rang → y.attempt.service ≡ x.attempt.service → early_tag y.callee ≡ told.early → s.call.acks ≡ told.acks → So s.output →
-      Does last told None s
-  waits_received y last told s phase attempts left silent latest number dialogue branch leg side rang service early acks had = Waits refl y (record {
+      y.callee.leg.dialogue.peer ≡ x.callee.leg.dialogue.peer → y.callee.leg.dialogue.side ≡ x.callee.leg.dialogue.side → y.attempt.rang ≡ x.attempt.rang → y.attempt.service ≡ x.attempt.service → early_tag y.callee ≡ update.early → s.call.acks ≡ update.acks → So s.output →
+      Does last update None s
+  waits_received y last update s phase attempts left silent latest number dialogue branch leg side rang service early acks had = Waits refl y (record {
     phase = phase;
     attempts = attempts;
     remaining = left;
@@ -187,8 +187,8 @@ module _ (config : CallConfigView) (now : SnapshotView) (x : OfferedAttempt) (c 
 
   -- ---- the call is abandoned
 
-  gives_up_by : (cause : Cause) (how : AttemptEndView) (last : Option ℕ) (told : AttemptUpdate) (y : OfferedAttempt) (output : StepOutput) → So output → Does last told (Some how) (end_before_answer cause config now.at y (offered y c) output)
-  gives_up_by cause how last told y output had =
+  gives_up_by : (cause : Cause) (how : AttemptEndView) (last : Option ℕ) (update : AttemptUpdate) (y : OfferedAttempt) (output : StepOutput) → So output → Does last update (Some how) (end_before_answer cause config now.at y (offered y c) output)
+  gives_up_by cause how last update y output had =
       let said = with_status_to_caller config (offered y c) (status_by cause) output in
       Leaves how refl (over_moves config before c.opening.number now.at cause y.caller.meter y.callee.leg.meter c.attempts c.acks last (c.attempts + c.diversions.remaining) (call_without_attempt y (offered y c)) (with_attempt_cancel config y said)
       (cancelled_unseen config c.opening.number before y.attempt.invite said (notified_unseen config c.opening.number before (offered y c) (status_by cause) output had)))
@@ -200,11 +200,11 @@ module _ (config : CallConfigView) (now : SnapshotView) (x : OfferedAttempt) (c 
       (dialogue : y.attempt.invite.dialogue ≡ x.attempt.invite.dialogue) (branch : y.attempt.invite.branch ≡ x.attempt.invite.branch) (leg : y.callee.leg.dialogue.peer ≡ x.callee.leg.dialogue.peer)
       (side_same : y.callee.leg.dialogue.side ≡ x.callee.leg.dialogue.side) (rang : y.attempt.rang ≡ x.attempt.rang) (service : y.attempt.service ≡ x.attempt.service) (early : early_tag y.callee ≡ early_tag x.callee) where
     -- nothing except a reply
-    replies : (told : AttemptUpdate) (desk2 : StepOutput) → told.rings ≡ false → early_tag x.callee ≡ told.early → c.acks ≡ told.acks → So desk2 → Does last told None (step_result (offered y c) desk2)
-    replies told desk2 silent e f had2 = waits_received y last told (step_result (offered y c) desk2) refl refl refl silent latest number dialogue branch leg side_same rang service (early ∙ e) f had2
+    replies : (update : AttemptUpdate) (output2 : StepOutput) → update.rings ≡ false → early_tag x.callee ≡ update.early → c.acks ≡ update.acks → So output2 → Does last update None (step_result (offered y c) output2)
+    replies update output2 silent e f had2 = waits_received y last update (step_result (offered y c) output2) refl refl refl silent latest number dialogue branch leg side_same rang service (early ∙ e) f had2
 
-    refused_so : (told : AttemptUpdate) → told.rings ≡ false → early_tag x.callee ≡ told.early → c.acks ≡ told.acks → (code : ℕ) → Does last told None (step_result (offered y c) (with_status_to config (offered y c) key m code output))
-    refused_so told silent e f code = replies told (with_status_to config (offered y c) key m code output) silent e f (replied_unseen config c.opening.number before (offered y c) key m code output had)
+    refused_so : (update : AttemptUpdate) → update.rings ≡ false → early_tag x.callee ≡ update.early → c.acks ≡ update.acks → (code : ℕ) → Does last update None (step_result (offered y c) (with_status_to config (offered y c) key m code output))
+    refused_so update silent e f code = replies update (with_status_to config (offered y c) key m code output) silent e f (replied_unseen config c.opening.number before (offered y c) key m code output had)
 
     -- UPDATE
 
@@ -243,10 +243,10 @@ module _ (config : CallConfigView) (now : SnapshotView) (x : OfferedAttempt) (c 
         Does last (Acked (after_ack rack c.acks)) None (on_named_prack config y key m rack (option_map (λ (answer : ReliableResponse). answer.callee) o) (offered y c) output)
     acknowledges_so rack None e = refused_so (Acked (after_ack rack c.acks)) refl refl (none_named rack None e refl) (status_of_refusal (rack_in m))
     acknowledges_so rack (Some answer) e =
-        let settled_desk : StepOutput = with_settled config (Some rack.answer) (offered y c) output in
+        let settled_output : StepOutput = with_settled config (Some rack.answer) (offered y c) output in
         let was = settled_unseen config c.opening.number before (Some rack.answer) (offered y c) output had in
         waits_received (attempt_after_early_request (codes "PRACK") y) last (Acked (after_ack rack c.acks)) (after_prack_across config y key m rack answer.callee (offered y c) output) refl refl refl refl latest number dialogue branch leg side_same rang service early refl
-        (adds_quiet config.sip c.opening.number before (after_draw settled_desk) _ [] refl (record { new = was.new; out = was.out; seen = was.seen }))
+        (adds_quiet config.sip c.opening.number before (after_draw settled_output) _ [] refl (record { new = was.new; out = was.out; seen = was.seen }))
 
     -- by whether there is an early dialog
     in_early : (is_early : Bool) (tag : List ℕ) (rack : Rack) → Does last (Acked (acks_after_ack (if is_early then Some tag else None) (Some rack) c.acks)) None
@@ -274,28 +274,28 @@ module _ (config : CallConfigView) (now : SnapshotView) (x : OfferedAttempt) (c 
     is_asked : Does last Same None (on_other config y Callee key m (offered y c) output)
     is_asked = does_one last Same (is_prack m) None _ _ (refused_so Same refl refl refl (status_of_refusal (rack_in m))) (rest_so Callee)
 
-  caller_heard : (key : TKey) (m : MessageView) (said : Result (Unit {0}) DialogueFault) (output : StepOutput) → So output →
+  caller_received : (key : TKey) (m : MessageView) (said : Result (Unit {0}) DialogueFault) (output : StepOutput) → So output →
       Does (if is_ok said then Rattle.mmtel_leg.specs.Dialogues.last_after (Rattle.mmtel_call_services.specs.Requests.number_of m) Last else Last)
       (record { rings = false; early = early_tag x.callee; acks = if is_ok said && is_prack m then acks_after_ack (early_tag x.callee) (rack_in m) c.acks else c.acks }) (if is_ok said && is_bye m then Some Cancel else None)
       (on_request_if said config now.at x Caller key m (offered x c) output)
-  caller_heard key m (Ok received) output had =
+  caller_received key m (Ok received) output had =
       let y = attempt_after_request Caller m x in
       does_either y.caller.dialogue.remote_cseq _ (is_bye m) (Some Cancel) None _ _
       (gives_up_by causes.Cancelled Cancel y.caller.dialogue.remote_cseq _ y (with_status_to config (offered y c) key m 200 output) (replied_unseen config c.opening.number before (offered y c) key m 200 output had))
       (asks y y.caller.dialogue.remote_cseq key m output had refl refl refl refl refl refl refl refl refl refl (is_prack m))
-  caller_heard key m (Err fault) output had = waits (step_result (offered x c) (with_refused_request config (offered x c) key m fault output)) refl refl refl refl (unheard_unseen config c.opening.number before (offered x c) key m fault output had)
+  caller_received key m (Err fault) output had = waits (step_result (offered x c) (with_refused_request config (offered x c) key m fault output)) refl refl refl refl (refused_request_unseen config c.opening.number before (offered x c) key m fault output had)
 
-  callee_heard : (key : TKey) (m : MessageView) (said : Result (Unit {0}) DialogueFault) (output : StepOutput) → So output → Does Last Same None (on_request_if said config now.at x Callee key m (offered x c) output)
-  callee_heard key m (Ok received) output had = is_asked (attempt_after_request Callee m x) Last key m output had refl refl refl refl refl refl refl refl refl
-  callee_heard key m (Err fault) output had = waits (step_result (offered x c) (with_refused_request config (offered x c) key m fault output)) refl refl refl refl (unheard_unseen config c.opening.number before (offered x c) key m fault output had)
+  callee_received : (key : TKey) (m : MessageView) (said : Result (Unit {0}) DialogueFault) (output : StepOutput) → So output → Does Last Same None (on_request_if said config now.at x Callee key m (offered x c) output)
+  callee_received key m (Ok received) output had = is_asked (attempt_after_request Callee m x) Last key m output had refl refl refl refl refl refl refl refl refl
+  callee_received key m (Err fault) output had = waits (step_result (offered x c) (with_refused_request config (offered x c) key m fault output)) refl refl refl refl (refused_request_unseen config c.opening.number before (offered x c) key m fault output had)
 
   abbrev Heard : AttemptInProgress → Side → MessageView → AttemptUpdate
   Heard g side m = record { rings = false; early = early_tag x.callee; acks = acks_after_request Last g c.acks side m }
 
   request_passes : (since : ℕ) (rung : Option ℕ) (side : Side) (key : TKey) (m : MessageView) (output : StepOutput) → So output →
       Does (last_by_request Last side m) (Heard (in_progress_of x since rung) side m) (end_on_request x side m) (on_request config now.at x side key m (offered x c) output)
-  request_passes since rung Caller key m output had = caller_heard key m (request_check x.caller m in_flight.Theirs) output had
-  request_passes since rung Callee key m output had = callee_heard key m (request_check x.callee.leg m in_flight.Own) output had
+  request_passes since rung Caller key m output had = caller_received key m (request_check x.caller m in_flight.Theirs) output had
+  request_passes since rung Callee key m output had = callee_received key m (request_check x.callee.leg m in_flight.Own) output had
 
   -- ---- deadlines and timeouts
 
@@ -305,8 +305,8 @@ module _ (config : CallConfigView) (now : SnapshotView) (x : OfferedAttempt) (c 
   same_room : (n : ℕ) → n ≤ n
   same_room n = omega arith
 
-  goes : (told : AttemptUpdate) (how : AttemptEndView) (m : Option MessageView) (output : StepOutput) → So output → Does Last told (Some how) (after_attempt config now x how m (offered x c) output)
-  goes told how m output had = Leaves how refl (goes_on_moves config before now x how m (c.attempts + c.diversions.remaining) (offered x c) output (same_room (c.attempts + c.diversions.remaining)) had)
+  goes : (update : AttemptUpdate) (how : AttemptEndView) (m : Option MessageView) (output : StepOutput) → So output → Does Last update (Some how) (after_attempt config now x how m (offered x c) output)
+  goes update how m output had = Leaves how refl (goes_on_moves config before now x how m (c.attempts + c.diversions.remaining) (offered x c) output (same_room (c.attempts + c.diversions.remaining)) had)
 
   timed : (how : AttemptEndView) (output : StepOutput) → So output → Does Last Same (Some how) (on_attempt_timeout config now x how (offered x c) output)
   timed how output had = Leaves how refl (goes_on_moves config before now x how None (c.attempts + c.diversions.remaining) (call_without_attempt x (offered x c)) (with_attempt_cancel config x output) (same_room (c.attempts + c.diversions.remaining)) (cancelled_unseen config c.opening.number before x.attempt.invite output had))
@@ -369,7 +369,7 @@ module _ (config : CallConfigView) (now : SnapshotView) (x : OfferedAttempt) (c 
   proceeds_so : x.callee.leg.dialogue.side ≡ Callee → (key : TKey) (m : MessageView) (code : ℕ) (acks : AcksView) (s : StepResult) → code ≡ status_of m.parsed.start → s.call.phase ≡ Offered (attempt_after_provisional x key m code) → s.call.attempts ≡ c.attempts → s.call.diversions.remaining ≡ c.diversions.remaining →
       s.call.acks ≡ acks → acks_after_response config c.opening c.acks (Some m) ≡ acks →
       Adds config.sip c.opening.number before s.output (events_rung x.attempt.number now.at (its_time x) (rings code && not x.attempt.rang)) → Does Last (Passed (Some m)) None s
-  proceeds_so own key m code acks s is phase attempts left now_acks told adds = Waits refl (attempt_after_provisional x key m code) (record {
+  proceeds_so own key m code acks s is phase attempts left now_acks update adds = Waits refl (attempt_after_provisional x key m code) (record {
     phase = phase;
     attempts = attempts;
     remaining = left;
@@ -381,7 +381,7 @@ module _ (config : CallConfigView) (now : SnapshotView) (x : OfferedAttempt) (c 
     side = met_side (early_remote_of x.callee m) x.callee;
     rang = ap (λ code. x.attempt.rang || rings code) is;
     early = met_early (length (to_tag_of m) == 0) x.callee.is_early x.callee.leg m.parsed.lines own;
-    acks = now_acks ∙ sym told;
+    acks = now_acks ∙ sym update;
     service = refl;
     adds = subst (λ code. Adds config.sip c.opening.number before s.output (events_rung x.attempt.number now.at (its_time x) (rings code && not x.attempt.rang))) is adds;
   })
@@ -389,12 +389,12 @@ module _ (config : CallConfigView) (now : SnapshotView) (x : OfferedAttempt) (c 
   -- a reliable response
   relays_if : x.callee.leg.dialogue.side ≡ Callee → (key : TKey) (m : MessageView) (code rseq : ℕ) (given : Option ℕ) (output : StepOutput) → code ≡ status_of m.parsed.start → reliable_number config c.opening m ≡ Some rseq → So output →
       Does Last (Passed (if is_some given then Some m else None)) None (on_numbered_provisional given rseq config now.at x key m code (offered x c) output)
-  relays_if its key m code rseq None output is told had = tried_so key output had
-  relays_if its key m code rseq (Some own) output is told had =
+  relays_if its key m code rseq None output is update had = tried_so key output had
+  relays_if its key m code rseq (Some own) output is update had =
       let passed = with_reliable_response config (offered x c) x.attempt.service own m output in
       let adds = armed_by (rings code && not x.attempt.rang) (its_time x) passed (adds_quiet config.sip c.opening.number before output _ [] refl had) in
       let rung = with_no_reply_timer code now.at x.attempt (offered x c) passed in
-      proceeds_so its key m code (after_relay rseq c.acks) (on_numbered_provisional (Some own) rseq config now.at x key m code (offered x c) output) is refl refl refl refl (ap (λ n. acks_relayed n c.acks) told)
+      proceeds_so its key m code (after_relay rseq c.acks) (on_numbered_provisional (Some own) rseq config now.at x key m code (offered x c) output) is refl refl refl refl (ap (λ n. acks_relayed n c.acks) update)
       (adds_quiet config.sip c.opening.number before rung _ _ (own_deadline config.sip c.opening.number (due.NoPrack own) (now.at + prack_time)) adds)
 
   in_dialog : (is_early : Bool) (leg : Leg) (m : MessageView) → (not is_early || bytes_eq leg.dialogue.remote_tag (to_tag_of m)) ≡ is_in_early (if is_early then Some leg.dialogue.remote_tag else None) m
@@ -403,13 +403,13 @@ module _ (config : CallConfigView) (now : SnapshotView) (x : OfferedAttempt) (c 
 
   proceeds : x.callee.leg.dialogue.side ≡ Callee → (key : TKey) (m : MessageView) (code : ℕ) (number : Option ℕ) (output : StepOutput) → code ≡ status_of m.parsed.start → reliable_number config c.opening m ≡ number → So output →
       Does Last (Passed (if is_relayed_by number (early_tag x.callee) c.acks m then Some m else None)) None (on_provisional_by number config now.at x key m code (offered x c) output)
-  proceeds own key m code None output is told had =
+  proceeds own key m code None output is update had =
       let passed = with_relay_to_caller config (offered x c) x.attempt.service m output in
       let adds = armed_by (rings code && not x.attempt.rang) (its_time x) passed (relayed_unseen config c.opening.number before (offered x c) x.attempt.service m output had) in
-      proceeds_so own key m code c.acks (on_plain_provisional config now.at x key m code (offered x c) output) is refl refl refl refl (ap (λ n. acks_relayed n c.acks) told) adds
-  proceeds own key m code (Some rseq) output is told had =
+      proceeds_so own key m code c.acks (on_plain_provisional config now.at x key m code (offered x c) output) is refl refl refl refl (ap (λ n. acks_relayed n c.acks) update) adds
+  proceeds own key m code (Some rseq) output is update had =
       subst (λ b. Does Last (Passed (if is_some (if b then own_number rseq c.acks else None) then Some m else None)) None (on_numbered_provisional (own_rseq_for rseq x m (offered x c)) rseq config now.at x key m code (offered x c) output))
-      (in_dialog x.callee.is_early x.callee.leg m) (relays_if own key m code rseq (own_rseq_for rseq x m (offered x c)) output is told had)
+      (in_dialog x.callee.is_early x.callee.leg m) (relays_if own key m code rseq (own_rseq_for rseq x m (offered x c)) output is update had)
 
   -- the deadline for the session of a 2xx is of no attempt
   expiries_quiet : (timer : Bool) (time : Option ℕ) (output : StepOutput) → Adds config.sip c.opening.number before output [] →
@@ -418,8 +418,8 @@ module _ (config : CallConfigView) (now : SnapshotView) (x : OfferedAttempt) (c 
   expiries_quiet true (Some time) output had = adds_quiet config.sip c.opening.number before output _ [] (own_deadline config.sip c.opening.number (due.Expired (next_success c)) (now.at + time)) had
   expiries_quiet false time output had = simp append-nil had
 
-  answers : (told : AttemptUpdate) (key : TKey) (m : MessageView) (how : AttemptEndView) (output : StepOutput) → So output → Does Last told (Some how) (on_answer config now.at x key m (offered x c) output)
-  answers told key m how output had =
+  answers : (update : AttemptUpdate) (key : TKey) (m : MessageView) (how : AttemptEndView) (output : StepOutput) → So output → Does Last update (Some how) (on_answer config now.at x key m (offered x c) output)
+  answers update key m how output had =
       let relayed = with_relay_to_caller config (offered x c) x.attempt.service m output in
       let none = adds_quiet config.sip c.opening.number before relayed _ [] (own_deadline config.sip c.opening.number (due.NoAck (next_success c)) (now.at + ack_time)) (relayed_unseen config c.opening.number before (offered x c) x.attempt.service m output had) in
       Leaves how refl (record { marks = []; adds = expiries_quiet config.timer (expiry_interval_of m.parsed.session) _ none; came = refl })
@@ -474,8 +474,8 @@ transition_passes config now x (signal.Due what) c since rung before output own 
 transition_passes config now x (signal.Ended key) c since rung before output own had = waits config now x c before (step_result (without_key key (offered x c)) output) refl refl refl refl had
 
 -- the requests in flight were dismissed before
-dismissed_passes : (at : ℕ) (config : CallConfigView) (x : OfferedAttempt) (c : Call) (before : StepOutput) (last : Option ℕ) (told : AttemptUpdate) (end : Option AttemptEndView) (s : StepResult) → Passes at config x (without_in_flight c) before last told end s → Passes at config x c before last told end s
-dismissed_passes at config x c before last told end s (Waits none y p) = Waits none y (record {
+dismissed_passes : (at : ℕ) (config : CallConfigView) (x : OfferedAttempt) (c : Call) (before : StepOutput) (last : Option ℕ) (update : AttemptUpdate) (end : Option AttemptEndView) (s : StepResult) → Passes at config x (without_in_flight c) before last update end s → Passes at config x c before last update end s
+dismissed_passes at config x c before last update end s (Waits none y p) = Waits none y (record {
   phase = p.phase;
   attempts = p.attempts;
   remaining = p.remaining;
@@ -491,19 +491,19 @@ dismissed_passes at config x c before last told end s (Waits none y p) = Waits n
   service = p.service;
   adds = p.adds;
 })
-dismissed_passes at config x c before last told end s (Leaves how is p) = Leaves how is (record { marks = p.marks; adds = p.adds; came = p.came })
+dismissed_passes at config x c before last update end s (Leaves how is p) = Leaves how is (record { marks = p.marks; adds = p.adds; came = p.came })
 
-passes_if : (at : ℕ) (config : CallConfigView) (x : OfferedAttempt) (c : Call) (before : StepOutput) (last : Option ℕ) (told : AttemptUpdate) (end : Option AttemptEndView) (b : Bool) (one two : StepResult) → Passes at config x c before last told end one → Passes at config x c before last told end two →
-    Passes at config x c before last told end (if b then one else two)
-passes_if at config x c before last told end true one two f g = f
-passes_if at config x c before last told end false one two f g = g
+passes_if : (at : ℕ) (config : CallConfigView) (x : OfferedAttempt) (c : Call) (before : StepOutput) (last : Option ℕ) (update : AttemptUpdate) (end : Option AttemptEndView) (b : Bool) (one two : StepResult) → Passes at config x c before last update end one → Passes at config x c before last update end two →
+    Passes at config x c before last update end (if b then one else two)
+passes_if at config x c before last update end true one two f g = f
+passes_if at config x c before last update end false one two f g = g
 
 pub passes : (config : CallConfigView) (now : SnapshotView) (x : OfferedAttempt) (received : Signal) (c : Call) (since : ℕ) (rung : Option ℕ) (output : StepOutput) → x.callee.leg.dialogue.side ≡ Callee →
     Passes now.at config x c output (last_by x.caller.dialogue.remote_cseq received) (attempt_update config c.opening x.caller.dialogue.remote_cseq (in_progress_of x since rung) c.acks received) (end_of_attempt x (offered x c) received) (step config now received (offered x c) output)
 unfolding step
 passes config now x received c since rung output own =
     let none = adds_nothing config.sip c.opening.number output in
-    let left_desk : StepOutput = output_after_dismissal config (offered x c) output in
+    let remaining_output : StepOutput = output_after_dismissal config (offered x c) output in
     passes_if now.at config x c output (last_by x.caller.dialogue.remote_cseq received) (attempt_update config c.opening x.caller.dialogue.remote_cseq (in_progress_of x since rung) c.acks received) (end_of_attempt x (offered x c) received) (leaves received (offered x c)) _ _
-    (dismissed_passes now.at config x c output _ _ _ _ (transition_passes config now x received (without_in_flight c) since rung output left_desk own (dismissing_unseen config c.opening.number output (offered x c) output none)))
+    (dismissed_passes now.at config x c output _ _ _ _ (transition_passes config now x received (without_in_flight c) since rung output remaining_output own (dismissing_unseen config c.opening.number output (offered x c) output none)))
     (transition_passes config now x received c since rung output output own none)

@@ -71,10 +71,10 @@ module _ (config : CallConfigView) (own : CallNo) (before : StepOutput) where
   pub relayed_unseen : (c : Call) (service : Option Service) (m : MessageView) (output : StepOutput) → Unseen output → Unseen (with_relay_to_caller config c service m output)
   relayed_unseen c service m output had = adds_quiet config.sip own before output _ [] refl had
 
-  pub unheard_unseen : (c : Call) (key : TKey) (m : MessageView) (fault : DialogueFault) (output : StepOutput) → Unseen output → Unseen (with_refused_request config c key m fault output)
-  unheard_unseen c key m (OldCSeq last) output had = adds_quiet config.sip own before output _ [] refl had
-  unheard_unseen c key m Pending output had = adds_quiet config.sip own before output _ [] refl had
-  unheard_unseen c key m Unfinished output had = adds_quiet config.sip own before output _ [] refl had
+  pub refused_request_unseen : (c : Call) (key : TKey) (m : MessageView) (fault : DialogueFault) (output : StepOutput) → Unseen output → Unseen (with_refused_request config c key m fault output)
+  refused_request_unseen c key m (OldCSeq last) output had = adds_quiet config.sip own before output _ [] refl had
+  refused_request_unseen c key m Pending output had = adds_quiet config.sip own before output _ [] refl had
+  refused_request_unseen c key m Unfinished output had = adds_quiet config.sip own before output _ [] refl had
 
   pub unlisted_unseen : (c : Call) (key : TKey) (m : MessageView) (output : StepOutput) → Unseen output → Unseen (with_unlisted_response config c key m output)
   unlisted_unseen c key m output had =

@@ -202,7 +202,7 @@ module _ (x : OfferedAttempt) (since : ℕ) (rung : Option ℕ) (same : x.attemp
   request_ends Caller m = λ i. if is_ok (request_check x.caller m in_flight.Theirs) && is_bye m then end_by events.CallerGaveUp (sym same i) else None
   request_ends Callee m = refl
 
-  same_end : (c : Call) (heard : Signal) → c.acks ≡ acks → observed_end c.opening.key x.caller.dialogue.remote_cseq observed acks heard ≡ end_of_attempt x c heard
+  same_end : (c : Call) (incoming : Signal) → c.acks ≡ acks → observed_end c.opening.key x.caller.dialogue.remote_cseq observed acks incoming ≡ end_of_attempt x c incoming
   same_end c (signal.Request side key request) e = request_ends side request
   same_end c (signal.Ack side ack) e = refl
   same_end c (signal.Cancel key cancel invite) e = λ i. if invite.0 == c.opening.key.0 then end_by events.CallerGaveUp (sym same i) else None
@@ -212,44 +212,44 @@ module _ (x : OfferedAttempt) (since : ℕ) (rung : Option ℕ) (same : x.attemp
   same_end c (signal.Ended key) e = refl
 
 -- by what is observed
-tied_end : (bound : ℕ) (x : OfferedAttempt) (c d : Call) (key : TKey) (last : Option ℕ) (w : ObservedAttempts) (heard : Signal) → c.opening.key ≡ key → c.acks ≡ d.acks → (t : IsTied bound x d last w) →
-    observed_end key last (in_progress_of x t.since t.rung) w.acks heard ≡ end_of_attempt x c heard
-tied_end bound x c d key last w heard own acks t =
+tied_end : (bound : ℕ) (x : OfferedAttempt) (c d : Call) (key : TKey) (last : Option ℕ) (w : ObservedAttempts) (incoming : Signal) → c.opening.key ≡ key → c.acks ≡ d.acks → (t : IsTied bound x d last w) →
+    observed_end key last (in_progress_of x t.since t.rung) w.acks incoming ≡ end_of_attempt x c incoming
+tied_end bound x c d key last w incoming own acks t =
     let g = in_progress_of x t.since t.rung in
-    ap (λ k. observed_end k last g w.acks heard) (sym own) ∙ ap (λ l. observed_end c.opening.key l g w.acks heard) (sym t.latest) ∙ same_end x t.since t.rung t.rang w.acks c heard (acks ∙ t.acks)
+    ap (λ k. observed_end k last g w.acks incoming) (sym own) ∙ ap (λ l. observed_end c.opening.key l g w.acks incoming) (sym t.latest) ∙ same_end x t.since t.rung t.rang w.acks c incoming (acks ∙ t.acks)
 
 -- ---- one step
 
 -- what is observed next, where this is current and this is its end
-next_observed : (config : CallConfigView) (o : Opening) (now : ℕ) (w : ObservedAttempts) (g : AttemptInProgress) (last : Option ℕ) (heard : Signal) (end : Option AttemptEndView) (marks : List AttemptEvent) → w.in_progress ≡ Some g → observed_end o.key last g w.acks heard ≡ end →
-    observed_step config o now w last heard marks ≡ after_events now (observed_after_signal config o now w last g heard end) marks
-next_observed config o now w g last heard end marks e f =
-    ap (λ going. observed_step_from config o now w going last heard marks) e ∙ ap (λ end. after_events now (observed_after_signal config o now w last g heard end) marks) f
+next_observed : (config : CallConfigView) (o : Opening) (now : ℕ) (w : ObservedAttempts) (g : AttemptInProgress) (last : Option ℕ) (incoming : Signal) (end : Option AttemptEndView) (marks : List AttemptEvent) → w.in_progress ≡ Some g → observed_end o.key last g w.acks incoming ≡ end →
+    observed_step config o now w last incoming marks ≡ after_events now (observed_after_signal config o now w last g incoming end) marks
+next_observed config o now w g last incoming end marks e f =
+    ap (λ going. observed_step_from config o now w going last incoming marks) e ∙ ap (λ end. after_events now (observed_after_signal config o now w last g incoming end) marks) f
 
 -- what is observed of a step
 abbrev events_by : CallConfigView → CallNo → (before : StepOutput) → StepResult → List AttemptEvent
 events_by config own before s = events_of config.sip own (items_added before.out s.output.out)
 
-waits_tied : (now bound : ℕ) (config : CallConfigView) (o : Opening) (x y : OfferedAttempt) (c : Call) (before : StepOutput) (last : Option ℕ) (w : ObservedAttempts) (heard : Signal) (s : StepResult) (t : IsTied bound x c last w) →
-    observed_end o.key last (in_progress_of x t.since t.rung) w.acks heard ≡ None →
-    StillWaits now config x c before (last_by x.caller.dialogue.remote_cseq heard) (attempt_update config o x.caller.dialogue.remote_cseq (in_progress_of x t.since t.rung) c.acks heard) s y →
-    IsTied bound y s.call (last_by last heard) (observed_step config o now w last heard (events_by config c.opening.number before s))
-waits_tied now bound config o x y c before last w heard s t none p =
+waits_tied : (now bound : ℕ) (config : CallConfigView) (o : Opening) (x y : OfferedAttempt) (c : Call) (before : StepOutput) (last : Option ℕ) (w : ObservedAttempts) (incoming : Signal) (s : StepResult) (t : IsTied bound x c last w) →
+    observed_end o.key last (in_progress_of x t.since t.rung) w.acks incoming ≡ None →
+    StillWaits now config x c before (last_by x.caller.dialogue.remote_cseq incoming) (attempt_update config o x.caller.dialogue.remote_cseq (in_progress_of x t.since t.rung) c.acks incoming) s y →
+    IsTied bound y s.call (last_by last incoming) (observed_step config o now w last incoming (events_by config c.opening.number before s))
+waits_tied now bound config o x y c before last w incoming s t none p =
     let g : AttemptInProgress = in_progress_of x t.since t.rung in
-    let told : AttemptUpdate = attempt_update config o x.caller.dialogue.remote_cseq g c.acks heard in
-    let here : AttemptUpdate = attempt_update config o last g w.acks heard in
-    let same : told ≡ here = λ i. attempt_update config o (t.latest i) g (t.acks i) heard in
+    let told : AttemptUpdate = attempt_update config o x.caller.dialogue.remote_cseq g c.acks incoming in
+    let here : AttemptUpdate = attempt_update config o last g w.acks incoming in
+    let same : told ≡ here = λ i. attempt_update config o (t.latest i) g (t.acks i) incoming in
     let after : Option ℕ = first_ringing now t.rung here.rings in
     let marks : List AttemptEvent = events_rung x.attempt.number now (its_time x) (told.rings && not x.attempt.rang) in
     let w1 : ObservedAttempts = record w { acks = here.acks } in
     let w2 : ObservedAttempts = record w1 { in_progress = Some (record g { rang_at = after; early = here.early }) } in
     let w3 : ObservedAttempts = record w1 { in_progress = Some (record (in_progress_of x t.since after) { early = here.early }) } in
-    let next : observed_step config o now w last heard (events_by config c.opening.number before s) ≡ w3 =
-    ap (observed_step config o now w last heard) (observed_added config.sip c.opening.number before s.output marks p.adds) ∙ next_observed config o now w g last heard None marks t.in_progress none
+    let next : observed_step config o now w last incoming (events_by config c.opening.number before s) ≡ w3 =
+    ap (observed_step config o now w last incoming) (observed_added config.sip c.opening.number before s.output marks p.adds) ∙ next_observed config o now w g last incoming None marks t.in_progress none
     ∙ ap (λ (a : AttemptUpdate). after_events now w2 (events_rung x.attempt.number now (its_time x) (a.rings && not x.attempt.rang))) same
     ∙ ap (λ b. after_events now w2 (events_rung x.attempt.number now (its_time x) (here.rings && not b))) t.rang
     ∙ rung_next x.attempt.number t.since now (its_time x) t.rung here.rings w1 g.peer g.uri g.branch here.early in
-    subst (λ after. IsTied bound y s.call (last_by last heard) after) (sym next) (record {
+    subst (λ after. IsTied bound y s.call (last_by last incoming) after) (sym next) (record {
       since = t.since;
       rung = after;
       in_progress = λ i. Some (record {
@@ -264,7 +264,7 @@ waits_tied now bound config o x y c before last w heard s t none p =
       rang = p.rang ∙ ap (λ b. b || told.rings) t.rang ∙ ap (λ (a : AttemptUpdate). is_some t.rung || a.rings) same ∙ rang_next now t.rung here.rings;
       leg = p.leg ∙ t.leg ∙ ap (λ (d : Dialogue). d.peer) (sym p.dialogue);
       side = p.side ∙ t.side;
-      latest = p.latest ∙ ap (λ l. last_by l heard) t.latest;
+      latest = p.latest ∙ ap (λ l. last_by l incoming) t.latest;
       acks = p.acks ∙ ap (λ (a : AttemptUpdate). a.acks) same;
       number = p.number ∙ t.number ∙ sym p.attempts;
       few = subst (λ n. n + s.call.diversions.remaining ≤ bound + 1) (sym p.attempts) (subst (λ left. c.attempts + left ≤ bound + 1) (sym p.remaining) t.few);
@@ -281,20 +281,20 @@ all_most number attempts since time None e = (own_most number attempts e, tt)
 all_most number attempts since None (Some first) e = (own_most number attempts e, tt)
 all_most number attempts since (Some time) (Some first) e = (own_most number attempts e, (own_most number attempts e, tt))
 
-leaves_tied : (now bound : ℕ) (config : CallConfigView) (o : Opening) (x : OfferedAttempt) (c : Call) (before : StepOutput) (last : Option ℕ) (w : ObservedAttempts) (heard : Signal) (how : AttemptEndView) (s : StepResult) (t : IsTied bound x c last w) →
-    observed_end o.key last (in_progress_of x t.since t.rung) w.acks heard ≡ Some how →
-    Moves config before now c.opening.number c.attempts c.acks (last_by x.caller.dialogue.remote_cseq heard) (c.attempts + c.diversions.remaining) s →
-    Ties bound s.call.phase s.call (last_by last heard) (observed_step config o now w last heard (events_by config c.opening.number before s))
-leaves_tied now bound config o x c before last w heard how s t ends p =
+leaves_tied : (now bound : ℕ) (config : CallConfigView) (o : Opening) (x : OfferedAttempt) (c : Call) (before : StepOutput) (last : Option ℕ) (w : ObservedAttempts) (incoming : Signal) (how : AttemptEndView) (s : StepResult) (t : IsTied bound x c last w) →
+    observed_end o.key last (in_progress_of x t.since t.rung) w.acks incoming ≡ Some how →
+    Moves config before now c.opening.number c.attempts c.acks (last_by x.caller.dialogue.remote_cseq incoming) (c.attempts + c.diversions.remaining) s →
+    Ties bound s.call.phase s.call (last_by last incoming) (observed_step config o now w last incoming (events_by config c.opening.number before s))
+leaves_tied now bound config o x c before last w incoming how s t ends p =
     let g : AttemptInProgress = in_progress_of x t.since t.rung in
     let w2 : ObservedAttempts = record w { earlier = w.earlier ++ g.armed; in_progress = None } in
-    let next : observed_step config o now w last heard (events_by config c.opening.number before s) ≡ after_events now w2 p.marks =
-    ap (observed_step config o now w last heard) (observed_added config.sip c.opening.number before s.output p.marks p.adds) ∙ next_observed config o now w g last heard (Some how) p.marks t.in_progress ends in
+    let next : observed_step config o now w last incoming (events_by config c.opening.number before s) ≡ after_events now w2 p.marks =
+    ap (observed_step config o now w last incoming) (observed_added config.sip c.opening.number before s.output p.marks p.adds) ∙ next_observed config o now w g last incoming (Some how) p.marks t.in_progress ends in
     let armed : Each (AtMost c.attempts) g.armed = all_most x.attempt.number c.attempts t.since (its_time x) t.rung t.number in
     let earlier : Each (AtMost c.attempts) w2.earlier = each_append (AtMost c.attempts) w.earlier g.armed t.least armed in
-    subst (λ after. Ties bound s.call.phase s.call (last_by last heard) after) (sym next)
-    (subst (λ l. Ties bound s.call.phase s.call (last_by l heard) (after_events now w2 p.marks)) t.latest
-    (came_ties now bound (c.attempts + c.diversions.remaining) s.call.phase c.attempts c.acks (last_by x.caller.dialogue.remote_cseq heard) s.call w2 p.marks p.came t.few t.acks refl earlier t.most))
+    subst (λ after. Ties bound s.call.phase s.call (last_by last incoming) after) (sym next)
+    (subst (λ l. Ties bound s.call.phase s.call (last_by l incoming) (after_events now w2 p.marks)) t.latest
+    (came_ties now bound (c.attempts + c.diversions.remaining) s.call.phase c.attempts c.acks (last_by x.caller.dialogue.remote_cseq incoming) s.call w2 p.marks p.came t.few t.acks refl earlier t.most))
 
 passes_tied : (s : TraceStart) (o : Opening) (x : TraceStep) (trial : OfferedAttempt) (c : Call) (last : Option ℕ) (w : ObservedAttempts) (end : Option AttemptEndView) (new : StepResult) (t : IsTied s.config.bound trial c last w) → observed_end o.key last (in_progress_of trial t.since t.rung) w.acks x.signal ≡ end →
     Passes x.now.at s.config trial c x.output (last_by trial.caller.dialogue.remote_cseq x.signal) (attempt_update s.config o trial.caller.dialogue.remote_cseq (in_progress_of trial t.since t.rung) c.acks x.signal) end new →
@@ -321,11 +321,11 @@ goes_unoffered : (at : ℕ) (c : Call) (rows : List Row) (s : StepResult) → go
 goes_unoffered at c rows s (going.Continues r) = established_unoffered s.call.phase r.established
 goes_unoffered at c rows s (going.Ends r) = ap is_offered r.over
 
-none_next : (now bound : ℕ) (config : CallConfigView) (o : Opening) (heard : Signal) (w : ObservedAttempts) (last : Option ℕ) (new : Call) (marks : List AttemptEvent) → is_offered new.phase ≡ false → w.in_progress ≡ None →
-    Ties bound new.phase new (last_by last heard) (observed_step config o now w last heard marks)
-none_next now bound config o heard w last new marks unoffered none =
-    let same : observed_step config o now w last heard marks ≡ w = ap (λ going. observed_step_from config o now w going last heard marks) none in
-    untied bound new.phase new (last_by last heard) (observed_step config o now w last heard marks) unoffered (ap (λ (w : ObservedAttempts). w.in_progress) same ∙ none)
+none_next : (now bound : ℕ) (config : CallConfigView) (o : Opening) (incoming : Signal) (w : ObservedAttempts) (last : Option ℕ) (new : Call) (marks : List AttemptEvent) → is_offered new.phase ≡ false → w.in_progress ≡ None →
+    Ties bound new.phase new (last_by last incoming) (observed_step config o now w last incoming marks)
+none_next now bound config o incoming w last new marks unoffered none =
+    let same : observed_step config o now w last incoming marks ≡ w = ap (λ going. observed_step_from config o now w going last incoming marks) none in
+    untied bound new.phase new (last_by last incoming) (observed_step config o now w last incoming marks) unoffered (ap (λ (w : ObservedAttempts). w.in_progress) same ∙ none)
 
 next_tied : (law : CallsContinue) (p : Phase) (s : TraceStart) (x : TraceStep) (c : Call) (last : Option ℕ) (w : ObservedAttempts) → c.opening ≡ opening_in s → (is_over p ≡ true → c.relayed ≡ []) → Ties s.config.bound p c last w →
     let new = next_step s x (record c { phase = p }) in
@@ -375,7 +375,7 @@ tied_first s =
     subst (λ marks. Ties s.config.bound (first_step s).call.phase (first_step s).call (first_last s) (after_events s.now.at (nothing_so s) marks)) (sym (observed_added s.config.sip s.arrival.number s.output (first_step s).output p.marks p.adds))
     (came_ties s.now.at s.config.bound (s.config.bound + 1) (first_step s).call.phase 0 (nothing_so s).acks (first_last s) (first_step s).call (nothing_so s) p.marks p.came (one_room (s.config.bound + 1)) refl refl tt (omega arith))
 
-tied : CallsContinue → (s : TraceStart) (heard : List TraceStep) → Ties s.config.bound (call_after s heard).phase (call_after s heard) (last_after_all s heard) (observed_after s heard)
+tied : CallsContinue → (s : TraceStart) (incoming : List TraceStep) → Ties s.config.bound (call_after s incoming).phase (call_after s incoming) (last_after_all s incoming) (observed_after s incoming)
 unfolding call_after last_after_all observed_after
 tied law s [] = tied_first s
 tied law s (x ∷ earlier) =
@@ -410,16 +410,16 @@ is_observed bound time (Detached detached) c last w its t = t
 is_observed bound time (Over cause) c last w its t = t
 
 pub attempts_are_observed : CallsContinue → AttemptsAreObserved
-attempts_are_observed law s heard =
-    is_observed s.config.bound (no_reply_after s heard) (call_after s heard).phase (call_after s heard) (last_after_all s heard) (observed_after s heard) (λ x offered. ap no_reply_time_of (law.sheet_of s heard x offered)) (tied law s heard)
+attempts_are_observed law s incoming =
+    is_observed s.config.bound (no_reply_after s incoming) (call_after s incoming).phase (call_after s incoming) (last_after_all s incoming) (observed_after s incoming) (λ x offered. ap no_reply_time_of (law.sheet_of s incoming x offered)) (tied law s incoming)
 
 -- ---- the endings
 
-same_ending : (bound : ℕ) (p : Phase) (c : Call) (key : TKey) (last : Option ℕ) (w : ObservedAttempts) (heard : Signal) → c.opening.key ≡ key → Ties bound p c last w → end_in p c heard ≡ end_observed key last w heard
-same_ending bound (Offered x) c key last w heard own t = sym (tied_end bound x c c key last w heard own refl t) ∙ ap (λ o. observed_end_in key last o w.acks heard) (sym t.in_progress)
-same_ending bound (Established x stage) c key last w heard own t = ap (λ o. observed_end_in key last o w.acks heard) (sym t)
-same_ending bound (Detached detached) c key last w heard own t = ap (λ o. observed_end_in key last o w.acks heard) (sym t)
-same_ending bound (Over cause) c key last w heard own t = ap (λ o. observed_end_in key last o w.acks heard) (sym t)
+same_ending : (bound : ℕ) (p : Phase) (c : Call) (key : TKey) (last : Option ℕ) (w : ObservedAttempts) (incoming : Signal) → c.opening.key ≡ key → Ties bound p c last w → end_in p c incoming ≡ end_observed key last w incoming
+same_ending bound (Offered x) c key last w incoming own t = sym (tied_end bound x c c key last w incoming own refl t) ∙ ap (λ o. observed_end_in key last o w.acks incoming) (sym t.in_progress)
+same_ending bound (Established x stage) c key last w incoming own t = ap (λ o. observed_end_in key last o w.acks incoming) (sym t)
+same_ending bound (Detached detached) c key last w incoming own t = ap (λ o. observed_end_in key last o w.acks incoming) (sym t)
+same_ending bound (Over cause) c key last w incoming own t = ap (λ o. observed_end_in key last o w.acks incoming) (sym t)
 
 pub endings_are_observed : CallsContinue → EndingsAreObserved
 unfolding endings_after endings_observed

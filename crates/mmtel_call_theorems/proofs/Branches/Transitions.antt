@@ -225,10 +225,10 @@ module _ (asked : (method branch : List ℕ) → Peer → Type 0) (config : Call
   relayed_in : (c : Call) (service : Option Service) (m : MessageView) (output : StepOutput) → Counted output → Counted (with_relay_to_caller config c service m output)
   relayed_in c service m output had = emit_in _ output (λ n. refl) had
 
-  unheard_in : (c : Call) (key : TKey) (m : MessageView) (fault : DialogueFault) (output : StepOutput) → Counted output → Counted (with_refused_request config c key m fault output)
-  unheard_in c key m (OldCSeq last) output had = emit_in _ output (λ n. refl) had
-  unheard_in c key m Pending output had = emit_in _ output (λ n. refl) had
-  unheard_in c key m Unfinished output had = emit_in _ output (λ n. refl) had
+  refused_request_in : (c : Call) (key : TKey) (m : MessageView) (fault : DialogueFault) (output : StepOutput) → Counted output → Counted (with_refused_request config c key m fault output)
+  refused_request_in c key m (OldCSeq last) output had = emit_in _ output (λ n. refl) had
+  refused_request_in c key m Pending output had = emit_in _ output (λ n. refl) had
+  refused_request_in c key m Unfinished output had = emit_in _ output (λ n. refl) had
 
   unlisted_by : (b d : Bool) (one two three : StepOutput) → Counted one → Counted two → Counted three → Counted (if b then one else if d then two else three)
   unlisted_by true d one two three x y z = x
@@ -431,21 +431,21 @@ module _ (asked : (method branch : List ℕ) → Peer → Type 0) (config : Call
       if_good (is_status (status_of m.parsed.start) (relayed_status cause)) (call_end at cause caller.meter None c (with_relay_to_caller config c service m output)) (call_refusal config at caller cause c output)
       (over_good at cause caller.meter None c (with_relay_to_caller config c service m output) k (relayed_in c service m output had)) (refused_good at caller cause c output k had)
 
-  offer_good : (at : ℕ) (caller : Leg) (service : Option Service) (waiting : Bool) (aim : Destination) (c : Call) (output : StepOutput) → Others c → Counted output → Good (attempt_start config at caller service waiting aim c output)
-  offer_good at caller service waiting aim c output k had =
+  offer_good : (at : ℕ) (caller : Leg) (service : Option Service) (waiting : Bool) (destination : Destination) (c : Call) (output : StepOutput) → Others c → Counted output → Good (attempt_start config at caller service waiting destination c output)
+  offer_good at caller service waiting destination c output k had =
       let o = c.opening in
-      let shown : List Line = attempt_lines config o c.diversions service aim.peer in
-      let d : Dialogue = attempt_dialog_of o aim output in
+      let shown : List Line = attempt_lines config o c.diversions service destination.peer in
+      let d : Dialogue = attempt_dialog_of o destination output in
       let third : StepOutput = after_draw (after_draw output) in
       let m : Message Start = invite_of d config.sip (token third) shown waiting o.invite.parsed in
       let is : IsInvite config.sip (token third) m = record { dialogue = d; number = 1; parts = relayed_parts config.sip (token third) (shown ++ alert_lines waiting) o.invite.parsed; is = refl; from_there = refl; has_it = refl } in
-      let offered : StepOutput = with_emit (emit.Ask aim.peer m) (after_draw third) in
+      let offered : StepOutput = with_emit (emit.Ask destination.peer m) (after_draw third) in
       let arm : Emit = emit.Arm o.number (due.Cap (next_attempt c)) (at + max_attempt_time) in
       record {
         call_in = λ each.
-            let was : sent (token third) aim.peer = each_last AskWasSent output.out (emit.Ask aim.peer m) (each_front AskWasSent offered.out (arm ∷ []) each) (codes "INVITE") (token third) is in
+            let was : sent (token third) destination.peer = each_last AskWasSent output.out (emit.Ask destination.peer m) (each_front AskWasSent offered.out (arm ∷ []) each) (codes "INVITE") (token third) is in
             record { phase_in = (was, was); others_in = k };
-        output_in = emit_in arm offered (λ n. refl) (asked_in (codes "INVITE") aim.peer m third refl is (drew_in (after_draw output) (drew_in output had)));
+        output_in = emit_in arm offered (λ n. refl) (asked_in (codes "INVITE") destination.peer m third refl is (drew_in (after_draw output) (drew_in output had)));
       }
 
   abbrev Diverts : ℕ → SnapshotView → Leg → Type 0
@@ -614,7 +614,7 @@ module _ (asked : (method branch : List ℕ) → Peer → Type 0) (config : Call
   request_if_transition : (r : Result (Unit {0}) DialogueFault) (at : ℕ) (x : OfferedAttempt) (side : Side) (key : TKey) (m : MessageView) (c : Call) (output : StepOutput) →
       AtOffered x → Others c → Counted output → Good (on_request_if r config at x side key m (offered_call x c) output)
   request_if_transition (Ok received) at x side key m c output t k had = received_transition at (attempt_after_request side m x) side key m c output (received_by_sent side m x t) k had
-  request_if_transition (Err fault) at x side key m c output t k had = onward_good (offered_call x c) (with_refused_request config (offered_call x c) key m fault output) t k (unheard_in (offered_call x c) key m fault output had)
+  request_if_transition (Err fault) at x side key m c output t k had = onward_good (offered_call x c) (with_refused_request config (offered_call x c) key m fault output) t k (refused_request_in (offered_call x c) key m fault output had)
 
   request_transition : (at : ℕ) (x : OfferedAttempt) (side : Side) (key : TKey) (m : MessageView) (c : Call) (output : StepOutput) → AtOffered x → Others c → Counted output → Good (on_request config at x side key m (offered_call x c) output)
   request_transition at x side key m c output t k had = request_if_transition (offered_request_check x side m) at x side key m c output t k had
@@ -624,8 +624,8 @@ module _ (asked : (method branch : List ℕ) → Peer → Type 0) (config : Call
   bye_to_in : (x : EstablishedLegs) (side : Side) (output : StepOutput) → Counted output → Counted (with_bye_to config x side output)
   bye_to_in x side output had = bye_in (leg_of side x).dialogue output had
 
-  acked_left_in : (x : EstablishedLegs) (side : Side) (output : StepOutput) → Counted output → Counted (with_ack_and_bye config x side output)
-  acked_left_in x side output had = bye_to_in x side (with_ack config.sip (leg_of side x).dialogue output) (acked_in (leg_of side x).dialogue output had)
+  acked_remaining_in : (x : EstablishedLegs) (side : Side) (output : StepOutput) → Counted output → Counted (with_ack_and_bye config x side output)
+  acked_remaining_in x side output had = bye_to_in x side (with_ack config.sip (leg_of side x).dialogue output) (acked_in (leg_of side x).dialogue output had)
 
   over_established_good : (at : ℕ) (x : EstablishedLegs) (c : Call) (output : StepOutput) → Others c → Counted output → Good (established_call_end at x c output)
   over_established_good at x c output k had = over_good at causes.Ended x.caller.meter x.callee.meter c output k had
@@ -656,12 +656,12 @@ module _ (asked : (method branch : List ℕ) → Peer → Type 0) (config : Call
 
   unacknowledged_good : (at : ℕ) (x : EstablishedLegs) (side : Side) (c : Call) (output : StepOutput) → Others c → Counted output → Good (after_ack_timeout config at x side c output)
   unacknowledged_good at x side c output k had =
-      over_established_good at x c (with_bye_to config x side (with_ack_and_bye config x (other_side side) output)) k (bye_to_in x side (with_ack_and_bye config x (other_side side) output) (acked_left_in x (other_side side) output had))
+      over_established_good at x c (with_bye_to config x side (with_ack_and_bye config x (other_side side) output)) k (bye_to_in x side (with_ack_and_bye config x (other_side side) output) (acked_remaining_in x (other_side side) output had))
 
   bye_before_good : (at : ℕ) (x : EstablishedLegs) (waiting : Side) (success : Success) (side : Side) (c : Call) (output : StepOutput) → Others c → Counted output → Good (after_bye_before_ack config at x waiting success side c output)
   bye_before_good at x waiting success side c output k had =
       if_good (is_same_side waiting side) (established_call_end at x c (with_ack_and_bye config x (other_side side) output)) (step_result (at_stage x (Departing waiting success) c) output)
-      (over_established_good at x c (with_ack_and_bye config x (other_side side) output) k (acked_left_in x (other_side side) output had))
+      (over_established_good at x c (with_ack_and_bye config x (other_side side) output) k (acked_remaining_in x (other_side side) output had))
       (staged_good x (Departing waiting success) c output tt k had)
 
   -- an INVITE is relayed
@@ -814,7 +814,7 @@ module _ (asked : (method branch : List ℕ) → Peer → Type 0) (config : Call
   request_at_if_transition : (r : Result (Unit {0}) DialogueFault) (stage : Stage) (at : ℕ) (x : EstablishedLegs) (side : Side) (key : TKey) (m : MessageView) (c : Call) (output : StepOutput) →
       AtStage x stage → Others c → Counted output → Good (on_request_at_if r stage config at x side key m (established x stage c) output)
   request_at_if_transition (Ok received) stage at x side key m c output e k had = received_at_transition stage at (with_leg side (leg_after_receiving (leg_of side x) m) x) side key m c output (stage_received stage side m x e) k had
-  request_at_if_transition (Err fault) stage at x side key m c output e k had = staged_good x stage c (with_refused_request config (established x stage c) key m fault output) e k (unheard_in (established x stage c) key m fault output had)
+  request_at_if_transition (Err fault) stage at x side key m c output e k had = staged_good x stage c (with_refused_request config (established x stage c) key m fault output) e k (refused_request_in (established x stage c) key m fault output had)
 
   request_at_transition : (stage : Stage) (at : ℕ) (x : EstablishedLegs) (side : Side) (key : TKey) (m : MessageView) (c : Call) (output : StepOutput) → AtStage x stage → Others c → Counted output → Good (on_request_at stage config at x side key m (established x stage c) output)
   request_at_transition stage at x side key m c output e k had = request_at_if_transition (request_check (leg_of side x) m (busy_in stage side)) stage at x side key m c output e k had

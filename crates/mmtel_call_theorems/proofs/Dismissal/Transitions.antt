@@ -212,8 +212,8 @@ module _ (config : CallConfigView) where
         by true = quiet_stays received (offered x c) output _ (record { attempts = refl; over = refl; in_flight = refl })
         by false = goes_on_leaves now x (NotReachable 408) None (offered x c) output
 
-    same : (x : OfferedAttempt) (c : Call) (output told : StepOutput) → Stays received (offered x c) output (step_result (offered x c) told)
-    same x c output told = quiet_stays received (offered x c) output _ (record { attempts = refl; over = refl; in_flight = refl })
+    same : (x : OfferedAttempt) (c : Call) (output notified : StepOutput) → Stays received (offered x c) output (step_result (offered x c) notified)
+    same x c output notified = quiet_stays received (offered x c) output _ (record { attempts = refl; over = refl; in_flight = refl })
 
     timed_out_leaves : (now : SnapshotView) (x : OfferedAttempt) (how : AttemptEndView) (c : Call) (output : StepOutput) → Leaves c (on_attempt_timeout config now x how c output)
     timed_out_leaves now x how c output = goes_on_leaves now x how None (call_without_attempt x c) (with_attempt_cancel config x output)
@@ -258,7 +258,7 @@ module _ (config : CallConfigView) where
         Stays request c output (across d output) → Stays request c output (unless_updating o across config side key m d output)
     unless_stays None across c d output e f g is = is
     unless_stays (Some other) across c d output e f g is =
-        let still : (told : StepOutput) → Stays request c output (step_result d told) = λ told. quiet_stays request c output _ (record { attempts = e; over = f; in_flight = g }) in
+        let still : (notified : StepOutput) → Stays request c output (step_result d notified) = λ notified. quiet_stays request c output _ (record { attempts = e; over = f; in_flight = g }) in
         stays_if request (is_same_side other side) c output (on_early_retry config key m d output) (on_glare config key m d output) (still _) (still _)
 
     -- of an offered call
@@ -269,8 +269,8 @@ module _ (config : CallConfigView) where
         by Caller = refl
         by Callee = refl
 
-    still_offered : (x y : OfferedAttempt) (c : Call) (output told : StepOutput) → Stays request (offered x c) output (step_result (offered y c) told)
-    still_offered x y c output told = quiet_stays request (offered x c) output _ (record { attempts = refl; over = refl; in_flight = refl })
+    still_offered : (x y : OfferedAttempt) (c : Call) (output notified : StepOutput) → Stays request (offered x c) output (step_result (offered y c) notified)
+    still_offered x y c output notified = quiet_stays request (offered x c) output _ (record { attempts = refl; over = refl; in_flight = refl })
 
     update_stays : (x y : OfferedAttempt) (c : Call) (output : StepOutput) → other_dialogue (Offered x) side ≡ Some (other_leg side y).dialogue → Stays request (offered x c) output (on_update config y side key m (offered y c) output)
     update_stays x y c output across =
@@ -323,11 +323,11 @@ module _ (config : CallConfigView) where
         y : OfferedAttempt
         y = attempt_after_request Caller m x
 
-        told : StepOutput
-        told = with_status_to config (offered y c) key m 200 output
+        notified : StepOutput
+        notified = with_status_to config (offered y c) key m 200 output
 
-        by : (bye : Bool) → StepKind received (bye && is_in_order x.caller.dialogue m) (offered x c) output (if bye then on_caller_cancel config at y (offered y c) told else on_other config y Caller key m (offered y c) output)
-        by true = subst (λ (b : Bool). StepKind received b (offered x c) output (on_caller_cancel config at y (offered y c) told)) (sym ordered) (inl refl)
+        by : (bye : Bool) → StepKind received (bye && is_in_order x.caller.dialogue m) (offered x c) output (if bye then on_caller_cancel config at y (offered y c) notified else on_other config y Caller key m (offered y c) output)
+        by true = subst (λ (b : Bool). StepKind received b (offered x c) output (on_caller_cancel config at y (offered y c) notified)) (sym ordered) (inl refl)
         by false = other_stays Caller x y c output refl
 
     request_transition : (r : Result (Unit {0}) DialogueFault) (at : ℕ) (side : Side) (x : OfferedAttempt) (c : Call) (output : StepOutput) → offered_request_check x side m ≡ r →
@@ -343,8 +343,8 @@ module _ (config : CallConfigView) where
   stood x stage c = record c { phase = Established x stage }
 
   module _ (side : Side) (key : TKey) (m : MessageView) where
-    still_established : (x y : EstablishedLegs) (stage after : Stage) (c : Call) (output told : StepOutput) → Stays (signal.Request side key m) (stood x stage c) output (step_result (stood y after c) told)
-    still_established x y stage after c output told = quiet_stays (signal.Request side key m) (stood x stage c) output _ (record { attempts = refl; over = refl; in_flight = refl })
+    still_established : (x y : EstablishedLegs) (stage after : Stage) (c : Call) (output notified : StepOutput) → Stays (signal.Request side key m) (stood x stage c) output (step_result (stood y after c) notified)
+    still_established x y stage after c output notified = quiet_stays (signal.Request side key m) (stood x stage c) output _ (record { attempts = refl; over = refl; in_flight = refl })
 
     invite_quiet : (stage : Stage) (x y : EstablishedLegs) (c : Call) (output : StepOutput) → IsQuiet (stood x stage c) (on_invite stage config y side key m (stood y stage c) output)
     invite_quiet (Answered waiting success) x y c output = record { attempts = refl; over = refl; in_flight = refl }
@@ -416,8 +416,8 @@ module _ (config : CallConfigView) where
         (record { attempts = refl; over = refl; in_flight = refl })
 
   module _ (received : Signal) where
-    standing : (x : EstablishedLegs) (stage after : Stage) (c : Call) (output told : StepOutput) → Stays received (stood x stage c) output (step_result (stood x after c) told)
-    standing x stage after c output told = quiet_stays received (stood x stage c) output _ (record { attempts = refl; over = refl; in_flight = refl })
+    standing : (x : EstablishedLegs) (stage after : Stage) (c : Call) (output notified : StepOutput) → Stays received (stood x stage c) output (step_result (stood x after c) notified)
+    standing x stage after c output notified = quiet_stays received (stood x stage c) output _ (record { attempts = refl; over = refl; in_flight = refl })
 
     ack_transition : (stage : Stage) (at : ℕ) (x : EstablishedLegs) (side : Side) (m : MessageView) (c : Call) (output : StepOutput) →
         StepKind received (leaves_on_ack_at stage side m) (stood x stage c) output (on_ack_at stage config at x side m (stood x stage c) output)
@@ -429,12 +429,12 @@ module _ (config : CallConfigView) where
     ack_transition Stable at x side m c output = standing x Stable Stable c output output
     ack_transition (Reinviting asking q) at x side m c output = standing x (Reinviting asking q) (Reinviting asking q) c output output
 
-    cancel_at_stays : (stage : Stage) (x : EstablishedLegs) (invite : TKey) (c : Call) (output told : StepOutput) → Stays received (stood x stage c) output (on_cancel_at stage config x invite (stood x stage c) told)
-    cancel_at_stays (Answered waiting success) x invite c output told = standing x (Answered waiting success) (Answered waiting success) c output told
-    cancel_at_stays (Departing waiting success) x invite c output told = standing x (Departing waiting success) (Departing waiting success) c output told
-    cancel_at_stays Stable x invite c output told = standing x Stable Stable c output told
-    cancel_at_stays (Reinviting asking q) x invite c output told =
-        stays_if received (invite.0 == q.key.0) (stood x (Reinviting asking q) c) output _ _ (standing x (Reinviting asking q) _ c output _) (standing x (Reinviting asking q) (Reinviting asking q) c output told)
+    cancel_at_stays : (stage : Stage) (x : EstablishedLegs) (invite : TKey) (c : Call) (output notified : StepOutput) → Stays received (stood x stage c) output (on_cancel_at stage config x invite (stood x stage c) notified)
+    cancel_at_stays (Answered waiting success) x invite c output notified = standing x (Answered waiting success) (Answered waiting success) c output notified
+    cancel_at_stays (Departing waiting success) x invite c output notified = standing x (Departing waiting success) (Departing waiting success) c output notified
+    cancel_at_stays Stable x invite c output notified = standing x Stable Stable c output notified
+    cancel_at_stays (Reinviting asking q) x invite c output notified =
+        stays_if received (invite.0 == q.key.0) (stood x (Reinviting asking q) c) output _ _ (standing x (Reinviting asking q) _ c output _) (standing x (Reinviting asking q) (Reinviting asking q) c output notified)
 
     across_transition : (at : ℕ) (x : EstablishedLegs) (side : Side) (q : Reinvite) (key : TKey) (m : MessageView) (code : ℕ) (c : Call) (output : StepOutput) →
         StepKind received (ends_dialog code) (stood x (Reinviting side q) c) output (on_response_across config at x side q key m code (stood x (Reinviting side q) c) output)
@@ -478,8 +478,8 @@ module _ (config : CallConfigView) where
 
     -- ---- requests for which the call does not wait
 
-    onward_stays : (c : Call) (output told : StepOutput) → Stays received c output (step_result c told)
-    onward_stays c output told = quiet_stays received c output _ (record { attempts = refl; over = refl; in_flight = refl })
+    onward_stays : (c : Call) (output notified : StepOutput) → Stays received c output (step_result c notified)
+    onward_stays c output notified = quiet_stays received c output _ (record { attempts = refl; over = refl; in_flight = refl })
 
     abandoned_stays : (key : TKey) (m : MessageView) (place : ℕ) (o : Option AbandonedInvite) (c : Call) (output : StepOutput) → Stays received c output (on_response_abandoned config key m place o c output)
     abandoned_stays key m place None c output = onward_stays c output output
@@ -494,12 +494,12 @@ module _ (config : CallConfigView) where
 
     -- a request in flight gets its final response
 
-    agreed_stays : (kind : RelayedKind) (at : ℕ) (side : Side) (before response : MessageView) (place : ℕ) (flight : RelayedTransaction) (final : Message Start) (c : Call) (output told : StepOutput) →
-        slice_get c.relayed place ≡ Some flight → told.out ≡ output.out ++ emit.Reply flight.exchange.key final ∷ [] →
-        Stays received c output (flying.on_accepted_in_flight kind config at side before response (without_transaction place c) told)
-    agreed_stays Prack at side before response place flight final c output told there out =
+    agreed_stays : (kind : RelayedKind) (at : ℕ) (side : Side) (before response : MessageView) (place : ℕ) (flight : RelayedTransaction) (final : Message Start) (c : Call) (output notified : StepOutput) →
+        slice_get c.relayed place ≡ Some flight → notified.out ≡ output.out ++ emit.Reply flight.exchange.key final ∷ [] →
+        Stays received c output (flying.on_accepted_in_flight kind config at side before response (without_transaction place c) notified)
+    agreed_stays Prack at side before response place flight final c output notified there out =
         record { attempts = refl; over = refl; flies = dismissal.OneAnswered place flight (record { there = there; gone = refl; final = final; more = []; out = out }) }
-    agreed_stays Update at side before response place flight final c output told there out =
+    agreed_stays Update at side before response place flight final c output notified there out =
         let arms : List Emit = expiries config.timer at response (without_transaction place c) in
         record {
           attempts = refl;
@@ -648,5 +648,5 @@ module _ (config : CallConfigView) where
   opened_none now a output =
       let c : Call = new_call config (opening_of config now (token output) a) in
       let caller : Leg = caller_of now.at c in
-      let told : StepOutput = with_status_to_caller config c 100 (after_draw output) in
-      none_left c (unless_refused (opening_refusal config now.at c.opening) config now caller c told) refl (unless_refused_leaves (opening_refusal config now.at c.opening) now caller c told)
+      let notified : StepOutput = with_status_to_caller config c 100 (after_draw output) in
+      none_left c (unless_refused (opening_refusal config now.at c.opening) config now caller c notified) refl (unless_refused_leaves (opening_refusal config now.at c.opening) now caller c notified)

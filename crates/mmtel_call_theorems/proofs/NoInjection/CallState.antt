@@ -204,10 +204,10 @@ allowed_by true true = refl
 pub allowed_no_injection : (methods : FurtherMethods) → LinesHaveNoInjection (allow_lines methods)
 allowed_no_injection methods = allowed_by methods.reliable methods.mwi
 
-pub unheard_no_injection : (acks : List ReceivedAck) (config : CallConfigView) (c : Call) (key : TKey) (m : MessageView) (fault : DialogueFault) (output : StepOutput) → CallHasNoInjection acks c → ParsedMessageHasNoInjection m.parsed → OutputHasNoInjection acks output → OutputHasNoInjection acks (with_refused_request config c key m fault output)
-unheard_no_injection acks config c key m (OldCSeq last) output k is had = replied_to_no_injection acks config c key m 500 output k is had
-unheard_no_injection acks config c key m Pending output k is had = replied_to_no_injection acks config c key m 491 output k is had
-unheard_no_injection acks config c key m Unfinished output k is had = answered_to_no_injection acks config c key m 500 retry_after_lines output k is refl had
+pub refused_request_no_injection : (acks : List ReceivedAck) (config : CallConfigView) (c : Call) (key : TKey) (m : MessageView) (fault : DialogueFault) (output : StepOutput) → CallHasNoInjection acks c → ParsedMessageHasNoInjection m.parsed → OutputHasNoInjection acks output → OutputHasNoInjection acks (with_refused_request config c key m fault output)
+refused_request_no_injection acks config c key m (OldCSeq last) output k is had = replied_to_no_injection acks config c key m 500 output k is had
+refused_request_no_injection acks config c key m Pending output k is had = replied_to_no_injection acks config c key m 491 output k is had
+refused_request_no_injection acks config c key m Unfinished output k is had = answered_to_no_injection acks config c key m 500 retry_after_lines output k is refl had
 
 pub unlisted_no_injection : (acks : List ReceivedAck) (config : CallConfigView) (c : Call) (key : TKey) (m : MessageView) (output : StepOutput) → CallHasNoInjection acks c → ParsedMessageHasNoInjection m.parsed → OutputHasNoInjection acks output → OutputHasNoInjection acks (with_unlisted_response config c key m output)
 unlisted_no_injection acks config c key m output k is had =

@@ -77,24 +77,24 @@ destination_no_injection o peer (Some cause) target is e = diverted_dest_no_inje
 pub called_no_injection : (d : Dialogue) → DialogueHasNoInjection d → DialogueHasNoInjection (as_callee d)
 called_no_injection d is = record { call_id_in = is.call_id_in; local_in = is.local_in; remote_in = is.remote_in; tag_in = is.tag_in; target_in = is.target_in; routes_in = refl }
 
-offer_no_injection : (acks : List ReceivedAck) (config : CallConfigView) (at : ℕ) (caller : Leg) (service : Option Service) (waiting : Bool) (aim : Destination) (c : Call) (output : StepOutput) →
-    DestinationHasNoInjection aim → LegDialogHasNoInjection caller.dialogue → Serves service → CallHasNoInjection acks c → OutputHasNoInjection acks output → StepHasNoInjection acks (attempt_start config at caller service waiting aim c output)
-offer_no_injection acks config at caller service waiting aim c output is first serves k had =
+offer_no_injection : (acks : List ReceivedAck) (config : CallConfigView) (at : ℕ) (caller : Leg) (service : Option Service) (waiting : Bool) (destination : Destination) (c : Call) (output : StepOutput) →
+    DestinationHasNoInjection destination → LegDialogHasNoInjection caller.dialogue → Serves service → CallHasNoInjection acks c → OutputHasNoInjection acks output → StepHasNoInjection acks (attempt_start config at caller service waiting destination c output)
+offer_no_injection acks config at caller service waiting destination c output is first serves k had =
     let invite = c.opening.invite in
-    let dialog : DialogueHasNoInjection (attempt_dialog_of c.opening aim output) = attempt_no_injection acks aim invite.parsed c.opening.restricted output is k.opening_in.invite_in had in
-    let shown = attempt_lines config c.opening c.diversions service aim.peer in
-    let sent : OutputHasNoInjection acks (with_attempt_invite config.sip aim invite.parsed c.opening.restricted shown waiting output) =
-    offered_no_injection acks config.sip aim invite.parsed c.opening.restricted shown waiting output is k.opening_in.invite_in
-    (offered_to_no_injection config c.opening c.diversions service aim.peer k.history_in k.opening_in.invite_in) had in
+    let dialog : DialogueHasNoInjection (attempt_dialog_of c.opening destination output) = attempt_no_injection acks destination invite.parsed c.opening.restricted output is k.opening_in.invite_in had in
+    let shown = attempt_lines config c.opening c.diversions service destination.peer in
+    let sent : OutputHasNoInjection acks (with_attempt_invite config.sip destination invite.parsed c.opening.restricted shown waiting output) =
+    offered_no_injection acks config.sip destination invite.parsed c.opening.restricted shown waiting output is k.opening_in.invite_in
+    (offered_to_no_injection config c.opening c.diversions service destination.peer k.history_in k.opening_in.invite_in) had in
     record {
       kept = k;
       phase = record {
         caller_in = first;
-        callee_in = (called_no_injection (attempt_dialog_of c.opening aim output) dialog, token_no_injection acks (after_draw output) had);
+        callee_in = (called_no_injection (attempt_dialog_of c.opening destination output) dialog, token_no_injection acks (after_draw output) had);
         service_in = serves;
         sent_in = record { dialogue_in = dialog; branch_in = token_no_injection acks (after_draw (after_draw output)) had; ack_in = tt; forks_in = tt; early_in = tt };
       };
-      output = emit_no_injection acks (emit.Arm c.opening.number (due_word.Cap (next_attempt c)) (at + max_attempt_time)) (with_attempt_invite config.sip aim invite.parsed c.opening.restricted shown waiting output) tt sent;
+      output = emit_no_injection acks (emit.Arm c.opening.number (due_word.Cap (next_attempt c)) (at + max_attempt_time)) (with_attempt_invite config.sip destination invite.parsed c.opening.restricted shown waiting output) tt sent;
     }
 
 -- ---- at a target

@@ -42,13 +42,13 @@ use Rattle.mmtel_call.specs.Updates.{on_stable_update, on_update_at}
 use Rattle.mmtel_call_theorems.specs.NoInjection.Traces.{AreAmong}
 use Rattle.mmtel_compose.specs.Requests.{relayed_parts}
 use Rattle.mmtel_trust.specs.Members.{IsIn}
-use Rattle.mmtel_call_theorems.specs.NoInjection.Acks.{IsPassedTo, ReceivedAck, received_ack_across as heard_across, received_acks_in}
+use Rattle.mmtel_call_theorems.specs.NoInjection.Acks.{IsPassedTo, ReceivedAck, received_ack_across as received_across, received_acks_in}
 use Rattle.mmtel_call_theorems.specs.NoInjection.Messages.{LinesHaveNoInjection}
 use Rattle.mmtel_call_theorems.specs.NoInjection.Emits.{Each, IsTextOfAck, OutputHasNoInjection}
 use Rattle.mmtel_call_theorems.specs.NoInjection.CallState.{DialogueHasNoInjection}
 use Rattle.mmtel_call_theorems.proofs.NoInjection.RelayedRequests.{asked_on_no_injection, awaiting_no_injection, crossing_transition, expiry_no_injection, prack_refused_no_injection, unless_transition}
 use Rattle.mmtel_call_theorems.proofs.NoInjection.ReceivedMessages.{ParsedMessageHasNoInjection}
-use Rattle.mmtel_call_theorems.proofs.NoInjection.CallState.{AnsweredHasNoInjection, CallHasNoInjection, LegDialogHasNoInjection, LegsHaveNoInjection, ReinviteHasNoInjection, StageHasNoInjection, StepHasNoInjection, copied_to_no_injection, if_step, once_no_injection, onward_no_injection, over_no_injection, replied_to_no_injection, unheard_no_injection, unlisted_no_injection}
+use Rattle.mmtel_call_theorems.proofs.NoInjection.CallState.{AnsweredHasNoInjection, CallHasNoInjection, LegDialogHasNoInjection, LegsHaveNoInjection, ReinviteHasNoInjection, StageHasNoInjection, StepHasNoInjection, copied_to_no_injection, if_step, once_no_injection, onward_no_injection, over_no_injection, refused_request_no_injection, replied_to_no_injection, unlisted_no_injection}
 use Rattle.mmtel_call_theorems.proofs.NoInjection.Ringing.{with_abandoned_kept}
 use Rattle.mmtel_call_theorems.proofs.NoInjection.Sending.{InvitationHasNoInjection, acked_for_no_injection, acked_no_injection, asked_for_no_injection, bye_no_injection, cancelled_no_injection, each_append, each_map, final_acked_no_injection, if_output, relayed_ack_no_injection, relayed_no_injection, token_no_injection}
 
@@ -71,8 +71,8 @@ copied_across_no_injection acks config c x side m k is = copied_to_no_injection 
 bye_to_no_injection : (acks : List ReceivedAck) (config : CallConfigView) (x : EstablishedLegs) (side : Side) (output : StepOutput) → LegsHaveNoInjection x → OutputHasNoInjection acks output → OutputHasNoInjection acks (with_bye_to config x side output)
 bye_to_no_injection acks config x side output is had = bye_no_injection acks config.sip (leg_of side x).dialogue output (leg_no_injection side x is) had
 
-acked_left_no_injection : (acks : List ReceivedAck) (config : CallConfigView) (x : EstablishedLegs) (side : Side) (output : StepOutput) → LegsHaveNoInjection x → OutputHasNoInjection acks output → OutputHasNoInjection acks (with_ack_and_bye config x side output)
-acked_left_no_injection acks config x side output is had = bye_to_no_injection acks config x side (with_ack config.sip (leg_of side x).dialogue output) is (acked_no_injection acks config.sip (leg_of side x).dialogue output (leg_no_injection side x is) had)
+acked_remaining_no_injection : (acks : List ReceivedAck) (config : CallConfigView) (x : EstablishedLegs) (side : Side) (output : StepOutput) → LegsHaveNoInjection x → OutputHasNoInjection acks output → OutputHasNoInjection acks (with_ack_and_bye config x side output)
+acked_remaining_no_injection acks config x side output is had = bye_to_no_injection acks config x side (with_ack config.sip (leg_of side x).dialogue output) is (acked_no_injection acks config.sip (leg_of side x).dialogue output (leg_no_injection side x is) had)
 
 over_established_no_injection : (acks : List ReceivedAck) (at : ℕ) (x : EstablishedLegs) (c : Call) (output : StepOutput) → CallHasNoInjection acks c → OutputHasNoInjection acks output → StepHasNoInjection acks (established_call_end at x c output)
 over_established_no_injection acks at x c output k had = over_no_injection acks at causes.Ended x.caller.meter x.callee.meter c output k had
@@ -90,14 +90,14 @@ with_ack_no_injection acks branch text e t is = by (bytes_eq t.invite.branch bra
     by false = is
 
 -- the ACK is relayed with the header fields that are copied to the other side
-passes_across : (acks : List ReceivedAck) (config : CallConfigView) (c : Call) (x : EstablishedLegs) (side : Side) (m : MessageView) (branch : List ℕ) → IsIn (heard_across config c x side m) acks →
+passes_across : (acks : List ReceivedAck) (config : CallConfigView) (c : Call) (x : EstablishedLegs) (side : Side) (m : MessageView) (branch : List ℕ) → IsIn (received_across config c x side m) acks →
     IsPassedTo acks (leg_of (other_side side) x).dialogue (relayed_parts config.sip branch (copied_across config c x side m) m.parsed)
 unfolding copied_lines
 passes_across acks config c x side m branch among =
-    inr (record { received = heard_across config c x side m; among = among; dialog = refl; history = history_for c.diversions m; is = refl })
+    inr (record { received = received_across config c x side m; among = among; dialog = refl; history = history_for c.diversions m; is = refl })
 
 acked_across_no_injection : (acks : List ReceivedAck) (config : CallConfigView) (x : EstablishedLegs) (side : Side) (success : Success) (m : MessageView) (c : Call) (output : StepOutput) →
-    IsIn (heard_across config c x side m) acks → ParsedMessageHasNoInjection m.parsed → LegsHaveNoInjection x → CallHasNoInjection acks c → OutputHasNoInjection acks output → StepHasNoInjection acks (after_ack_across config x side success m c output)
+    IsIn (received_across config c x side m) acks → ParsedMessageHasNoInjection m.parsed → LegsHaveNoInjection x → CallHasNoInjection acks c → OutputHasNoInjection acks output → StepHasNoInjection acks (after_ack_across config x side success m c output)
 acked_across_no_injection acks config x side success m c output among received is k had =
     let d : Dialogue = (leg_of (other_side side) x).dialogue in
     let shown : LinesHaveNoInjection (copied_across config c x side m) = copied_across_no_injection acks config c x side m k received in
@@ -121,14 +121,14 @@ parted_no_injection acks config at x side c output is k had = over_established_n
 
 unacknowledged_no_injection : (acks : List ReceivedAck) (config : CallConfigView) (at : ℕ) (x : EstablishedLegs) (side : Side) (c : Call) (output : StepOutput) → LegsHaveNoInjection x → CallHasNoInjection acks c → OutputHasNoInjection acks output → StepHasNoInjection acks (after_ack_timeout config at x side c output)
 unacknowledged_no_injection acks config at x side c output is k had =
-    over_established_no_injection acks at x c (with_bye_to config x side (with_ack_and_bye config x (other_side side) output)) k (bye_to_no_injection acks config x side (with_ack_and_bye config x (other_side side) output) is (acked_left_no_injection acks config x (other_side side) output is had))
+    over_established_no_injection acks at x c (with_bye_to config x side (with_ack_and_bye config x (other_side side) output)) k (bye_to_no_injection acks config x side (with_ack_and_bye config x (other_side side) output) is (acked_remaining_no_injection acks config x (other_side side) output is had))
 
 -- ---- BYE
 
 bye_before_no_injection : (acks : List ReceivedAck) (config : CallConfigView) (at : ℕ) (x : EstablishedLegs) (waiting : Side) (success : Success) (side : Side) (c : Call) (output : StepOutput) → LegsHaveNoInjection x → CallHasNoInjection acks c → OutputHasNoInjection acks output → StepHasNoInjection acks (after_bye_before_ack config at x waiting success side c output)
 bye_before_no_injection acks config at x waiting success side c output is k had =
     if_step acks (is_same_side waiting side) (established_call_end at x c (with_ack_and_bye config x (other_side side) output)) (step_result (at_stage x (Departing waiting success) c) output)
-    (over_established_no_injection acks at x c (with_ack_and_bye config x (other_side side) output) k (acked_left_no_injection acks config x (other_side side) output is had))
+    (over_established_no_injection acks at x c (with_ack_and_bye config x (other_side side) output) k (acked_remaining_no_injection acks config x (other_side side) output is had))
     (staged_no_injection acks x (Departing waiting success) c output is tt k had)
 
 bye_across_no_injection : (acks : List ReceivedAck) (config : CallConfigView) (at : ℕ) (x : EstablishedLegs) (side : Side) (m : MessageView) (c : Call) (output : StepOutput) → ParsedMessageHasNoInjection m.parsed → LegsHaveNoInjection x → CallHasNoInjection acks c → OutputHasNoInjection acks output → StepHasNoInjection acks (after_bye_across config at x side m c output)
@@ -282,10 +282,10 @@ received_at_transition acks stage config at x side key m c output received is e 
 
 request_if_transition : (acks : List ReceivedAck) (r : Result (Unit {0}) DialogueFault) (stage : Stage) (config : CallConfigView) (at : ℕ) (x : EstablishedLegs) (side : Side) (key : TKey) (m : MessageView) (c : Call) (output : StepOutput) →
     ParsedMessageHasNoInjection m.parsed → LegsHaveNoInjection x → StageHasNoInjection acks stage → CallHasNoInjection acks c → OutputHasNoInjection acks output → StepHasNoInjection acks (on_request_at_if r stage config at x side key m (established x stage c) output)
-request_if_transition acks (Ok heard_it) stage config at x side key m c output received is e k had =
+request_if_transition acks (Ok has_received_it) stage config at x side key m c output received is e k had =
     let y : EstablishedLegs = with_leg side (leg_after_receiving (leg_of side x) m) x in
     received_at_transition acks stage config at y side key m c output received (with_leg_no_injection side (leg_after_receiving (leg_of side x) m) x (leg_here side x is) is) e k had
-request_if_transition acks (Err fault) stage config at x side key m c output received is e k had = same_no_injection acks x stage c (with_refused_request config (established x stage c) key m fault output) is e k (unheard_no_injection acks config (established x stage c) key m fault output k received had)
+request_if_transition acks (Err fault) stage config at x side key m c output received is e k had = same_no_injection acks x stage c (with_refused_request config (established x stage c) key m fault output) is e k (refused_request_no_injection acks config (established x stage c) key m fault output k received had)
 
 pub request_transition : (acks : List ReceivedAck) (stage : Stage) (config : CallConfigView) (at : ℕ) (x : EstablishedLegs) (side : Side) (key : TKey) (m : MessageView) (c : Call) (output : StepOutput) →
     ParsedMessageHasNoInjection m.parsed → LegsHaveNoInjection x → StageHasNoInjection acks stage → CallHasNoInjection acks c → OutputHasNoInjection acks output → StepHasNoInjection acks (on_request_at stage config at x side key m (established x stage c) output)

@@ -41,7 +41,7 @@ use Rattle.mmtel_call_theorems.proofs.NoInjection.Deciding.{EndHasNoInjection, f
 use Rattle.mmtel_call_theorems.proofs.NoInjection.RelayedRequests.{awaiting_no_injection, expiry_no_injection, on_other_no_injection, reliably_no_injection}
 use Rattle.mmtel_call_theorems.proofs.NoInjection.Diversions.{IsGood, goes_on_no_injection}
 use Rattle.mmtel_call_theorems.proofs.NoInjection.ReceivedMessages.{ParsedMessageHasNoInjection, redirect_no_injection}
-use Rattle.mmtel_call_theorems.proofs.NoInjection.CallState.{AbandonedHasNoInjection, AnsweredHasNoInjection, CallHasNoInjection, LegDialogHasNoInjection, OfferedHasNoInjection, StepHasNoInjection, early_no_injection, if_step, once_no_injection, onward_no_injection, over_no_injection, relayed_to_caller_no_injection, replied_to_no_injection, status_to_caller_no_injection, unheard_no_injection}
+use Rattle.mmtel_call_theorems.proofs.NoInjection.CallState.{AbandonedHasNoInjection, AnsweredHasNoInjection, CallHasNoInjection, LegDialogHasNoInjection, OfferedHasNoInjection, StepHasNoInjection, early_no_injection, if_step, once_no_injection, onward_no_injection, over_no_injection, refused_request_no_injection, relayed_to_caller_no_injection, replied_to_no_injection, status_to_caller_no_injection}
 use Rattle.mmtel_call_theorems.proofs.NoInjection.Sending.{RemoteHasNoInjection, cancelled_no_injection, each_append, emit_no_injection, final_acked_no_injection, if_output, met_no_injection, remote_no_injection}
 
 -- ---- an attempt that is abandoned
@@ -224,7 +224,7 @@ received_by_no_injection acks Callee m x t = record { caller_in = t.caller_in; c
 request_if_transition : (acks : List ReceivedAck) (r : Result (Unit {0}) DialogueFault) (config : CallConfigView) (at : ℕ) (x : OfferedAttempt) (side : Side) (key : TKey) (m : MessageView) (c : Call) (output : StepOutput) →
     ParsedMessageHasNoInjection m.parsed → OfferedHasNoInjection acks x → CallHasNoInjection acks c → OutputHasNoInjection acks output → StepHasNoInjection acks (on_request_if r config at x side key m (offered_call x c) output)
 request_if_transition acks (Ok received) config at x side key m c output is t k had = received_transition acks config at (attempt_after_request side m x) side key m c output is (received_by_no_injection acks side m x t) k had
-request_if_transition acks (Err fault) config at x side key m c output is t k had = onward_no_injection acks (offered_call x c) (with_refused_request config (offered_call x c) key m fault output) k t (unheard_no_injection acks config (offered_call x c) key m fault output k is had)
+request_if_transition acks (Err fault) config at x side key m c output is t k had = onward_no_injection acks (offered_call x c) (with_refused_request config (offered_call x c) key m fault output) k t (refused_request_no_injection acks config (offered_call x c) key m fault output k is had)
 
 pub request_transition : (acks : List ReceivedAck) (config : CallConfigView) (at : ℕ) (x : OfferedAttempt) (side : Side) (key : TKey) (m : MessageView) (c : Call) (output : StepOutput) →
     ParsedMessageHasNoInjection m.parsed → OfferedHasNoInjection acks x → CallHasNoInjection acks c → OutputHasNoInjection acks output → StepHasNoInjection acks (on_request config at x side key m (offered_call x c) output)

@@ -265,10 +265,10 @@ opened_no_injection peer ls tag e f =
 
 -- ---- an attempt
 
-pub record DestinationHasNoInjection (aim : Destination) : Type 0 where
-  pub uri_in : HasNoInjection aim.uri
-  pub to_in : HasNoInjection aim.to
-  pub routes_in : HaveNoInjection aim.routes
+pub record DestinationHasNoInjection (destination : Destination) : Type 0 where
+  pub uri_in : HasNoInjection destination.uri
+  pub to_in : HasNoInjection destination.to
+  pub routes_in : HaveNoInjection destination.routes
 
 without_params_no_injection : (v : Option (List ℕ)) → IfSome v HasNoInjection → HasNoInjection (without_params (name_addr_in v))
 without_params_no_injection None e = refl
@@ -291,8 +291,8 @@ diverted_dest_no_injection peer routes target cause e f = record {
   routes_in = e;
 }
 
-pub attempt_no_injection : (acks : List ReceivedAck) (aim : Destination) (m : ParsedMessage) (restricted : Bool) (output : StepOutput) → DestinationHasNoInjection aim → ParsedMessageHasNoInjection m → OutputHasNoInjection acks output → DialogueHasNoInjection (attempt_dialog aim m restricted output)
-attempt_no_injection acks aim m restricted output is received had = record {
+pub attempt_no_injection : (acks : List ReceivedAck) (destination : Destination) (m : ParsedMessage) (restricted : Bool) (output : StepOutput) → DestinationHasNoInjection destination → ParsedMessageHasNoInjection m → OutputHasNoInjection acks output → DialogueHasNoInjection (attempt_dialog destination m restricted output)
+attempt_no_injection acks destination m restricted output is received had = record {
   call_id_in = token_no_injection acks output had;
   local_in = from_no_injection restricted (token (after_draw output)) m.lines (token_no_injection acks (after_draw output) had) received.lines_in;
   remote_in = is.to_in;
@@ -305,11 +305,11 @@ alert_no_injection : (waiting : Bool) → LinesHaveNoInjection (alert_lines wait
 alert_no_injection true = refl
 alert_no_injection false = refl
 
-pub offered_no_injection : (acks : List ReceivedAck) (sip : Addr) (aim : Destination) (m : ParsedMessage) (restricted : Bool) (passed : List Line) (waiting : Bool) (output : StepOutput) →
-    DestinationHasNoInjection aim → ParsedMessageHasNoInjection m → LinesHaveNoInjection passed → OutputHasNoInjection acks output → OutputHasNoInjection acks (with_attempt_invite sip aim m restricted passed waiting output)
-offered_no_injection acks sip aim m restricted passed waiting output is received e had =
-    let d : Dialogue = attempt_dialog aim m restricted output in
+pub offered_no_injection : (acks : List ReceivedAck) (sip : Addr) (destination : Destination) (m : ParsedMessage) (restricted : Bool) (passed : List Line) (waiting : Bool) (output : StepOutput) →
+    DestinationHasNoInjection destination → ParsedMessageHasNoInjection m → LinesHaveNoInjection passed → OutputHasNoInjection acks output → OutputHasNoInjection acks (with_attempt_invite sip destination m restricted passed waiting output)
+offered_no_injection acks sip destination m restricted passed waiting output is received e had =
+    let d : Dialogue = attempt_dialog destination m restricted output in
     let given = relayed_parts sip (token (after_draw (after_draw output))) (passed ++ alert_lines waiting) m in
-    emit_no_injection acks (emit.Ask aim.peer (request_numbered d 1 (codes "INVITE") given)) (after_draw (after_draw (after_draw output)))
-    (request_no_injection d 1 (codes "INVITE") given (attempt_no_injection acks aim m restricted output is received had) refl
+    emit_no_injection acks (emit.Ask destination.peer (request_numbered d 1 (codes "INVITE") given)) (after_draw (after_draw (after_draw output)))
+    (request_no_injection d 1 (codes "INVITE") given (attempt_no_injection acks destination m restricted output is received had) refl
     (given_no_injection given (token_no_injection acks (after_draw (after_draw output)) had) (lines_joined passed (alert_lines waiting) e (alert_no_injection waiting)))) had

@@ -46,7 +46,7 @@ use Rattle.mmtel_call_theorems.specs.Noninterference.Observations.{EquivalentOut
 use Rattle.mmtel_call_theorems.proofs.Noninterference.Masks.{request_absorbs}
 use Rattle.mmtel_call_theorems.proofs.Noninterference.RelayedRequests.{prack_refused-equivalent, token_same, update_at-equivalent}
 use Rattle.mmtel_call_theorems.proofs.Noninterference.Idempotence.{call_once, request_again}
-use Rattle.mmtel_call_theorems.proofs.Noninterference.Transitions.{across-equivalent, both-equivalent, bye-equivalent, cancelled-equivalent, ended-equivalent, leaves-equivalent, left_by-equivalent, on-equivalent, on-equivalent-by, once_public, own-reply, step-if, unheard-equivalent, unlisted-equivalent, expired_reinviting-equivalent}
+use Rattle.mmtel_call_theorems.proofs.Noninterference.Transitions.{across-equivalent, both-equivalent, bye-equivalent, cancelled-equivalent, ended-equivalent, leaves-equivalent, left_by-equivalent, on-equivalent, on-equivalent-by, once_public, own-reply, step-if, refused_request-equivalent, unlisted-equivalent, expired_reinviting-equivalent}
 use Rattle.mmtel_call_theorems.proofs.Noninterference.Sent.{Heads, emitted-equivalent, final_acked-equivalent, if-equivalent, relayed-equivalent, untouched}
 use Rattle.mmtel_call_theorems.proofs.Noninterference.CopiedLines.{copied-foreign, copied-number, copied-same}
 use Rattle.mmtel_session.specs.Intervals.{expiry_interval_of}
@@ -143,7 +143,7 @@ module _ (heads : Heads) (config : CallConfigView) (keys : TKey → Bool) where
   request_at_by (Ok received) stage who at x Callee key role m c one other asked fits kept a =
       let y : EstablishedLegs = with_leg Callee (leg_after_receiving x.callee m) x in
       received_at-equivalent stage who at y Callee key role m (at_stage y stage c) one other asked fits kept a
-  request_at_by (Err fault) stage who at x side key role m c one other asked fits kept a = on-equivalent heads config keys who c (with_refused_request config (public_call known who c) key (without_private role m) fault one) (with_refused_request config c key m fault other) (unheard-equivalent heads config keys who c key role m fault one other asked a)
+  request_at_by (Err fault) stage who at x side key role m c one other asked fits kept a = on-equivalent heads config keys who c (with_refused_request config (public_call known who c) key (without_private role m) fault one) (with_refused_request config c key m fault other) (refused_request-equivalent heads config keys who c key role m fault one other asked a)
 
   says_same : (stage : Stage) (x : EstablishedLegs) (side : Side) (role : Role) (m : MessageView) → request_check (leg_of side (public_established known x)) (without_private role m) (busy_in (public_stage known stage) side) ≡ request_check (leg_of side x) m (busy_in stage side)
   says_same (Answered waiting success) x Caller role m = refl

@@ -44,24 +44,24 @@ redirects_as one other role m shown looks uri is =
 
 phase_leads : (p : Phase) (one other : CallConfigView) (t : Trust) (key : TKey) (role : Role) (m : MessageView) (c : Call) → RespondsIn p t key role m c → RedirectsEqually one other (without_private role m) →
     PhaseRedirectsEqually p one other m
-phase_leads (Offered x) one other t key role m c hears looks = redirects_as one other role m hears.redirect looks
-phase_leads (Established x stage) one other t key role m c hears looks = tt
-phase_leads (Detached detached) one other t key role m c hears looks = tt
-phase_leads (Over cause) one other t key role m c hears looks = tt
+phase_leads (Offered x) one other t key role m c receives looks = redirects_as one other role m receives.redirect looks
+phase_leads (Established x stage) one other t key role m c receives looks = tt
+phase_leads (Detached detached) one other t key role m c receives looks = tt
+phase_leads (Over cause) one other t key role m c receives looks = tt
 
 answer_leads : (o : Option (List ℕ)) (one other : CallConfigView) (t : Trust) (key : TKey) (role : Role) (m : MessageView) (c : Call) → RespondsToOne o t key role m c →
     RedirectsEqually one other (without_private role m) → ResponseRedirectsEqually o one other m c
-answer_leads None one other t key role m c hears looks = tt
-answer_leads (Some branch) one other t key role m c hears looks = λ current. phase_leads c.phase one other t key role m c (hears.0 current) looks
+answer_leads None one other t key role m c receives looks = tt
+answer_leads (Some branch) one other t key role m c receives looks = λ current. phase_leads c.phase one other t key role m c (receives.0 current) looks
 
 step_leads : (one other : CallConfigView) (t : Trust) (role : Role) (x : Signal) (c : Call) → MayReceive x t role c → SignalRedirectsEqually one other role x → StepRedirectsEqually one other x c
-step_leads one other t role (signal.Request side key request) c hears looks = tt
-step_leads one other t role (signal.Ack side ack) c hears looks = tt
-step_leads one other t role (signal.Cancel key cancel invite) c hears looks = tt
-step_leads one other t role (signal.Answer key response) c hears looks = answer_leads (awaited_request_branch response) one other t key role response c hears looks
-step_leads one other t role (signal.Silent branch method) c hears looks = tt
-step_leads one other t role (signal.Due what) c hears looks = tt
-step_leads one other t role (signal.Ended key) c hears looks = tt
+step_leads one other t role (signal.Request side key request) c receives looks = tt
+step_leads one other t role (signal.Ack side ack) c receives looks = tt
+step_leads one other t role (signal.Cancel key cancel invite) c receives looks = tt
+step_leads one other t role (signal.Answer key response) c receives looks = answer_leads (awaited_request_branch response) one other t key role response c receives looks
+step_leads one other t role (signal.Silent branch method) c receives looks = tt
+step_leads one other t role (signal.Due what) c receives looks = tt
+step_leads one other t role (signal.Ended key) c receives looks = tt
 
 -- ---- a step
 
@@ -84,22 +84,22 @@ openings_in_both heads law records config far keys now a b one other equal lead 
 
 module _ (heads : Heads) (law : VerdictsDependOnMatches) (records : List Sheet) (config far : CallConfigView) (keys : TKey → Bool) (c d : Call) (equal : EqualButForAccounts config far) (lead : RecordsDivertEqually records config far) (alike : EquivalentCalls records (trusts config) c d) where
   calls : (trace : List StepPair) → AllReceiveEquivalentInBoth records config far keys c d trace → EquivalentCalls records (trusts config) (one_after config c trace) (other_after far d trace)
-  calls [] hear = alike
-  calls (both ∷ earlier) hear =
-      let first = hear.0.0 in
+  calls [] receive = alike
+  calls (both ∷ earlier) receive =
+      let first = receive.0.0 in
       calls_in_both heads law records config far keys both.now both.one.signal both.other.signal both.one.role both.other.role (one_after config c earlier) (other_after far d earlier) both.one.output both.other.output
-      equal lead hear.0.1 first.covered (calls earlier hear.1) first.signals first.one first.other first.outputs
+      equal lead receive.0.1 first.covered (calls earlier receive.1) first.signals first.one first.other first.outputs
 
   steps : (both : StepPair) (earlier : List StepPair) → AllReceiveEquivalentInBoth records config far keys c d (both ∷ earlier) → EquivalentSteps (trust_of config keys) (next config both.now both.one (one_after config c earlier)) (next far both.now both.other (other_after far d earlier))
-  steps both earlier hear =
-      let first = hear.0.0 in
+  steps both earlier receive =
+      let first = receive.0.0 in
       steps_in_both heads law records config far keys both.now both.one.signal both.other.signal both.one.role both.other.role (one_after config c earlier) (other_after far d earlier) both.one.output both.other.output
-      equal lead hear.0.1 first.covered (calls earlier hear.1) first.signals first.one first.other first.outputs
+      equal lead receive.0.1 first.covered (calls earlier receive.1) first.signals first.one first.other first.outputs
 
 pub traces_in_both : Heads → VerdictsDependOnMatches → TracesStayEquivalentInBoth
 traces_in_both heads law = record {
-  calls = λ records config far keys c d trace equal lead alike hear. calls heads law records config far keys c d equal lead alike trace hear;
-  steps = λ records config far keys c d both earlier equal lead alike hear. steps heads law records config far keys c d equal lead alike both earlier hear;
+  calls = λ records config far keys c d trace equal lead alike receive. calls heads law records config far keys c d equal lead alike trace receive;
+  steps = λ records config far keys c d both earlier equal lead alike receive. steps heads law records config far keys c d equal lead alike both earlier receive;
 }
 
 -- ---- one configuration

@@ -461,14 +461,14 @@ module _ (request : TKey → MessageView → Type 0) (service : Option Service �
 
   -- ---- a leg is detached, or put back
 
-  lent-keeps : (p : Phase) (side : Side) (c : Call) → Has c → Has (detached_in p side c)
-  lent-keeps (Offered x) side c h = h
-  lent-keeps (Established x (Answered waiting success)) side c h = h
-  lent-keeps (Established x (Departing waiting success)) side c h = h
-  lent-keeps (Established x Stable) side c h = (tt, h.1)
-  lent-keeps (Established x (Reinviting asking q)) side c h = h
-  lent-keeps (Detached detached) side c h = h
-  lent-keeps (Over cause) side c h = h
+  detached-keeps : (p : Phase) (side : Side) (c : Call) → Has c → Has (detached_in p side c)
+  detached-keeps (Offered x) side c h = h
+  detached-keeps (Established x (Answered waiting success)) side c h = h
+  detached-keeps (Established x (Departing waiting success)) side c h = h
+  detached-keeps (Established x Stable) side c h = (tt, h.1)
+  detached-keeps (Established x (Reinviting asking q)) side c h = h
+  detached-keeps (Detached detached) side c h = h
+  detached-keeps (Over cause) side c h = h
 
   put-keeps : (p : Phase) (leg : Released) (c : Call) → Has c → Has (with_leg_restored p leg c)
   put-keeps (Offered x) leg c h = h
@@ -551,7 +551,7 @@ calls_keep = record {
         kept = (asked_of records t (call_after_opening config now a output).call.phase h.0, h.1);
         served = served_of records t (call_after_opening config now a output).call.phase h.0;
       };
-  out = λ records t side c k. kept_by records t c (detached_in c.phase side c) (detached_stays c.phase side c) k.opening (lent-keeps (λ key m. IsFromOwnPeer t key m) (λ its. RecordsCoverService records its) c.phase side c (keeps_of records t c k));
+  out = λ records t side c k. kept_by records t c (detached_in c.phase side c) (detached_stays c.phase side c) k.opening (detached-keeps (λ key m. IsFromOwnPeer t key m) (λ its. RecordsCoverService records its) c.phase side c (keeps_of records t c k));
   back = λ records t leg c k. kept_by records t c (with_leg_restored c.phase leg c) (put_stays c.phase leg c) k.opening (put-keeps (λ key m. IsFromOwnPeer t key m) (λ its. RecordsCoverService records its) c.phase leg c (keeps_of records t c k));
   ended = λ records t config at c output k. kept_by records t c (call_finish config at c output).call (finished_stays config at c output) k.opening (finished-keeps (λ key m. IsFromOwnPeer t key m) (λ its. RecordsCoverService records its) config at c output (keeps_of records t c k));
 }

@@ -7,7 +7,7 @@ use Rattle.std.specs.Prelude.{nat_lt, option_to_list, position, slice_get}
 use Rattle.mmtel_compose.specs.Attempts.{as_callee}
 use Rattle.mmtel_compose.specs.ReceivedMessages.{MessageView, status_of}
 use Rattle.mmtel_output.specs.SentInvites.{early_remote, with_key}
-use Rattle.mmtel_output.specs.AbandonedInvites as loose_ones
+use Rattle.mmtel_output.specs.AbandonedInvites as abandoned_invites
 use Rattle.mmtel_output.specs.AbandonedInvites.{AfterResponse, after_due_cancel, after_provisional, dialogue_of_success, ended_dialog, fork_at, is_dialog_of_tag, is_of_branch, on_response, on_success, on_success_in, with_invite}
 use Rattle.mmtel_output.specs.Sending.{with_ack, with_bye, with_cancel, with_final_ack}
 use Rattle.mmtel_output.specs.declared.outputs.StepOutput.{StepOutput}
@@ -132,7 +132,7 @@ module _ (heads : Heads) (config : CallConfigView) (keys : TKey → Bool) where
       ∙ begun_if (bytes_eq said.tag (remote_of Callee m.parsed.lines).tag) asked said d role m told
 
   ends-equivalent : (l : AbandonedInvite) (d e : Dialogue) (one other : StepOutput) → public_dialog known d ≡ public_dialog known e → EquivalentOutputs T one other →
-      RestsEquivalent T (loose_ones.after_ack_and_bye config.sip (public_abandoned known l) d one) (loose_ones.after_ack_and_bye config.sip l e other)
+      RestsEquivalent T (abandoned_invites.after_ack_and_bye config.sip (public_abandoned known l) d one) (abandoned_invites.after_ack_and_bye config.sip l e other)
   ends-equivalent l d e one other same a =
       let i : SentInvite = l.invite in
       record {
@@ -216,15 +216,15 @@ module _ (heads : Heads) (config : CallConfigView) (keys : TKey → Bool) where
       RestsEquivalent T (on_response config.sip key (without_private role m).parsed (public_abandoned known l) one) (on_response config.sip key m.parsed l other)
   response-equivalent key l role m one other answer a =
       let n : MessageView = without_private role m in
-      let one_told : AbandonedInvite = after_provisional key n.parsed (public_abandoned known l) in
-      let other_told : AbandonedInvite = after_provisional key m.parsed l in
+      let one_after : AbandonedInvite = after_provisional key n.parsed (public_abandoned known l) in
+      let other_after : AbandonedInvite = after_provisional key m.parsed l in
       let told : AbandonedInvite = with_invite l (with_key key l.invite) in
       let gone : AfterResponse = record { remaining = None; output = with_final_ack config.sip key (public_sent_invite known l.invite) n.parsed one } in
       let over : AfterResponse = record { remaining = None; output = with_final_ack config.sip key l.invite m.parsed other } in
       let p : AfterResponse = on_success config.sip (public_abandoned known told) (remote_of Callee n.parsed.lines) one in
       let q : AfterResponse = on_success config.sip told (remote_of Callee m.parsed.lines) other in
-      rest-if (nat_lt (status_of m.parsed.start) 200) (after_due_cancel config.sip one_told one) (cond (nat_lt (status_of m.parsed.start) 300) p gone) (after_due_cancel config.sip other_told other) (cond (nat_lt (status_of m.parsed.start) 300) q over)
-      (late-like one_told other_told one other (provisional_same key l role m answer.nothing_private) a)
+      rest-if (nat_lt (status_of m.parsed.start) 200) (after_due_cancel config.sip one_after one) (cond (nat_lt (status_of m.parsed.start) 300) p gone) (after_due_cancel config.sip other_after other) (cond (nat_lt (status_of m.parsed.start) 300) q over)
+      (late-like one_after other_after one other (provisional_same key l role m answer.nothing_private) a)
       (rest-if (nat_lt (status_of m.parsed.start) 300) p gone q over
       (success-equivalent told role m one other answer.nothing_private a)
       (record { remaining = refl; output = acked-final heads config keys key l.invite role m one other answer a }))
@@ -339,10 +339,10 @@ module _ (heads : Heads) (config : CallConfigView) (keys : TKey → Bool) where
       EquivalentOutputs T one other →
       EquivalentSteps T (on_other_response config at key (without_private role m) branch (public_call known who c) one) (on_other_response config at key m branch c other)
   unfolding on_other_response
-  other-equivalent who at key role m branch c one other asked hears a =
+  other-equivalent who at key role m branch c one other asked receives a =
       subst (λ (o : Option ℕ). EquivalentSteps T (on_other_response_at config at key (without_private role m) branch o (public_call known who c) one) (on_other_response_at config at key m branch (position (is_of_branch branch) c.abandoned) c other))
       (sym (found (public_abandoned known) (is_of_branch branch) (λ l. refl) c.abandoned))
-      (at-equivalent (position (is_of_branch branch) c.abandoned) who at key role m branch c one other asked hears.abandoned hears.answered hears.in_flight a)
+      (at-equivalent (position (is_of_branch branch) c.abandoned) who at key role m branch c one other asked receives.abandoned receives.answered receives.in_flight a)
 
   -- ---- timeouts
 
@@ -365,7 +365,7 @@ module _ (heads : Heads) (config : CallConfigView) (keys : TKey → Bool) where
       (timed-out_at-equivalent (position (is_of_branch branch) c.abandoned) who branch c one other asked a)
 
 pub responses_to_others : Heads → ResponsesToOthers
-responses_to_others heads config keys who at key role m branch c one other asked hears a = other-equivalent heads config keys who at key role m branch c one other asked hears a
+responses_to_others heads config keys who at key role m branch c one other asked receives a = other-equivalent heads config keys who at key role m branch c one other asked receives a
 
 pub timeouts_of_others : Heads → TimeoutsOfOthers
 timeouts_of_others heads config keys who branch c one other asked a = silences-equivalent heads config keys who branch c one other asked a

@@ -125,10 +125,10 @@ module _ (config : CallConfigView) (accounts : List AccountIdentity) (now : Snap
   abbrev far : CallConfigView
   far = with_accounts
 
-  pub offer-same : (caller : Leg) (service : Option Service) (waiting : Bool) (aim : Destination) (c : Call) (output : StepOutput) →
-      attempt_start config now.at caller service waiting aim c output ≡ attempt_start far now.at caller service waiting aim c output
+  pub offer-same : (caller : Leg) (service : Option Service) (waiting : Bool) (destination : Destination) (c : Call) (output : StepOutput) →
+      attempt_start config now.at caller service waiting destination c output ≡ attempt_start far now.at caller service waiting destination c output
   unfolding attempt_lines
-  offer-same caller service waiting aim c output = refl
+  offer-same caller service waiting destination c output = refl
 
   pub refused_by-same : (caller : Leg) (service : Option Service) (m : Option MessageView) (cause : Cause) (c : Call) (output : StepOutput) →
       relayed_refusal config now.at caller service m cause c output ≡ relayed_refusal far now.at caller service m cause c output

@@ -28,7 +28,7 @@ use Rattle.mmtel_call_theorems.specs.Noninterference.Roles.{Role, private_fields
 use Rattle.mmtel_call_theorems.specs.Noninterference.Transitions.{CancelsWhileOffered, RequestsWhileOffered}
 use Rattle.mmtel_call_theorems.specs.Noninterference.Observations.{EquivalentOutputs, EquivalentSteps, Trust, trust_of}
 use Rattle.mmtel_call_theorems.proofs.Noninterference.RelayedRequests.{prack-equivalent, prack_refused-equivalent, update-equivalent}
-use Rattle.mmtel_call_theorems.proofs.Noninterference.Transitions.{cancelled-equivalent, left_public, on-equivalent, over-equivalent-by, own-reply, status-equivalent, step-if, step-where, unheard-equivalent, unlisted-equivalent}
+use Rattle.mmtel_call_theorems.proofs.Noninterference.Transitions.{cancelled-equivalent, left_public, on-equivalent, over-equivalent-by, own-reply, refused_request-equivalent, status-equivalent, step-if, step-where, unlisted-equivalent}
 use Rattle.mmtel_call_theorems.proofs.Noninterference.Sent.{Heads}
 
 or_first : (b c : Bool) → b ≡ true → (b || c) ≡ true
@@ -106,7 +106,7 @@ module _ (heads : Heads) (config : CallConfigView) (keys : TKey → Bool) where
   request_by (Ok received) who at x Callee key role m c one other opening asked fits a =
       received-equivalent who at (attempt_after_request Callee m x) Callee key role m (record c { phase = Offered (attempt_after_request Callee m x) }) one other opening asked fits a
   request_by (Err fault) who at x side key role m c one other opening asked fits a =
-      on-equivalent heads config keys who c (with_refused_request config (public_call known who c) key (without_private role m) fault one) (with_refused_request config c key m fault other) (unheard-equivalent heads config keys who c key role m fault one other asked a)
+      on-equivalent heads config keys who c (with_refused_request config (public_call known who c) key (without_private role m) fault one) (with_refused_request config c key m fault other) (refused_request-equivalent heads config keys who c key role m fault one other asked a)
 
   said_offered : (who : Identities2) (at : ℕ) (x : OfferedAttempt) (side : Side) (key : TKey) (role : Role) (m : MessageView) (c : Call) (one other : StepOutput) → IsFromOwnPeer T c.opening.key c.opening.invite → IsFromOwnPeer T key m →
       FitsOffered c.opening x.attempt.service side m role → EquivalentOutputs T one other →

@@ -62,8 +62,8 @@ from_same : (restricted : Bool) (tag : List ℕ) (m : MessageView) → attempt_f
 from_same true tag m = refl
 from_same false tag m = from_by m.parsed.trusted tag m.parsed
 
-dialog_same : (who : Identities2) (o : Opening) (aim : Destination) (output : StepOutput) → attempt_dialog_of (public_opening who o) aim output ≡ attempt_dialog_of o aim output
-dialog_same who o aim output = ap (λ (f : List ℕ). dialogue_to aim (token output) (token (after_draw output)) f) (from_same o.restricted (token (after_draw output)) o.invite)
+dialog_same : (who : Identities2) (o : Opening) (destination : Destination) (output : StepOutput) → attempt_dialog_of (public_opening who o) destination output ≡ attempt_dialog_of o destination output
+dialog_same who o destination output = ap (λ (f : List ℕ). dialogue_to destination (token output) (token (after_draw output)) f) (from_same o.restricted (token (after_draw output)) o.invite)
 
 -- the role of the INVITE fits the caller
 opens_fit : (restricted : Bool) → hides (opening_role restricted) ≡ true → restricted ≡ true
@@ -90,7 +90,7 @@ module _ (heads : Heads) (config : CallConfigView) (keys : TKey → Bool) where
       )
       refl
 
-  module _ (who : Identities2) (at : ℕ) (caller : Leg) (service : Option Service) (waiting : Bool) (aim : Destination) (c : Call) (y : StepOutput) where
+  module _ (who : Identities2) (at : ℕ) (caller : Leg) (service : Option Service) (waiting : Bool) (destination : Destination) (c : Call) (y : StepOutput) where
     abbrev branch : List ℕ
     branch = token (after_draw (after_draw y))
 
@@ -104,38 +104,38 @@ module _ (heads : Heads) (config : CallConfigView) (keys : TKey → Bool) where
     offered_with z l d = record z { attempts = next_attempt c; acks = Acks.next_attempt c.acks; phase = Offered (record { caller = l; callee = callee_with d; attempt = attempt_with d }) }
 
     abbrev hidden_lines : List Line
-    hidden_lines = attempt_lines config (public_opening who c.opening) (public_diverted (masks_all c.opening) c.diversions) service aim.peer
+    hidden_lines = attempt_lines config (public_opening who c.opening) (public_diverted (masks_all c.opening) c.diversions) service destination.peer
 
     abbrev whole_lines : List Line
-    whole_lines = attempt_lines config c.opening c.diversions service aim.peer
+    whole_lines = attempt_lines config c.opening c.diversions service destination.peer
 
-    offer_call : public_part known (offered_with (public_call known who c) (public_leg known caller) (attempt_dialog_of (public_opening who c.opening) aim y)) ≡ public_part known (offered_with c caller (attempt_dialog_of c.opening aim y))
+    offer_call : public_part known (offered_with (public_call known who c) (public_leg known caller) (attempt_dialog_of (public_opening who c.opening) destination y)) ≡ public_part known (offered_with c caller (attempt_dialog_of c.opening destination y))
     offer_call =
-        let d : Dialogue = attempt_dialog_of c.opening aim y in
-        ap (λ (e : Dialogue). public_part known (offered_with (public_call known who c) (public_leg known caller) e)) (dialog_same who c.opening aim y)
+        let d : Dialogue = attempt_dialog_of c.opening destination y in
+        ap (λ (e : Dialogue). public_part known (offered_with (public_call known who c) (public_leg known caller) e)) (dialog_same who c.opening destination y)
         ∙ (ap (λ (z : Call). record z { attempts = next_attempt c; acks = Acks.next_attempt c.acks; phase = Offered (record { caller = public_leg known (public_leg known caller); callee = public_callee known (callee_with d); attempt = public_attempt known (attempt_with d) }) }) (call_once known nobody who c)
         ∙ ap (λ (l : Leg). record (public_part known c) { attempts = next_attempt c; acks = Acks.next_attempt c.acks; phase = Offered (record { caller = l; callee = public_callee known (callee_with d); attempt = public_attempt known (attempt_with d) }) }) (leg_again known caller))
 
-    offer_observed : observation T (emit.Ask aim.peer (invite_of (attempt_dialog_of (public_opening who c.opening) aim y) config.sip branch hidden_lines waiting c.opening.invite.parsed)) ≡ observation T (emit.Ask aim.peer (invite_of (attempt_dialog_of c.opening aim y) config.sip branch whole_lines waiting c.opening.invite.parsed))
+    offer_observed : observation T (emit.Ask destination.peer (invite_of (attempt_dialog_of (public_opening who c.opening) destination y) config.sip branch hidden_lines waiting c.opening.invite.parsed)) ≡ observation T (emit.Ask destination.peer (invite_of (attempt_dialog_of c.opening destination y) config.sip branch whole_lines waiting c.opening.invite.parsed))
     offer_observed =
-        ap (λ (e : Dialogue). observation T (emit.Ask aim.peer (invite_of e config.sip branch hidden_lines waiting c.opening.invite.parsed))) (dialog_same who c.opening aim y)
-        ∙ notification-observed (attempt_dialog_of c.opening aim y) 1 (codes "INVITE") (relayed_parts config.sip branch [] c.opening.invite.parsed) (hidden_lines ++ alert_lines waiting) (whole_lines ++ alert_lines waiting)
-        (both_foreign hidden_lines (alert_lines waiting) (offered-foreign config (public_opening who c.opening) (public_diverted (masks_all c.opening) c.diversions) service aim.peer) (alert_foreign waiting))
-        (both_foreign whole_lines (alert_lines waiting) (offered-foreign config c.opening c.diversions service aim.peer) (alert_foreign waiting))
-        (λ strange. ap (λ (l : List Line). l ++ alert_lines waiting) (offered-same config who c.opening c.diversions service aim.peer (opens_fit c.opening.restricted) strange))
+        ap (λ (e : Dialogue). observation T (emit.Ask destination.peer (invite_of e config.sip branch hidden_lines waiting c.opening.invite.parsed))) (dialog_same who c.opening destination y)
+        ∙ notification-observed (attempt_dialog_of c.opening destination y) 1 (codes "INVITE") (relayed_parts config.sip branch [] c.opening.invite.parsed) (hidden_lines ++ alert_lines waiting) (whole_lines ++ alert_lines waiting)
+        (both_foreign hidden_lines (alert_lines waiting) (offered-foreign config (public_opening who c.opening) (public_diverted (masks_all c.opening) c.diversions) service destination.peer) (alert_foreign waiting))
+        (both_foreign whole_lines (alert_lines waiting) (offered-foreign config c.opening c.diversions service destination.peer) (alert_foreign waiting))
+        (λ strange. ap (λ (l : List Line). l ++ alert_lines waiting) (offered-same config who c.opening c.diversions service destination.peer (opens_fit c.opening.restricted) strange))
 
-    offer-by : (out : List Emit) → observations T out ≡ observations T y.out → EquivalentSteps T (attempt_start config at (public_leg known caller) service waiting aim (public_call known who c) (with_out out y)) (attempt_start config at caller service waiting aim c y)
+    offer-by : (out : List Emit) → observations T out ≡ observations T y.out → EquivalentSteps T (attempt_start config at (public_leg known caller) service waiting destination (public_call known who c) (with_out out y)) (attempt_start config at caller service waiting destination c y)
     offer-by out s =
         let arm : Emit = emit.Arm c.opening.number (due.Cap (next_attempt c)) (at + max_attempt_time) in
-        let ask : Emit = emit.Ask aim.peer (invite_of (attempt_dialog_of (public_opening who c.opening) aim y) config.sip branch hidden_lines waiting c.opening.invite.parsed) in
-        let asked : Emit = emit.Ask aim.peer (invite_of (attempt_dialog_of c.opening aim y) config.sip branch whole_lines waiting c.opening.invite.parsed) in
+        let ask : Emit = emit.Ask destination.peer (invite_of (attempt_dialog_of (public_opening who c.opening) destination y) config.sip branch hidden_lines waiting c.opening.invite.parsed) in
+        let asked : Emit = emit.Ask destination.peer (invite_of (attempt_dialog_of c.opening destination y) config.sip branch whole_lines waiting c.opening.invite.parsed) in
         record {
           call = offer_call;
           output = record { tokens = refl; rows = refl; out = one_more T arm arm (out ++ ask ∷ []) (y.out ++ asked ∷ []) refl (one_more T ask asked out y.out offer_observed s) };
         }
 
-  pub offer-alike : (who : Identities2) (at : ℕ) (caller : Leg) (service : Option Service) (waiting : Bool) (aim : Destination) (c : Call) (one other : StepOutput) → EquivalentOutputs T one other →
-      EquivalentSteps T (attempt_start config at (public_leg known caller) service waiting aim (public_call known who c) one) (attempt_start config at caller service waiting aim c other)
-  offer-alike who at caller service waiting aim c one other a =
-      step-brings (λ (d : StepOutput). attempt_start config at (public_leg known caller) service waiting aim (public_call known who c) d) (λ (d : StepOutput). attempt_start config at caller service waiting aim c d)
-      (λ out y s. offer-by who at caller service waiting aim c y out s) one other a
+  pub offer-alike : (who : Identities2) (at : ℕ) (caller : Leg) (service : Option Service) (waiting : Bool) (destination : Destination) (c : Call) (one other : StepOutput) → EquivalentOutputs T one other →
+      EquivalentSteps T (attempt_start config at (public_leg known caller) service waiting destination (public_call known who c) one) (attempt_start config at caller service waiting destination c other)
+  offer-alike who at caller service waiting destination c one other a =
+      step-brings (λ (d : StepOutput). attempt_start config at (public_leg known caller) service waiting destination (public_call known who c) d) (λ (d : StepOutput). attempt_start config at caller service waiting destination c d)
+      (λ out y s. offer-by who at caller service waiting destination c y out s) one other a

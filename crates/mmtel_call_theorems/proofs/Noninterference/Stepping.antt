@@ -152,15 +152,15 @@ module _ (heads : Heads) (law : VerdictsDependOnMatches) (records : List Sheet) 
   transition-equivalent : (x : Signal) (who : Identities2) (role : Role) (c : Call) (one other : StepOutput) → CanContinue records T now who c → requests_are_from_own_peers T c → ServedIn c.phase records → MayReceive x T role c → EquivalentOutputs T one other →
       EquivalentSteps T (transition config now (public_signal role x) (public_call known who c) one) (transition config now x c other)
   unfolding transition
-  transition-equivalent (signal.Request side key request) who role c one other can kept served hears a = request-equivalent c.phase who side key role request c one other can.opening kept.0 hears.0 hears.1 a
-  transition-equivalent (signal.Ack side ack) who role c one other can kept served hears a = ack-equivalent c.phase who side role ack c one other hears.0 hears.1 a
-  transition-equivalent (signal.Cancel key cancel invite) who role c one other can kept served hears a = cancel-equivalent c.phase who key role cancel invite c one other can.opening hears a
-  transition-equivalent (signal.Answer key response) who role c one other can kept served hears a =
+  transition-equivalent (signal.Request side key request) who role c one other can kept served receives a = request-equivalent c.phase who side key role request c one other can.opening kept.0 receives.0 receives.1 a
+  transition-equivalent (signal.Ack side ack) who role c one other can kept served receives a = ack-equivalent c.phase who side role ack c one other receives.0 receives.1 a
+  transition-equivalent (signal.Cancel key cancel invite) who role c one other can kept served receives a = cancel-equivalent c.phase who key role cancel invite c one other can.opening receives a
+  transition-equivalent (signal.Answer key response) who role c one other can kept served receives a =
       subst (λ (o : Option (List ℕ)). EquivalentSteps T (on_response_to o config now key (without_private role response) (public_call known who c) one) (on_response_to (awaited_request_branch response) config now key response c other)) (sym (answered_same role response))
-      (answer-equivalent (awaited_request_branch response) who key role response c one other can kept served hears a)
-  transition-equivalent (signal.Silent branch method) who role c one other can kept served hears a = timeout_of-equivalent (timed_out_branch branch method) who c one other can kept served a
-  transition-equivalent (signal.Due what) who role c one other can kept served hears a = due-equivalent c.phase who what c one other can kept.0 served a
-  transition-equivalent (signal.Ended key) who role c one other can kept served hears a = on-equivalent-by heads config keys who (without_key key (public_call known who c)) (without_key key c) one other (key_public key who c) a
+      (answer-equivalent (awaited_request_branch response) who key role response c one other can kept served receives a)
+  transition-equivalent (signal.Silent branch method) who role c one other can kept served receives a = timeout_of-equivalent (timed_out_branch branch method) who c one other can kept served a
+  transition-equivalent (signal.Due what) who role c one other can kept served receives a = due-equivalent c.phase who what c one other can kept.0 served a
+  transition-equivalent (signal.Ended key) who role c one other can kept served receives a = on-equivalent-by heads config keys who (without_key key (public_call known who c)) (without_key key c) one other (key_public key who c) a
 
   -- ---- a step that ends the attempt without a 2xx, or the call
 
@@ -283,27 +283,27 @@ module _ (heads : Heads) (law : VerdictsDependOnMatches) (records : List Sheet) 
   )
 
   receives_still : (x : Signal) (role : Role) (c : Call) → MayReceive x T role c → MayReceive x T role (without_in_flight c)
-  receives_still (signal.Request side key request) role c hears = (hears.0, fits_still c.phase c side request role hears.1)
-  receives_still (signal.Ack side ack) role c hears = (fits_still c.phase c side ack role hears.0, sent_still c.phase c side ack hears.1)
-  receives_still (signal.Cancel key cancel invite) role c hears = hears
-  receives_still (signal.Answer key response) role c hears = one_still (awaited_request_branch response) key role response c hears
-  receives_still (signal.Silent branch method) role c hears = tt
-  receives_still (signal.Due what) role c hears = tt
-  receives_still (signal.Ended key) role c hears = tt
+  receives_still (signal.Request side key request) role c receives = (receives.0, fits_still c.phase c side request role receives.1)
+  receives_still (signal.Ack side ack) role c receives = (fits_still c.phase c side ack role receives.0, sent_still c.phase c side ack receives.1)
+  receives_still (signal.Cancel key cancel invite) role c receives = receives
+  receives_still (signal.Answer key response) role c receives = one_still (awaited_request_branch response) key role response c receives
+  receives_still (signal.Silent branch method) role c receives = tt
+  receives_still (signal.Due what) role c receives = tt
+  receives_still (signal.Ended key) role c receives = tt
 
   step-equivalent : (x : Signal) (who : Identities2) (role : Role) (c : Call) (one other : StepOutput) → CanContinue records T now who c → requests_are_from_own_peers T c → ServedIn c.phase records → MayReceive x T role c → EquivalentOutputs T one other →
       EquivalentSteps T (step config now (public_signal role x) (public_call known who c) one) (step config now x c other)
   unfolding step
-  step-equivalent x who role c one other can kept served hears a =
+  step-equivalent x who role c one other can kept served receives a =
       let d : Call = public_call known who c in
       let y : Signal = public_signal role x in
       let p : StepResult = transition config now y (without_in_flight d) (output_after_dismissal config d one) in
       let v : StepResult = transition config now x (without_in_flight c) (output_after_dismissal config c other) in
       subst (λ (b : Bool). EquivalentSteps T (cond b p (transition config now y d one)) (cond (leaves x c) v (transition config now x c other))) (sym (leaves_same x role who c))
       (step-if T (leaves x c) p (transition config now y d one) v (transition config now x c other)
-      (transition-equivalent x who role (without_in_flight c) (output_after_dismissal config d one) (output_after_dismissal config c other) (record { opening = can.opening; caller = can.caller; covered = can.covered }) (kept.0, tt) served (receives_still x role c hears)
+      (transition-equivalent x who role (without_in_flight c) (output_after_dismissal config d one) (output_after_dismissal config c other) (record { opening = can.opening; caller = can.caller; covered = can.covered }) (kept.0, tt) served (receives_still x role c receives)
       (dismissals heads config keys who c one other kept.1 a))
-      (transition-equivalent x who role c one other can kept served hears a))
+      (transition-equivalent x who role c one other can kept served receives a))
 
 pub steps_see_public_parts : Heads → VerdictsDependOnMatches → StepsSeePublicParts
-steps_see_public_parts heads law records config keys now who x role c one other can kept served hears a = step-equivalent heads law records config keys now x who role c one other can kept served hears a
+steps_see_public_parts heads law records config keys now who x role c one other can kept served receives a = step-equivalent heads law records config keys now x who role c one other can kept served receives a

@@ -83,11 +83,11 @@ module _ (heads : Heads) (config : CallConfigView) (keys : TKey → Bool) where
   pub status-equivalent : (who : Identities2) (c : Call) (code : ℕ) (x y : StepOutput) → IsFromOwnPeer T c.opening.key c.opening.invite → EquivalentOutputs T x y → EquivalentOutputs T (with_status_to_caller config (public_call known who c) code x) (with_status_to_caller config c code y)
   status-equivalent who c code x y asked a = own-reply c c.opening.key (private_fields (opening_role c.opening.restricted) c.opening.invite.parsed) c.opening.invite code x y asked a
 
-  pub unheard-equivalent : (who : Identities2) (c : Call) (key : TKey) (role : Role) (m : MessageView) (fault : DialogueFault) (x y : StepOutput) → IsFromOwnPeer T key m → EquivalentOutputs T x y →
+  pub refused_request-equivalent : (who : Identities2) (c : Call) (key : TKey) (role : Role) (m : MessageView) (fault : DialogueFault) (x y : StepOutput) → IsFromOwnPeer T key m → EquivalentOutputs T x y →
       EquivalentOutputs T (with_refused_request config (public_call known who c) key (without_private role m) fault x) (with_refused_request config c key m fault y)
-  unheard-equivalent who c key role m (OldCSeq last) x y asked a = own-reply c key (private_fields role m.parsed) m 500 x y asked a
-  unheard-equivalent who c key role m Pending x y asked a = own-reply c key (private_fields role m.parsed) m 491 x y asked a
-  unheard-equivalent who c key role m Unfinished x y asked a = own-answer c key (private_fields role m.parsed) m 500 retry_after_lines x y asked a
+  refused_request-equivalent who c key role m (OldCSeq last) x y asked a = own-reply c key (private_fields role m.parsed) m 500 x y asked a
+  refused_request-equivalent who c key role m Pending x y asked a = own-reply c key (private_fields role m.parsed) m 491 x y asked a
+  refused_request-equivalent who c key role m Unfinished x y asked a = own-answer c key (private_fields role m.parsed) m 500 retry_after_lines x y asked a
 
   pub unlisted-equivalent : (who : Identities2) (c : Call) (key : TKey) (role : Role) (m : MessageView) (x y : StepOutput) → IsFromOwnPeer T key m → EquivalentOutputs T x y →
       EquivalentOutputs T (with_unlisted_response config (public_call known who c) key (without_private role m) x) (with_unlisted_response config c key m y)

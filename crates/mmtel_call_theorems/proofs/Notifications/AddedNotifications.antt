@@ -7,7 +7,7 @@ use Rattle.mmtel_compose.specs.Responses.{allow_lines}
 use Rattle.mmtel_compose.specs.ReceivedMessages.{MessageView, status_of}
 use Rattle.mmtel_output.specs.Outputs.{after_draw, with_emit}
 use Rattle.mmtel_output.specs.SentInvites.{is_cancellable, with_key}
-use Rattle.mmtel_output.specs.AbandonedInvites as loose_ones
+use Rattle.mmtel_output.specs.AbandonedInvites as abandoned_invites
 use Rattle.mmtel_output.specs.AbandonedInvites.{after_provisional, ended_dialog, is_of_branch, on_response, on_success_in, with_invite}
 use Rattle.mmtel_output.specs.Sending.{with_ack, with_bye, with_cancel, with_due_cancel, with_final_ack, with_relayed_request}
 use Rattle.mmtel_output.specs.declared.outputs.StepOutput.{StepOutput}
@@ -157,10 +157,10 @@ unnotified-final-acked key asked sip i m output = adds-emit key output _ [] refl
 
 -- ---- responses to requests
 
-pub unnotified-unheard : (key : TKey) (config : CallConfigView) (c : Call) (asked : TKey) (m : MessageView) (fault : DialogueFault) (output : StepOutput) → IsUnnotified key output (with_refused_request config c asked m fault output)
-unnotified-unheard key config c asked m (OldCSeq last) output = unnotified-reply key asked _ _ _ output refl
-unnotified-unheard key config c asked m Pending output = unnotified-reply key asked _ _ _ output refl
-unnotified-unheard key config c asked m Unfinished output = unnotified-reply key asked _ _ _ output refl
+pub unnotified-refused_request : (key : TKey) (config : CallConfigView) (c : Call) (asked : TKey) (m : MessageView) (fault : DialogueFault) (output : StepOutput) → IsUnnotified key output (with_refused_request config c asked m fault output)
+unnotified-refused_request key config c asked m (OldCSeq last) output = unnotified-reply key asked _ _ _ output refl
+unnotified-refused_request key config c asked m Pending output = unnotified-reply key asked _ _ _ output refl
+unnotified-refused_request key config c asked m Unfinished output = unnotified-reply key asked _ _ _ output refl
 
 pub unnotified-unlisted : (key : TKey) (config : CallConfigView) (c : Call) (asked : TKey) (m : MessageView) (output : StepOutput) → IsUnnotified key output (with_unlisted_response config c asked m output)
 unnotified-unlisted key config c asked m output =
@@ -171,11 +171,11 @@ unnotified-unlisted key config c asked m output =
 
 success-unnotified : (key : TKey) (sip : Addr) (l : AbandonedInvite) (remote : Remote) (d : Option Dialogue) (output : StepOutput) → IsUnnotified key output (on_success_in sip l remote d output).output
 success-unnotified key sip l remote None output =
-    let d = loose_ones.dialogue_of_success l.in_dialog l.invite.early l.invite.early_cseq l.invite.dialogue remote in
+    let d = abandoned_invites.dialogue_of_success l.in_dialog l.invite.early l.invite.early_cseq l.invite.dialogue remote in
     adds-then key output (with_ack sip d output) (with_bye sip d (with_ack sip d output)) [] [] (unnotified-acked key sip d output) (unnotified-bye key sip d (with_ack sip d output))
 success-unnotified key sip l remote (Some d) output = unnotified-acked key sip d output
 
-rest-if : (key : TKey) (before : StepOutput) (b : Bool) (one two : loose_ones.AfterResponse) → IsUnnotified key before one.output → IsUnnotified key before two.output → IsUnnotified key before (if b then one else two).output
+rest-if : (key : TKey) (before : StepOutput) (b : Bool) (one two : abandoned_invites.AfterResponse) → IsUnnotified key before one.output → IsUnnotified key before two.output → IsUnnotified key before (if b then one else two).output
 rest-if key before true one two e f = e
 rest-if key before false one two e f = f
 
@@ -296,8 +296,8 @@ refusal-unnotified key config asked m (Some rack) c output = unnotified-reply ke
 acknowledging-unnotified : (key : TKey) (config : CallConfigView) (x : OfferedAttempt) (asked : TKey) (m : MessageView) (rack : Rack) (answer : Option ℕ) (c : Call) (output : StepOutput) → IsUnnotified key output (on_named_prack config x asked m rack answer c output).output
 acknowledging-unnotified key config x asked m rack None c output = refusal-unnotified key config asked m (rack_in m) c output
 acknowledging-unnotified key config x asked m rack (Some answer) c output =
-    let settled_desk : StepOutput = with_settled config (Some rack.answer) c output in
-    adds-then key output settled_desk _ [] [] (settled-unnotified key config (Some rack.answer) c output) (adds-then key settled_desk (after_draw settled_desk) _ [] [] (unnotified-drew key settled_desk) (adds-emit key (after_draw settled_desk) _ [] refl))
+    let settled_output : StepOutput = with_settled config (Some rack.answer) c output in
+    adds-then key output settled_output _ [] [] (settled-unnotified key config (Some rack.answer) c output) (adds-then key settled_output (after_draw settled_output) _ [] [] (unnotified-drew key settled_output) (adds-emit key (after_draw settled_output) _ [] refl))
 
 rack-unnotified : (key : TKey) (config : CallConfigView) (x : OfferedAttempt) (asked : TKey) (m : MessageView) (rack : Option Rack) (c : Call) (output : StepOutput) → IsUnnotified key output (on_rack config x asked m rack c output).output
 rack-unnotified key config x asked m None c output = refusal-unnotified key config asked m (rack_in m) c output

@@ -104,9 +104,9 @@ refused-notifies config call at caller cause c output kept result empty e =
 
 -- ---- the INVITE of an attempt
 
-sent-unnotified : (config : CallConfigView) (at : ℕ) (service : Option Service) (waiting : Bool) (aim : Destination) (c : Call) (output : StepOutput) → IsUnnotified c.opening.key output (with_attempt config at service waiting aim c output)
-sent-unnotified config at service waiting aim c output =
-    let ask : Emit = emit.Ask aim.peer (invite_of (attempt_dialog aim c.opening.invite.parsed c.opening.restricted output) config.sip (token (after_draw (after_draw output))) (attempt_lines config c.opening c.diversions service aim.peer) waiting c.opening.invite.parsed) in
+sent-unnotified : (config : CallConfigView) (at : ℕ) (service : Option Service) (waiting : Bool) (destination : Destination) (c : Call) (output : StepOutput) → IsUnnotified c.opening.key output (with_attempt config at service waiting destination c output)
+sent-unnotified config at service waiting destination c output =
+    let ask : Emit = emit.Ask destination.peer (invite_of (attempt_dialog destination c.opening.invite.parsed c.opening.restricted output) config.sip (token (after_draw (after_draw output))) (attempt_lines config c.opening c.diversions service destination.peer) waiting c.opening.invite.parsed) in
     let arm : Emit = emit.Arm c.opening.number (due.Cap (next_attempt c)) (at + max_attempt_time) in
     record { new = ask ∷ arm ∷ []; out = append_assoc output.out (ask ∷ []) (arm ∷ []); seen = refl }
 

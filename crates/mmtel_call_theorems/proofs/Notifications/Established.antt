@@ -39,7 +39,7 @@ use Rattle.mmtel_call.specs.declared.calls.Stage.TheVariants.{Answered, Departin
 use Rattle.mmtel_call.specs.declared.signals.Signal.{Signal}
 use Rattle.mmtel_call.specs.declared.signals.Signal.TheVariants as signal
 use Rattle.mmtel_call_theorems.proofs.Continuation.{ended, no-leaving}
-use Rattle.mmtel_call_theorems.proofs.Notifications.AddedNotifications.{IsUnnotified, expiry-unnotified, adds-emit, adds-if, adds-then, asked-for-unnotified, dismissing-unnotified, gone-unnotified, other-unnotified, prack-unnotified, unnotified, unnotified-acked, unnotified-bye, unnotified-cancelled, unnotified-drew, unnotified-final-acked, unnotified-reply, unnotified-unheard, unnotified-unlisted, step-if, unless-unnotified}
+use Rattle.mmtel_call_theorems.proofs.Notifications.AddedNotifications.{IsUnnotified, expiry-unnotified, adds-emit, adds-if, adds-then, asked-for-unnotified, dismissing-unnotified, gone-unnotified, other-unnotified, prack-unnotified, unnotified, unnotified-acked, unnotified-bye, unnotified-cancelled, unnotified-drew, unnotified-final-acked, unnotified-reply, unnotified-refused_request, unnotified-unlisted, step-if, unless-unnotified}
 use Rattle.mmtel_call_theorems.proofs.Notifications.OwnNotifications.{IsNoNotification, final-notification}
 use Rattle.mmtel_session.specs.Intervals.{expiry_interval_of}
 
@@ -107,7 +107,7 @@ check-unnotified : (key : TKey) (said : Result (Unit {0}) DialogueFault) (stage 
     IsUnnotified key output (on_request_at_if said stage config at x side asked m c output).output
 check-unnotified key (Ok received) stage config at x side asked m c output =
     let y = with_leg side (leg_after_receiving (leg_of side x) m) x in received-unnotified key stage config at y side asked m (at_stage y stage c) output
-check-unnotified key (Err fault) stage config at x side asked m c output = unnotified-unheard key config c asked m fault output
+check-unnotified key (Err fault) stage config at x side asked m c output = unnotified-refused_request key config c asked m fault output
 
 -- ---- ACK, CANCEL, deadlines, timeouts
 

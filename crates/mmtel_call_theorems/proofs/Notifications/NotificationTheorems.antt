@@ -271,7 +271,7 @@ NotifiedBy s later ends c notices =
     × (c.diversions.history ≡ history_after_targets (opening_in s) (received s) (outcome (call_in s later) ends).targets)
 
 abbrev Notified : TraceStart → List TraceStep → (ℕ → SnapshotView) → Type 0
-Notified s heard later = NotifiedBy s later (endings_after s heard) (call_after s heard) (notifications_after s heard)
+Notified s incoming later = NotifiedBy s later (endings_after s incoming) (call_after s incoming) (notifications_after s incoming)
 
 notified-more : (s : TraceStart) (later : ℕ → SnapshotView) (ends ends2 : List EndedAttempt) (c d : Call) (notices more : List (Message StartLine)) (old new : List precedence.OutcomeTarget) →
     (outcome (call_in s later) ends).targets ≡ old → (outcome (call_in s later) ends2).targets ≡ old ++ new → NotifiedBy s later ends c notices →
@@ -316,10 +316,10 @@ next-ringing turn_law end_law extend law s x earlier later c filed at m trial re
     let ends = endings_after s earlier in
     let kept = moves.moves m call (initial_state call ends) in
     let new = next_step s x c in
-    let heard : Receives (is_relayed_notification x.signal) s.config x.now trial c x.output (end_in c.phase c x.signal) new =
+    let incoming : Receives (is_relayed_notification x.signal) s.config x.now trial c x.output (end_in c.phase c x.signal) new =
     subst (λ (c : Call). Receives (is_relayed_notification x.signal) s.config x.now trial c x.output (end_in c.phase c x.signal) (next_step s x c)) (sym (in-phase c (Offered trial) p.phase)) (receives s.config x.now trial x.signal c x.output) in
     let step : AtStep s.config x.now s.now later kept c trial reach new o = record { known = is-known s; counted = record { remaining = agrees.remaining; count = agrees.count }; rings = p.rings; empty = agrees.empty; sheet = p.sheet; snapshots = stands } in
-    let (n, t) = ringing-notifies turn_law end_law (is_relayed_notification x.signal) s.config x.now s.now later kept c x.output trial reach (end_in c.phase c x.signal) new o step agrees.opening heard in
+    let (n, t) = ringing-notifies turn_law end_law (is_relayed_notification x.signal) s.config x.now s.now later kept c x.output trial reach (end_in c.phase c x.signal) new o step agrees.opening incoming in
     let (fewer, least, same) = extend.go_on call m (initial_state call ends) (ending_by x c) in
     let moved : moves.moves n call (with_more_endings kept (ending_by x c)) ≡ moves.moves (fewer + n) call (initial_state call (ends ++ ending_by x c)) = ap (moves.moves n call) (sym same) ∙ moves-more fewer n call (initial_state call (ends ++ ending_by x c)) in
     notified-more s later ends (ends ++ ending_by x c) c new.call notices _ kept.targets t.new
@@ -363,7 +363,7 @@ notified-first turn_law law s later fits =
     let all : t.new ≡ (outcome (call_in s later) []).targets = sym t.reached ∙ targets-of law (call_in s later) [] n t.rests in
     (t.notified ∙ ap (notifications_due s.config o (received s)) all, t.entries ∙ ap (history_after_targets o (received s)) all)
 
-notifies : NextStepsAreMoves → EndingsAreMoves → LaterEndingsExtend → MovesGiveTheOutcome → (s : TraceStart) (heard : List TraceStep) (later : ℕ → SnapshotView) → Fits s heard later → Notified s heard later
+notifies : NextStepsAreMoves → EndingsAreMoves → LaterEndingsExtend → MovesGiveTheOutcome → (s : TraceStart) (incoming : List TraceStep) (later : ℕ → SnapshotView) → Fits s incoming later → Notified s incoming later
 unfolding call_after endings_after notifications_after
 notifies turn_law end_law extend law s [] later fits = notified-first turn_law law s later fits
 notifies turn_law end_law extend law s (x ∷ earlier) later fits =
@@ -374,7 +374,7 @@ notifies turn_law end_law extend law s (x ∷ earlier) later fits =
     (notifies turn_law end_law extend law s earlier later before) agrees.place
 
 pub notifies_its_diversions : NextStepsAreMoves → EndingsAreMoves → LaterEndingsExtend → MovesGiveTheOutcome → NotifiesItsDiversions
-notifies_its_diversions turn_law end_law extend law s heard = (notifies turn_law end_law extend law s heard (snapshot_at_diversion s heard) (λ j most. refl)).0
+notifies_its_diversions turn_law end_law extend law s incoming = (notifies turn_law end_law extend law s incoming (snapshot_at_diversion s incoming) (λ j most. refl)).0
 
 pub keeps_its_history : NextStepsAreMoves → EndingsAreMoves → LaterEndingsExtend → MovesGiveTheOutcome → KeepsItsHistory
-keeps_its_history turn_law end_law extend law s heard = (notifies turn_law end_law extend law s heard (snapshot_at_diversion s heard) (λ j most. refl)).1
+keeps_its_history turn_law end_law extend law s incoming = (notifies turn_law end_law extend law s incoming (snapshot_at_diversion s incoming) (λ j most. refl)).1

@@ -41,7 +41,7 @@ use Rattle.mmtel_call_theorems.specs.Endings.{end_of_attempt, end_on_deadline, e
 use Rattle.mmtel_call_theorems.proofs.AttemptOutcomes.{final-answered, given_cause, given_how, offered, success-yes, trying-provisional}
 use Rattle.mmtel_call_theorems.proofs.UnchangedCalls.{SameCall, other-untouched, same_call, timed-out-untouched}
 use Rattle.mmtel_call_theorems.specs.Notifications.DueNotifications.{is_relayed_notification}
-use Rattle.mmtel_call_theorems.proofs.Notifications.AddedNotifications.{IsQuiet, IsUnnotified, expiry-unnotified, adds-emit, adds-if, adds-reply, adds-then, dismissing-unnotified, gone-unnotified, on-other-unnotified, one-passed, other-unnotified, quiet, quiet-then, unnotified, unnotified-cancelled, unnotified-final-acked, unnotified-reply, unnotified-unheard}
+use Rattle.mmtel_call_theorems.proofs.Notifications.AddedNotifications.{IsQuiet, IsUnnotified, expiry-unnotified, adds-emit, adds-if, adds-reply, adds-then, dismissing-unnotified, gone-unnotified, on-other-unnotified, one-passed, other-unnotified, quiet, quiet-then, unnotified, unnotified-cancelled, unnotified-final-acked, unnotified-reply, unnotified-refused_request}
 use Rattle.mmtel_call_theorems.proofs.Notifications.OwnNotifications.{IsFinal, high-notification, its-final, time-final}
 use Rattle.mmtel_session.specs.Intervals.{expiry_interval_of}
 
@@ -141,13 +141,13 @@ caller-received config now x key m c output (Ok received) =
     receives-if false config now x (offered x c) output (is_bye m) (Some Cancel) None _ _ (gives-up false config now x y c output (with_status_to config (offered y c) key m 200 output) (unnotified-reply c.opening.key key _ _ _ output refl))
     (others-received config now x y Caller key m c output)
 caller-received config now x key m c output (Err fault) =
-    stays false config now x (offered x c) output None (step_result (offered x c) (with_refused_request config (offered x c) key m fault output)) tt refl (unnotified-unheard c.opening.key config (offered x c) key m fault output)
+    stays false config now x (offered x c) output None (step_result (offered x c) (with_refused_request config (offered x c) key m fault output)) tt refl (unnotified-refused_request c.opening.key config (offered x c) key m fault output)
 
 callee-received : (config : CallConfigView) (now : SnapshotView) (x : OfferedAttempt) (key : TKey) (m : MessageView) (c : Call) (output : StepOutput) (said : Result (Unit {0}) DialogueFault) →
     Receives false config now x (offered x c) output None (on_request_if said config now.at x Callee key m (offered x c) output)
 callee-received config now x key m c output (Ok received) = others-received config now x (attempt_after_request Callee m x) Callee key m c output
 callee-received config now x key m c output (Err fault) =
-    stays false config now x (offered x c) output None (step_result (offered x c) (with_refused_request config (offered x c) key m fault output)) tt refl (unnotified-unheard c.opening.key config (offered x c) key m fault output)
+    stays false config now x (offered x c) output None (step_result (offered x c) (with_refused_request config (offered x c) key m fault output)) tt refl (unnotified-refused_request c.opening.key config (offered x c) key m fault output)
 
 request-receives : (config : CallConfigView) (now : SnapshotView) (x : OfferedAttempt) (side : Side) (key : TKey) (m : MessageView) (c : Call) (output : StepOutput) →
     Receives false config now x (offered x c) output (end_on_request x side m) (on_request config now.at x side key m (offered x c) output)

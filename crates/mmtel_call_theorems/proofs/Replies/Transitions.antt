@@ -164,10 +164,10 @@ module _ (own : ℕ → Bool) (config : CallConfigView) (before : List Emit) whe
   relayed_in : (c : Call) (service : Option Service) (m : MessageView) (output : StepOutput) → Opens c → Replied output → Replied (with_relay_to_caller config c service m output)
   relayed_in c service m output k had = emit_in _ output k.0 had
 
-  unheard_in : (c : Call) (key : TKey) (m : MessageView) (fault : DialogueFault) (output : StepOutput) → Own key → Replied output → Replied (with_refused_request config c key m fault output)
-  unheard_in c key m (OldCSeq last) output is had = emit_in _ output is had
-  unheard_in c key m Pending output is had = emit_in _ output is had
-  unheard_in c key m Unfinished output is had = emit_in _ output is had
+  refused_request_in : (c : Call) (key : TKey) (m : MessageView) (fault : DialogueFault) (output : StepOutput) → Own key → Replied output → Replied (with_refused_request config c key m fault output)
+  refused_request_in c key m (OldCSeq last) output is had = emit_in _ output is had
+  refused_request_in c key m Pending output is had = emit_in _ output is had
+  refused_request_in c key m Unfinished output is had = emit_in _ output is had
 
   unlisted_by : (b d : Bool) (one two three : StepOutput) → Replied one → Replied two → Replied three → Replied (if b then one else if d then two else three)
   unlisted_by true d one two three x y z = x
@@ -329,12 +329,12 @@ module _ (own : ℕ → Bool) (config : CallConfigView) (before : List Emit) whe
       if_good (is_status (status_of m.parsed.start) (relayed_status cause)) (call_end at cause caller.meter None c (with_relay_to_caller config c service m output)) (call_refusal config at caller cause c output)
       (over_good at cause caller.meter None c (with_relay_to_caller config c service m output) k (relayed_in c service m output k had)) (refused_good at caller cause c output k had)
 
-  offer_good : (at : ℕ) (caller : Leg) (service : Option Service) (waiting : Bool) (aim : Destination) (c : Call) (output : StepOutput) → Opens c → Replied output → Good (attempt_start config at caller service waiting aim c output)
-  offer_good at caller service waiting aim c output k had =
+  offer_good : (at : ℕ) (caller : Leg) (service : Option Service) (waiting : Bool) (destination : Destination) (c : Call) (output : StepOutput) → Opens c → Replied output → Good (attempt_start config at caller service waiting destination c output)
+  offer_good at caller service waiting destination c output k had =
       let third : StepOutput = after_draw (after_draw output) in
-      let m : Message Start = invite_of (attempt_dialog_of c.opening aim output) config.sip (token third) (attempt_lines config c.opening c.diversions service aim.peer) waiting c.opening.invite.parsed in
-      let asked : StepOutput = with_emit (emit.Ask aim.peer m) (after_draw third) in
-      good (attempt_start config at caller service waiting aim c output) tt k (emit_in _ asked tt (emit_in (emit.Ask aim.peer m) (after_draw third) tt had))
+      let m : Message Start = invite_of (attempt_dialog_of c.opening destination output) config.sip (token third) (attempt_lines config c.opening c.diversions service destination.peer) waiting c.opening.invite.parsed in
+      let asked : StepOutput = with_emit (emit.Ask destination.peer m) (after_draw third) in
+      good (attempt_start config at caller service waiting destination c output) tt k (emit_in _ asked tt (emit_in (emit.Ask destination.peer m) (after_draw third) tt had))
 
   abbrev Diverts : ℕ → SnapshotView → Leg → Type 0
   Diverts left now caller = (service : Option Service) (due : DueDiversionView) (c : Call) (output : StepOutput) → Opens c → Replied output → Good (divert left config now caller service due c output)
@@ -481,7 +481,7 @@ module _ (own : ℕ → Bool) (config : CallConfigView) (before : List Emit) whe
   request_if_transition : (r : Result (Unit {0}) DialogueFault) (at : ℕ) (x : OfferedAttempt) (side : Side) (key : TKey) (m : MessageView) (c : Call) (output : StepOutput) →
       Own key → Opens c → Replied output → Good (on_request_if r config at x side key m (offered_call x c) output)
   request_if_transition (Ok received) at x side key m c output a k had = received_transition at (attempt_after_request side m x) side key m c output a k had
-  request_if_transition (Err fault) at x side key m c output a k had = onward_good (offered_call x c) (with_refused_request config (offered_call x c) key m fault output) tt k (unheard_in (offered_call x c) key m fault output a had)
+  request_if_transition (Err fault) at x side key m c output a k had = onward_good (offered_call x c) (with_refused_request config (offered_call x c) key m fault output) tt k (refused_request_in (offered_call x c) key m fault output a had)
 
   request_transition : (at : ℕ) (x : OfferedAttempt) (side : Side) (key : TKey) (m : MessageView) (c : Call) (output : StepOutput) → Own key → Opens c → Replied output → Good (on_request config at x side key m (offered_call x c) output)
   request_transition at x side key m c output a k had = request_if_transition (offered_request_check x side m) at x side key m c output a k had
@@ -491,8 +491,8 @@ module _ (own : ℕ → Bool) (config : CallConfigView) (before : List Emit) whe
   bye_to_in : (x : EstablishedLegs) (side : Side) (output : StepOutput) → Replied output → Replied (with_bye_to config x side output)
   bye_to_in x side output had = bye_in (leg_of side x).dialogue output had
 
-  acked_left_in : (x : EstablishedLegs) (side : Side) (output : StepOutput) → Replied output → Replied (with_ack_and_bye config x side output)
-  acked_left_in x side output had = bye_to_in x side (with_ack config.sip (leg_of side x).dialogue output) (acked_in (leg_of side x).dialogue output had)
+  acked_remaining_in : (x : EstablishedLegs) (side : Side) (output : StepOutput) → Replied output → Replied (with_ack_and_bye config x side output)
+  acked_remaining_in x side output had = bye_to_in x side (with_ack config.sip (leg_of side x).dialogue output) (acked_in (leg_of side x).dialogue output had)
 
   over_established_good : (at : ℕ) (x : EstablishedLegs) (c : Call) (output : StepOutput) → Opens c → Replied output → Good (established_call_end at x c output)
   over_established_good at x c output k had = over_good at causes.Ended x.caller.meter x.callee.meter c output k had
@@ -512,12 +512,12 @@ module _ (own : ℕ → Bool) (config : CallConfigView) (before : List Emit) whe
 
   unacknowledged_good : (at : ℕ) (x : EstablishedLegs) (side : Side) (c : Call) (output : StepOutput) → Opens c → Replied output → Good (after_ack_timeout config at x side c output)
   unacknowledged_good at x side c output k had =
-      over_established_good at x c (with_bye_to config x side (with_ack_and_bye config x (other_side side) output)) k (bye_to_in x side (with_ack_and_bye config x (other_side side) output) (acked_left_in x (other_side side) output had))
+      over_established_good at x c (with_bye_to config x side (with_ack_and_bye config x (other_side side) output)) k (bye_to_in x side (with_ack_and_bye config x (other_side side) output) (acked_remaining_in x (other_side side) output had))
 
   bye_before_good : (at : ℕ) (x : EstablishedLegs) (waiting : Side) (success : Success) (side : Side) (c : Call) (output : StepOutput) → Opens c → Replied output → Good (after_bye_before_ack config at x waiting success side c output)
   bye_before_good at x waiting success side c output k had =
       if_good (is_same_side waiting side) (established_call_end at x c (with_ack_and_bye config x (other_side side) output)) (step_result (at_stage x (Departing waiting success) c) output)
-      (over_established_good at x c (with_ack_and_bye config x (other_side side) output) k (acked_left_in x (other_side side) output had))
+      (over_established_good at x c (with_ack_and_bye config x (other_side side) output) k (acked_remaining_in x (other_side side) output had))
       (staged_good x (Departing waiting success) c output tt k had)
 
   -- an INVITE is relayed
@@ -633,7 +633,7 @@ module _ (own : ℕ → Bool) (config : CallConfigView) (before : List Emit) whe
   request_at_if_transition : (r : Result (Unit {0}) DialogueFault) (stage : Stage) (at : ℕ) (x : EstablishedLegs) (side : Side) (key : TKey) (m : MessageView) (c : Call) (output : StepOutput) →
       Own key → AtStage stage → Opens c → Replied output → Good (on_request_at_if r stage config at x side key m (established x stage c) output)
   request_at_if_transition (Ok received) stage at x side key m c output a e k had = received_at_transition stage at (with_leg side (leg_after_receiving (leg_of side x) m) x) side key m c output a e k had
-  request_at_if_transition (Err fault) stage at x side key m c output a e k had = staged_good x stage c (with_refused_request config (established x stage c) key m fault output) e k (unheard_in (established x stage c) key m fault output a had)
+  request_at_if_transition (Err fault) stage at x side key m c output a e k had = staged_good x stage c (with_refused_request config (established x stage c) key m fault output) e k (refused_request_in (established x stage c) key m fault output a had)
 
   request_at_transition : (stage : Stage) (at : ℕ) (x : EstablishedLegs) (side : Side) (key : TKey) (m : MessageView) (c : Call) (output : StepOutput) → Own key → AtStage stage → Opens c → Replied output → Good (on_request_at stage config at x side key m (established x stage c) output)
   request_at_transition stage at x side key m c output a e k had = request_at_if_transition (request_check (leg_of side x) m (busy_in stage side)) stage at x side key m c output a e k had

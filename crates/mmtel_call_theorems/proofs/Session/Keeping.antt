@@ -30,7 +30,7 @@ use Rattle.mmtel_call_theorems.specs.CallTrace.{TraceStart, TraceStep, call_afte
 use Rattle.mmtel_call_theorems.specs.Attempts.Observed.{Deadline}
 use Rattle.mmtel_call_theorems.proofs.NoInjection.Sending.{each_append}
 use Rattle.mmtel_call_theorems.proofs.Session.Transitions as rows
-use Rattle.mmtel_call_theorems.proofs.Session.Transitions.{Goes, HearsNone, Passes, SaysNone, if_same}
+use Rattle.mmtel_call_theorems.proofs.Session.Transitions.{Goes, Passes, ReceivesNone, SaysNone, if_same}
 
 -- ---- numbers
 
@@ -129,7 +129,7 @@ module _ (config : CallConfigView) (c : Call) (w : Session) (seen : IsSessionObs
       ap (λ out. next_observed at own received out w) (added_new before a.new s.output.out a.out)
       ∙ (λ i. session_after_success at w (if a.accepted i then is i else None) (expiries_of own a.new)) in
       subst (IsSessionObserved config.timer s.call) (sym told) (begun config.timer c w seen at m s.call (expiries_of own a.new) a.number a.armed)
-  goes_observed at received before s (HearsNone is g) =
+  goes_observed at received before s (ReceivesNone is g) =
       stays_observed at received true before s g (λ new unsaid. ap (λ o. passed_in o new) is ∙ if_same (list_any is_accepted new) None)
   goes_observed at received before s (SaysNone g) = stays_observed at received false before s g (λ new unsaid. ap (λ b. if b then received else None) (unsaid refl))
 

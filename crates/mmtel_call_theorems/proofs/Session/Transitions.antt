@@ -220,10 +220,10 @@ module _ (config : CallConfigView) (own : CallNo) (count : ℕ) (before : List E
   relayed_in : (c : Call) (service : Option Service) (m : MessageView) (output : StepOutput) → Quiet output → Quiet (with_relay_to_caller config c service m output)
   relayed_in c service m output had = emit_in _ output refl had
 
-  unheard_in : (c : Call) (key : TKey) (m : MessageView) (fault : DialogueFault) (output : StepOutput) → Quiet output → Quiet (with_refused_request config c key m fault output)
-  unheard_in c key m (OldCSeq last) output had = emit_in _ output refl had
-  unheard_in c key m Pending output had = emit_in _ output refl had
-  unheard_in c key m Unfinished output had = emit_in _ output refl had
+  refused_request_in : (c : Call) (key : TKey) (m : MessageView) (fault : DialogueFault) (output : StepOutput) → Quiet output → Quiet (with_refused_request config c key m fault output)
+  refused_request_in c key m (OldCSeq last) output had = emit_in _ output refl had
+  refused_request_in c key m Pending output had = emit_in _ output refl had
+  refused_request_in c key m Unfinished output had = emit_in _ output refl had
 
   unlisted_by : (b d : Bool) (one two three : StepOutput) → Quiet one → Quiet two → Quiet three → Quiet (if b then one else if d then two else three)
   unlisted_by true d one two three x y z = x
@@ -271,12 +271,12 @@ module _ (config : CallConfigView) (own : CallNo) (count : ℕ) (before : List E
       if_good (is_status (status_of m.parsed.start) (relayed_status cause)) (call_end at cause caller.meter None c (with_relay_to_caller config c service m output)) (call_refusal config at caller cause c output)
       (over_good at cause caller.meter None c (with_relay_to_caller config c service m output) k (relayed_in c service m output had)) (refused_good at caller cause c output k had)
 
-  offer_good : (at : ℕ) (caller : Leg) (service : Option Service) (waiting : Bool) (aim : Destination) (c : Call) (output : StepOutput) → Opens c → Quiet output → Good (attempt_start config at caller service waiting aim c output)
-  offer_good at caller service waiting aim c output k had =
+  offer_good : (at : ℕ) (caller : Leg) (service : Option Service) (waiting : Bool) (destination : Destination) (c : Call) (output : StepOutput) → Opens c → Quiet output → Good (attempt_start config at caller service waiting destination c output)
+  offer_good at caller service waiting destination c output k had =
       let third : StepOutput = after_draw (after_draw output) in
-      let m : Message Start = invite_of (attempt_dialog_of c.opening aim output) config.sip (token third) (attempt_lines config c.opening c.diversions service aim.peer) waiting c.opening.invite.parsed in
-      let asked : StepOutput = with_emit (emit.Ask aim.peer m) (after_draw third) in
-      good (attempt_start config at caller service waiting aim c output) k (emit_in _ asked refl (emit_in (emit.Ask aim.peer m) (after_draw third) refl (drew_in true third (drew_in true (after_draw output) (drew_in true output had)))))
+      let m : Message Start = invite_of (attempt_dialog_of c.opening destination output) config.sip (token third) (attempt_lines config c.opening c.diversions service destination.peer) waiting c.opening.invite.parsed in
+      let asked : StepOutput = with_emit (emit.Ask destination.peer m) (after_draw third) in
+      good (attempt_start config at caller service waiting destination c output) k (emit_in _ asked refl (emit_in (emit.Ask destination.peer m) (after_draw third) refl (drew_in true third (drew_in true (after_draw output) (drew_in true output had)))))
 
   abbrev Diverts : ℕ → SnapshotView → Leg → Type 0
   Diverts left now caller = (service : Option Service) (due : DueDiversionView) (c : Call) (output : StepOutput) → Opens c → Quiet output → Good (divert left config now caller service due c output)
@@ -420,7 +420,7 @@ module _ (config : CallConfigView) (own : CallNo) (count : ℕ) (before : List E
   -- where this 2xx is received, if one is: it is relayed, or the step sends none
   pub data Goes (at : ℕ) (received : Option MessageView) (s : StepResult) : Type 0 where
     Passes : (m : MessageView) → received ≡ Some m → Agrees at m s → Goes at received s
-    HearsNone : received ≡ None → Good s → Goes at received s
+    ReceivesNone : received ≡ None → Good s → Goes at received s
     SaysNone : Stays false s → Goes at received s
 
   goes_if : (at : ℕ) (received : Option MessageView) (b : Bool) (one two : StepResult) → (b ≡ true → Goes at received one) → (b ≡ false → Goes at received two) → Goes at received (if b then one else two)
@@ -445,10 +445,10 @@ module _ (config : CallConfigView) (own : CallNo) (count : ℕ) (before : List E
       goes_if at (received_of m) (nat_lt code 101) (on_trying key x c output) _
       (λ low. SaysNone (record { call_in = k; output_in = unsaid }))
       (λ high. goes_if at (received_of m) (nat_lt code 200) (ringing.on_provisional config at x key m code c output) _
-      (λ low. HearsNone (none_of m (low_status code low)) (proceeding_good at x key m code c output k had))
+      (λ low. ReceivesNone (none_of m (low_status code low)) (proceeding_good at x key m code c output k had))
       (λ above. goes_if at (received_of m) (nat_lt code 300) (on_answer config at x key m c output) (on_failure config now x key m code c output)
       (λ below. let yes = success_status code above below in Passes m (some_of m yes) (answered_agrees at x key m c output yes k had))
-      (λ beyond. HearsNone (none_of m (high_status code beyond)) (failed_good now x key m code c output k had))))
+      (λ beyond. ReceivesNone (none_of m (high_status code beyond)) (failed_good now x key m code c output k had))))
 
   abbrev offered_call : OfferedAttempt → Call → Call
   offered_call x c = record c { phase = Offered x }
@@ -544,7 +544,7 @@ module _ (config : CallConfigView) (own : CallNo) (count : ℕ) (before : List E
   request_if_transition : (r : Result (Unit {0}) DialogueFault) (at : ℕ) (x : OfferedAttempt) (side : Side) (key : TKey) (m : MessageView) (c : Call) (output : StepOutput) →
       Opens c → Quiet output → Good (on_request_if r config at x side key m (offered_call x c) output)
   request_if_transition (Ok received) at x side key m c output k had = received_transition at (attempt_after_request side m x) side key m c output k had
-  request_if_transition (Err fault) at x side key m c output k had = onward_good (offered_call x c) (with_refused_request config (offered_call x c) key m fault output) k (unheard_in (offered_call x c) key m fault output had)
+  request_if_transition (Err fault) at x side key m c output k had = onward_good (offered_call x c) (with_refused_request config (offered_call x c) key m fault output) k (refused_request_in (offered_call x c) key m fault output had)
 
   request_transition : (at : ℕ) (x : OfferedAttempt) (side : Side) (key : TKey) (m : MessageView) (c : Call) (output : StepOutput) → Opens c → Quiet output → Good (on_request config at x side key m (offered_call x c) output)
   request_transition at x side key m c output k had = request_if_transition (offered_request_check x side m) at x side key m c output k had
@@ -554,8 +554,8 @@ module _ (config : CallConfigView) (own : CallNo) (count : ℕ) (before : List E
   bye_to_in : (x : EstablishedLegs) (side : Side) (output : StepOutput) → Quiet output → Quiet (with_bye_to config x side output)
   bye_to_in x side output had = bye_in (leg_of side x).dialogue output had
 
-  acked_left_in : (x : EstablishedLegs) (side : Side) (output : StepOutput) → Quiet output → Quiet (with_ack_and_bye config x side output)
-  acked_left_in x side output had = bye_to_in x side (with_ack config.sip (leg_of side x).dialogue output) (acked_in (leg_of side x).dialogue output had)
+  acked_remaining_in : (x : EstablishedLegs) (side : Side) (output : StepOutput) → Quiet output → Quiet (with_ack_and_bye config x side output)
+  acked_remaining_in x side output had = bye_to_in x side (with_ack config.sip (leg_of side x).dialogue output) (acked_in (leg_of side x).dialogue output had)
 
   over_established_good : (at : ℕ) (x : EstablishedLegs) (c : Call) (output : StepOutput) → Opens c → Quiet output → Good (established_call_end at x c output)
   over_established_good at x c output k had = over_good at causes.Ended x.caller.meter x.callee.meter c output k had
@@ -575,12 +575,12 @@ module _ (config : CallConfigView) (own : CallNo) (count : ℕ) (before : List E
 
   unacknowledged_good : (at : ℕ) (x : EstablishedLegs) (side : Side) (c : Call) (output : StepOutput) → Opens c → Quiet output → Good (after_ack_timeout config at x side c output)
   unacknowledged_good at x side c output k had =
-      over_established_good at x c (with_bye_to config x side (with_ack_and_bye config x (other_side side) output)) k (bye_to_in x side (with_ack_and_bye config x (other_side side) output) (acked_left_in x (other_side side) output had))
+      over_established_good at x c (with_bye_to config x side (with_ack_and_bye config x (other_side side) output)) k (bye_to_in x side (with_ack_and_bye config x (other_side side) output) (acked_remaining_in x (other_side side) output had))
 
   bye_before_good : (at : ℕ) (x : EstablishedLegs) (waiting : Side) (success : Success) (side : Side) (c : Call) (output : StepOutput) → Opens c → Quiet output → Good (after_bye_before_ack config at x waiting success side c output)
   bye_before_good at x waiting success side c output k had =
       if_good (is_same_side waiting side) (established_call_end at x c (with_ack_and_bye config x (other_side side) output)) (step_result (at_stage x (Departing waiting success) c) output)
-      (over_established_good at x c (with_ack_and_bye config x (other_side side) output) k (acked_left_in x (other_side side) output had))
+      (over_established_good at x c (with_ack_and_bye config x (other_side side) output) k (acked_remaining_in x (other_side side) output had))
       (staged_good x (Departing waiting success) c output k had)
 
   -- an INVITE is relayed
@@ -620,10 +620,10 @@ module _ (config : CallConfigView) (own : CallNo) (count : ℕ) (before : List E
       let back : StepOutput = with_refusal_back config x side q key m c output in
       let told : Quiet back = refused_back_in x side q key m c output had in
       goes_if at (received_of m) (nat_lt code 200) (on_provisional_across config x side q key c output) _
-      (λ low. HearsNone (none_of m (low_status code low)) (proceeding_across_good x side q key c output k had))
+      (λ low. ReceivesNone (none_of m (low_status code low)) (proceeding_across_good x side q key c output k had))
       (λ above. goes_if at (received_of m) (nat_lt code 300) (on_accepted_reinvite config at x side q key m c output) (if ends_dialog code then established_call_end at x c (with_byes config x back) else step_result (at_stage x Stable c) back)
       (λ below. let yes = success_status code above below in Passes m (some_of m yes) (agreed_agrees at x side q key m c output yes k had))
-      (λ beyond. HearsNone (none_of m (high_status code beyond)) (if_good (ends_dialog code) (established_call_end at x c (with_byes config x back)) (step_result (at_stage x Stable c) back)
+      (λ beyond. ReceivesNone (none_of m (high_status code beyond)) (if_good (ends_dialog code) (established_call_end at x c (with_byes config x back)) (step_result (at_stage x Stable c) back)
       (over_established_good at x c (with_byes config x back) k (bye_both_in x back told)) (staged_good x Stable c back k told))))
 
   timed_out_across_good : (at : ℕ) (x : EstablishedLegs) (q : Reinvite) (c : Call) (output : StepOutput) → Opens c → Quiet output → Good (on_timeout_across config at x q c output)
@@ -692,7 +692,7 @@ module _ (config : CallConfigView) (own : CallNo) (count : ℕ) (before : List E
   request_at_if_transition : (r : Result (Unit {0}) DialogueFault) (stage : Stage) (at : ℕ) (x : EstablishedLegs) (side : Side) (key : TKey) (m : MessageView) (c : Call) (output : StepOutput) →
       Opens c → Quiet output → Good (on_request_at_if r stage config at x side key m (established x stage c) output)
   request_at_if_transition (Ok received) stage at x side key m c output k had = received_at_transition stage at (with_leg side (leg_after_receiving (leg_of side x) m) x) side key m c output k had
-  request_at_if_transition (Err fault) stage at x side key m c output k had = staged_good x stage c (with_refused_request config (established x stage c) key m fault output) k (unheard_in (established x stage c) key m fault output had)
+  request_at_if_transition (Err fault) stage at x side key m c output k had = staged_good x stage c (with_refused_request config (established x stage c) key m fault output) k (refused_request_in (established x stage c) key m fault output had)
 
   request_at_transition : (stage : Stage) (at : ℕ) (x : EstablishedLegs) (side : Side) (key : TKey) (m : MessageView) (c : Call) (output : StepOutput) → Opens c → Quiet output → Good (on_request_at stage config at x side key m (established x stage c) output)
   request_at_transition stage at x side key m c output k had = request_at_if_transition (request_check (leg_of side x) m (busy_in stage side)) stage at x side key m c output k had
@@ -837,7 +837,7 @@ module _ (config : CallConfigView) (own : CallNo) (count : ℕ) (before : List E
       let gone : Call = in_flight.without_transaction place c in
       let back : StepOutput = in_flight.with_response_back config flight m gone output in
       let told : Good (step_result gone back) = onward_good gone back k (emit_in _ output refl (quiet_of output unsaid)) in
-      HearsNone refl
+      ReceivesNone refl
       (if_good (nat_lt (status_of m.parsed.start) 200) (step_result c output) (if is_success (status_of m.parsed.start) then step_result gone back else step_result gone back) (onward_good c output k (quiet_of output unsaid))
       (if_good (is_success (status_of m.parsed.start)) (step_result gone back) (step_result gone back) told told))
   kind_goes Update at flight m place c output k unsaid =
@@ -846,7 +846,7 @@ module _ (config : CallConfigView) (own : CallNo) (count : ℕ) (before : List E
       goes_if at (received_of m) (nat_lt (status_of m.parsed.start) 200) (step_result c output) _ (λ low. SaysNone (nothing_said c output k unsaid))
       (λ above. goes_if at (received_of m) (is_success (status_of m.parsed.start)) (in_flight.on_accepted_in_flight Update config at flight.side flight.exchange.request m gone back) (step_result gone back)
       (λ yes. Passes m (some_of m yes) (update_agrees at flight m gone output yes k (quiet_of output unsaid)))
-      (λ no. HearsNone (none_of m no) (onward_good gone back k (emit_in _ output refl (quiet_of output unsaid)))))
+      (λ no. ReceivesNone (none_of m no) (onward_good gone back k (emit_in _ output refl (quiet_of output unsaid)))))
 
   relayed_goes : (at : ℕ) (m : MessageView) (place : ℕ) (o : Option RelayedTransaction) (c : Call) (output : StepOutput) → Opens c → NoSuccess output →
       Goes at (if not (is_prack_in o) && is_success (status_of m.parsed.start) then Some m else None) (in_flight.on_response_relayed config at m (status_of m.parsed.start) place o c output)
@@ -973,13 +973,13 @@ module _ (config : CallConfigView) (own : CallNo) (count : ℕ) (before : List E
 
   transition_goes : (now : SnapshotView) (received : Signal) (c : Call) (output : StepOutput) → Opens c → NoSuccess output → Goes now.at (success_received received c) (transition config now received c output)
   unfolding transition
-  transition_goes now (signal.Request side key request) c output k unsaid = HearsNone refl (request_good c.phase now.at side key request c output k (quiet_of output unsaid))
-  transition_goes now (signal.Ack side ack) c output k unsaid = HearsNone refl (ack_good c.phase now.at side ack c output k (quiet_of output unsaid))
-  transition_goes now (signal.Cancel key cancel invite) c output k unsaid = HearsNone refl (cancel_good c.phase now.at key cancel invite c output k (quiet_of output unsaid))
+  transition_goes now (signal.Request side key request) c output k unsaid = ReceivesNone refl (request_good c.phase now.at side key request c output k (quiet_of output unsaid))
+  transition_goes now (signal.Ack side ack) c output k unsaid = ReceivesNone refl (ack_good c.phase now.at side ack c output k (quiet_of output unsaid))
+  transition_goes now (signal.Cancel key cancel invite) c output k unsaid = ReceivesNone refl (cancel_good c.phase now.at key cancel invite c output k (quiet_of output unsaid))
   transition_goes now (signal.Answer key response) c output k unsaid = answer_goes (awaited_request_branch response) now key response c output k unsaid
-  transition_goes now (signal.Silent branch method) c output k unsaid = HearsNone refl (timeout_of_good (timed_out_branch branch method) now c output k (quiet_of output unsaid))
-  transition_goes now (signal.Due what) c output k unsaid = HearsNone refl (due_good c.phase now what c output k (quiet_of output unsaid))
-  transition_goes now (signal.Ended key) c output k unsaid = HearsNone refl (key_transition key c output k (quiet_of output unsaid))
+  transition_goes now (signal.Silent branch method) c output k unsaid = ReceivesNone refl (timeout_of_good (timed_out_branch branch method) now c output k (quiet_of output unsaid))
+  transition_goes now (signal.Due what) c output k unsaid = ReceivesNone refl (due_good c.phase now what c output k (quiet_of output unsaid))
+  transition_goes now (signal.Ended key) c output k unsaid = ReceivesNone refl (key_transition key c output k (quiet_of output unsaid))
 
   -- in a step that ends the attempt without a 2xx, or the call, the call waits for the response that is received, so that is none to a PRACK
   leaving_received : (received : Signal) (c : Call) → leaves received c ≡ true → success_received received (in_flight.without_in_flight c) ≡ success_received received c

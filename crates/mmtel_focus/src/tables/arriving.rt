@@ -85,10 +85,10 @@ impl Rooms {
     ) -> Result<(RoomNo, Emits), (CallerLeg<Standing>, RoomFault)>
         requires unmetered { leg.meter ≡ None }
         requires audio { offers_audio invite.now.parsed.body ≡ true }
-        ensures done { OnOk result ((deeds : List TableOp) → Represents peers.now accounts.now self.old deeds →
-            Represents peers.now accounts.now self.new (Opens (join_request now leg account key invite.now) ∷ deeds)) }
-        ensures emits { IfOk result (λ made. (deeds : List TableOp) → Represents peers.now accounts.now self.old deeds →
-            made.1 ≡ (effects_after (config_of self.old peers.now accounts.now) deeds (Opens (join_request now leg account key invite.now))).output.out) }
+        ensures done { OnOk result ((ops : List TableOp) → Represents peers.now accounts.now self.old ops →
+            Represents peers.now accounts.now self.new (Opens (join_request now leg account key invite.now) ∷ ops)) }
+        ensures emits { IfOk result (λ made. (ops : List TableOp) → Represents peers.now accounts.now self.old ops →
+            made.1 ≡ (effects_after (config_of self.old peers.now accounts.now) ops (Opens (join_request now leg account key invite.now))).output.out) }
         ensures number { IfOk result (λ made. made.0.0 ≡ next_number self.old.table.opened) }
         ensures config { OnOk result ((peers : Peers) (accounts : List AccountIdentity) →
             config_of self.new peers accounts ≡ config_of self.old peers accounts) }
@@ -177,12 +177,12 @@ impl Rooms {
     ) -> Result<Emits, (Released, RoomFault)>
         requires unmetered { (released_leg leg).meter ≡ None }
         requires audio { has_audio_offer how ≡ true }
-        ensures done { OnOk result ((deeds : List TableOp) → Represents peers.now accounts.now self.old deeds →
-            Represents peers.now accounts.now self.new (entry_op room.0 now tokens.old leg account how.entry ∷ deeds)) }
-        ensures emits { IfOk result (λ out. (deeds : List TableOp) → Represents peers.now accounts.now self.old deeds →
-            out ≡ (effects_after (config_of self.old peers.now accounts.now) deeds (entry_op room.0 now tokens.old leg account how.entry)).output.out) }
-        ensures tokens { OnOk result ((deeds : List TableOp) → Represents peers.now accounts.now self.old deeds →
-            tokens.new ≡ (effects_after (config_of self.old peers.now accounts.now) deeds
+        ensures done { OnOk result ((ops : List TableOp) → Represents peers.now accounts.now self.old ops →
+            Represents peers.now accounts.now self.new (entry_op room.0 now tokens.old leg account how.entry ∷ ops)) }
+        ensures emits { IfOk result (λ out. (ops : List TableOp) → Represents peers.now accounts.now self.old ops →
+            out ≡ (effects_after (config_of self.old peers.now accounts.now) ops (entry_op room.0 now tokens.old leg account how.entry)).output.out) }
+        ensures tokens { OnOk result ((ops : List TableOp) → Represents peers.now accounts.now self.old ops →
+            tokens.new ≡ (effects_after (config_of self.old peers.now accounts.now) ops
             (entry_op room.0 now tokens.old leg account how.entry)).output.tokens) }
         ensures config { OnOk result ((peers : Peers) (accounts : List AccountIdentity) →
             config_of self.new peers accounts ≡ config_of self.old peers accounts) }

@@ -18,12 +18,12 @@ impl Rooms {
     /// A participant leaves; returns its CDR. Nothing is sent; an INVITE of the server's own to it that has no final response is dropped. None exactly where there is no such
     /// participant, where it is invited and has not answered (it stays then), or where no account is charged for it. It allocates nothing.
     pub fn leave(&mut self, room: RoomNo, seat: u64, now: Moment) -> Option<Row>
-        ensures done { (peers : Peers) (accounts : List AccountIdentity) (deeds : List TableOp) →
-            Represents peers accounts self.old deeds →
-            Represents peers accounts self.new (Leaves room.0 seat ∷ deeds) }
-        ensures row { (peers : Peers) (accounts : List AccountIdentity) (deeds : List TableOp) →
-            Represents peers accounts self.old deeds →
-            result ≡ row_of_leave now room.0 seat (table_after (config_of self.old peers accounts) deeds).live }
+        ensures done { (peers : Peers) (accounts : List AccountIdentity) (ops : List TableOp) →
+            Represents peers accounts self.old ops →
+            Represents peers accounts self.new (Leaves room.0 seat ∷ ops) }
+        ensures row { (peers : Peers) (accounts : List AccountIdentity) (ops : List TableOp) →
+            Represents peers accounts self.old ops →
+            result ≡ row_of_leave now room.0 seat (table_after (config_of self.old peers accounts) ops).live }
     {
         departing::leave(&mut self.live, room, seat, now)
     }
@@ -35,12 +35,12 @@ impl Rooms {
     ///
     /// Out of memory only; the conferences have not changed then.
     pub fn close(&mut self, alloc: Global, room: RoomNo) -> Result<Vec<Ended>, NoMemory>
-        ensures done { OnOk result ((peers : Peers) (accounts : List AccountIdentity) (deeds : List TableOp) →
-            Represents peers accounts self.old deeds →
-            Represents peers accounts self.new (Closes room.0 ∷ deeds)) }
-        ensures ended { IfOk result (λ all. (peers : Peers) (accounts : List AccountIdentity) (deeds : List TableOp) →
-            Represents peers accounts self.old deeds →
-            all.items ≡ ended_legs room.0 (table_after (config_of self.old peers accounts) deeds).live) }
+        ensures done { OnOk result ((peers : Peers) (accounts : List AccountIdentity) (ops : List TableOp) →
+            Represents peers accounts self.old ops →
+            Represents peers accounts self.new (Closes room.0 ∷ ops)) }
+        ensures ended { IfOk result (λ all. (peers : Peers) (accounts : List AccountIdentity) (ops : List TableOp) →
+            Represents peers accounts self.old ops →
+            all.items ≡ ended_legs room.0 (table_after (config_of self.old peers accounts) ops).live) }
         ensures refused { OnErr result (self.new ≡ self.old) }
     {
         departing::close(&mut self.live, alloc, room)

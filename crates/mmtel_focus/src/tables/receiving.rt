@@ -61,12 +61,12 @@ impl Rooms {
         tokens: &mut Tokens,
         now: Moment,
     ) -> Result<Emits, NoMemory>
-        ensures done { OnOk result ((deeds : List TableOp) → Represents peers.now accounts.now self.old deeds →
-            Represents peers.now accounts.now self.new (Receives (record { at = now; tokens = tokens.old; signal = signal }) ∷ deeds)) }
-        ensures emits { IfOk result (λ out. (deeds : List TableOp) → Represents peers.now accounts.now self.old deeds →
-            out ≡ (effects_after (config_of self.old peers.now accounts.now) deeds (Receives (record { at = now; tokens = tokens.old; signal = signal }))).output.out) }
-        ensures tokens { OnOk result ((deeds : List TableOp) → Represents peers.now accounts.now self.old deeds →
-            tokens.new ≡ (effects_after (config_of self.old peers.now accounts.now) deeds
+        ensures done { OnOk result ((ops : List TableOp) → Represents peers.now accounts.now self.old ops →
+            Represents peers.now accounts.now self.new (Receives (record { at = now; tokens = tokens.old; signal = signal }) ∷ ops)) }
+        ensures emits { IfOk result (λ out. (ops : List TableOp) → Represents peers.now accounts.now self.old ops →
+            out ≡ (effects_after (config_of self.old peers.now accounts.now) ops (Receives (record { at = now; tokens = tokens.old; signal = signal }))).output.out) }
+        ensures tokens { OnOk result ((ops : List TableOp) → Represents peers.now accounts.now self.old ops →
+            tokens.new ≡ (effects_after (config_of self.old peers.now accounts.now) ops
             (Receives (record { at = now; tokens = tokens.old; signal = signal }))).output.tokens) }
         ensures config { OnOk result ((peers : Peers) (accounts : List AccountIdentity) →
             config_of self.new peers accounts ≡ config_of self.old peers accounts) }
@@ -125,12 +125,12 @@ impl Rooms {
         accounts: &Accounts,
         tokens: &mut Tokens,
     ) -> Result<Emits, NoMemory>
-        ensures done { OnOk result ((deeds : List TableOp) → Represents peers.now accounts.now self.old deeds →
-            Represents peers.now accounts.now self.new (Notifies room.0 seat code tokens.old ∷ deeds)) }
-        ensures emits { IfOk result (λ out. (deeds : List TableOp) → Represents peers.now accounts.now self.old deeds →
-            out ≡ (effects_after (config_of self.old peers.now accounts.now) deeds (Notifies room.0 seat code tokens.old)).output.out) }
-        ensures tokens { OnOk result ((deeds : List TableOp) → Represents peers.now accounts.now self.old deeds →
-            tokens.new ≡ (effects_after (config_of self.old peers.now accounts.now) deeds (Notifies room.0 seat code tokens.old)).output.tokens) }
+        ensures done { OnOk result ((ops : List TableOp) → Represents peers.now accounts.now self.old ops →
+            Represents peers.now accounts.now self.new (Notifies room.0 seat code tokens.old ∷ ops)) }
+        ensures emits { IfOk result (λ out. (ops : List TableOp) → Represents peers.now accounts.now self.old ops →
+            out ≡ (effects_after (config_of self.old peers.now accounts.now) ops (Notifies room.0 seat code tokens.old)).output.out) }
+        ensures tokens { OnOk result ((ops : List TableOp) → Represents peers.now accounts.now self.old ops →
+            tokens.new ≡ (effects_after (config_of self.old peers.now accounts.now) ops (Notifies room.0 seat code tokens.old)).output.tokens) }
         ensures config { OnOk result ((peers : Peers) (accounts : List AccountIdentity) →
             config_of self.new peers accounts ≡ config_of self.old peers accounts) }
         ensures fails { IfErr result (λ e. (self.old.has_failed ≡ false → self.new.has_failed ≡ true)) }

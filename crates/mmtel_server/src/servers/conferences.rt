@@ -58,9 +58,9 @@ fn collect_rows_of_conferences(
     waiting: &mut List<Row>,
 ) -> Result<(), NoMemory>
     ensures waiting { OnOk result (waiting.new ≡ waiting.old ++ rooms.old.table.rows) }
-    ensures done { OnOk result ((peers : Peers) (accounts : List AccountIdentity) (deeds : List TableOp) →
-        histories.Represents peers accounts rooms.old deeds →
-        histories.Represents peers accounts rooms.new (Drops (length rooms.old.table.rows) ∷ deeds)) }
+    ensures done { OnOk result ((peers : Peers) (accounts : List AccountIdentity) (ops : List TableOp) →
+        histories.Represents peers accounts rooms.old ops →
+        histories.Represents peers accounts rooms.new (Drops (length rooms.old.table.rows) ∷ ops)) }
     ensures config { OnOk result ((peers : Peers) (accounts : List AccountIdentity) →
         config_of rooms.new peers accounts ≡ config_of rooms.old peers accounts) }
 {

@@ -34,9 +34,9 @@ pub(super) fn collect_rows_of_calls(
     waiting: &mut List<Row>,
 ) -> Result<(), NoMemory>
     ensures waiting { OnOk result (waiting.new ≡ waiting.old ++ calls.old.table.rows) }
-    ensures done { OnOk result ((peers : Peers) (accounts : List AccountIdentity) (deeds : List TableOp) →
-        Represents peers accounts calls.old deeds →
-        Represents peers accounts calls.new (Drops (length calls.old.table.rows) ∷ deeds)) }
+    ensures done { OnOk result ((peers : Peers) (accounts : List AccountIdentity) (ops : List TableOp) →
+        Represents peers accounts calls.old ops →
+        Represents peers accounts calls.new (Drops (length calls.old.table.rows) ∷ ops)) }
     ensures config { OnOk result ((peers : Peers) (accounts : List AccountIdentity) →
         config_of calls.new peers accounts ≡ config_of calls.old peers accounts) }
 {

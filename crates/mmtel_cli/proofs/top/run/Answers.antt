@@ -1,5 +1,5 @@
 use Rattle.mmtel_cli.proofs.Linking.{counts_at_four, is_unbound}
-use Rattle.mmtel_cli.proofs.Running.{ran, calls_told, is_unchanged_keeper}
+use Rattle.mmtel_cli.proofs.Running.{ran, calls_exposed, is_unchanged_keeper}
 use Rattle.mmtel_cli.proofs.top.run.Goals as goal
 
 pub returns-clause-ran : goal.returns-clause-ran
@@ -15,7 +15,7 @@ pub returns-clause-mailboxes : goal.returns-clause-mailboxes
 returns-clause-mailboxes g c = c.subscribers_are_notified.ensures.law
 
 pub returns-clause-calls : goal.returns-clause-calls
-returns-clause-calls g c = calls_told _ _ _ _ _ _ _ c.prepare-due.ensures.prepares c.write_report-status.ensures.ends
+returns-clause-calls g c = calls_exposed _ _ _ _ _ _ _ c.prepare-due.ensures.prepares c.write_report-status.ensures.ends
 
 pub returns-clause-keeper : goal.returns-clause-keeper
 returns-clause-keeper g c = is_unchanged_keeper _ _ _ _ _ _ _ c.prepare-due.ensures.prepares c.prepare-due.ensures.spares c.write_report-status.ensures.ends

@@ -8,7 +8,7 @@ use Rattle.mmtel_leg.specs.declared.legs.Released.{Released}
 use Rattle.mmtel_run_definitions.specs.Transitions.{adoption_op, after_adoption_if, after_call_end, after_conference_op, after_refer_notify, conferences_in, with_call_op}
 use Rattle.mmtel_server.proofs.Known.{err_of, ok_of, on_err_of}
 use Rattle.mmtel_server.proofs.Grows.{followed, grows_on_call_end, grows_with_conference_op, offer_prefix_added, on_err, stops}
-use Rattle.mmtel_server.proofs.Detaching.{breaks_lent, follows_lent}
+use Rattle.mmtel_server.proofs.Detaching.{breaks_detached, follows_detached}
 use Rattle.mmtel_server.proofs.Participants.{adopted_so, adopts_grows, breaks_reads, broke_first, follows_reads, housed_breaks, housed_follows, unadopted_so}
 use Rattle.mmtel_server.proofs.servers.Server.adopt.Goals as goal
 use Rattle.mmtel_server.specs.Follows.{AddsOfferPrefix, ConferencesPerform, Follows}
@@ -61,7 +61,7 @@ returns-in-Err-clause-done g c = on_ok_weaker c.send_refer_notify.result (λ fol
     c.args.participant.room c.args.participant.number c.args.call c.args.leg c.args.account c.in-Err.field-0-1 (err_of (λ e. (e.0 ≡ c.args.leg) × (access c.args.participant.room.0 c.args.self.now.rooms.table.live ≡ Err e.1)) c.in_ok-joined.joined (c.in-Err.leg, c.in-Err.field-0-1) c.in-Err.is c.in_ok-joined.ensures.refused).1
     (subst (λ (t : Server). Follows t c.args.out.now c.send_refer_notify.new.self c.send_refer_notify.new.out (λ d token w. after_refer_notify d token c.args.context.now.at c.args.participant.room c.args.participant.number 503 (with_call_op (Restores c.args.call.0 c.args.leg) w))) (on_err_of (c.add_participant.new.self ≡ c.args.self.now) c.in_ok-joined.joined (c.in-Err.leg, c.in-Err.field-0-1) c.in-Err.is c.in_ok-joined.ensures.same)
     (subst (λ (l : Released). Follows c.add_participant.new.self c.args.out.now c.send_refer_notify.new.self c.send_refer_notify.new.out (λ d token w. after_refer_notify d token c.args.context.now.at c.args.participant.room c.args.participant.number 503 (with_call_op (Restores c.args.call.0 l) w))) (err_of (λ e. (e.0 ≡ c.args.leg) × (access c.args.participant.room.0 c.args.self.now.rooms.table.live ≡ Err e.1)) c.in_ok-joined.joined (c.in-Err.leg, c.in-Err.field-0-1) c.in-Err.is c.in_ok-joined.ensures.refused).0
-    (follows_lent (Restores c.args.call.0 c.in-Err.leg) (λ config table. refl) c.add_participant.new.self c.restore.new.self c.restore.ensures.done c.restore.ensures.config
+    (follows_detached (Restores c.args.call.0 c.in-Err.leg) (λ config table. refl) c.add_participant.new.self c.restore.new.self c.restore.ensures.done c.restore.ensures.config
     (λ d token. after_refer_notify d token c.args.context.now.at c.args.participant.room c.args.participant.number 503) c.send_refer_notify.new.self c.args.out.now c.send_refer_notify.new.out follows))))
     c.send_refer_notify.ensures.done
 
@@ -71,6 +71,6 @@ returns-in-Err-clause-err g c = on_err_weaker c.send_refer_notify.result (λ bre
     c.args.participant.room c.args.participant.number c.args.call c.args.leg c.args.account c.in-Err.field-0-1 (err_of (λ e. (e.0 ≡ c.args.leg) × (access c.args.participant.room.0 c.args.self.now.rooms.table.live ≡ Err e.1)) c.in_ok-joined.joined (c.in-Err.leg, c.in-Err.field-0-1) c.in-Err.is c.in_ok-joined.ensures.refused).1
     (subst (λ (t : Server). AddsOfferPrefix t c.args.out.now c.send_refer_notify.new.out (λ d token w. after_refer_notify d token c.args.context.now.at c.args.participant.room c.args.participant.number 503 (with_call_op (Restores c.args.call.0 c.args.leg) w))) (on_err_of (c.add_participant.new.self ≡ c.args.self.now) c.in_ok-joined.joined (c.in-Err.leg, c.in-Err.field-0-1) c.in-Err.is c.in_ok-joined.ensures.same)
     (subst (λ (l : Released). AddsOfferPrefix c.add_participant.new.self c.args.out.now c.send_refer_notify.new.out (λ d token w. after_refer_notify d token c.args.context.now.at c.args.participant.room c.args.participant.number 503 (with_call_op (Restores c.args.call.0 l) w))) (err_of (λ e. (e.0 ≡ c.args.leg) × (access c.args.participant.room.0 c.args.self.now.rooms.table.live ≡ Err e.1)) c.in_ok-joined.joined (c.in-Err.leg, c.in-Err.field-0-1) c.in-Err.is c.in_ok-joined.ensures.refused).0
-    (breaks_lent (Restores c.args.call.0 c.in-Err.leg) (λ config table. refl) c.add_participant.new.self c.restore.new.self c.restore.ensures.done c.restore.ensures.config
+    (breaks_detached (Restores c.args.call.0 c.in-Err.leg) (λ config table. refl) c.add_participant.new.self c.restore.new.self c.restore.ensures.done c.restore.ensures.config
     (λ d token. after_refer_notify d token c.args.context.now.at c.args.participant.room c.args.participant.number 503) c.args.out.now c.send_refer_notify.new.out breaks))))
     c.send_refer_notify.ensures.err

@@ -3,7 +3,7 @@ use Rattle.std.proofs.lemmas.Result.{on_err_weaker, on_ok_weaker}
 use Rattle.mmtel_compose.specs.ReceivedMessages.{MessageView}
 use Rattle.mmtel_run_definitions.specs.Transitions.{after_participant_request, after_replaces}
 use Rattle.mmtel_server.proofs.Grows.{enters_room, on_err, stops}
-use Rattle.mmtel_server.proofs.Participants.{accepted_is, entered_breaks, entered_follows, heard_breaks}
+use Rattle.mmtel_server.proofs.Participants.{accepted_is, entered_breaks, entered_follows, received_breaks}
 use Rattle.mmtel_types.specs.declared.numbers.Peer.{Peer}
 use Rattle.mmtel_server.proofs.servers.Server.enter_conference.Goals as goal
 use Rattle.mmtel_server.specs.Follows.{AddsOfferPrefix, Follows}
@@ -18,7 +18,7 @@ returns-in-Err-step_conferences-clause-err g c = stops (λ d token. after_partic
 
 pub returns-in_err-emitted-clause-err : goal.returns-in_err-emitted-clause-err
 returns-in_err-emitted-clause-err g c = on_err c.from_residual.result _
-    (heard_breaks c.numbers_never_fall.ensures c.args.context.now.at c.args.key c.args.request c.args.participant.room c.args.participant.number c.args.self.now c.step_conferences.new.self c.in-Ok-step_conferences.emits c.items-2.result.now c.args.out.now c.emit_all-emitted.new.out
+    (received_breaks c.numbers_never_fall.ensures c.args.context.now.at c.args.key c.args.request c.args.participant.room c.args.participant.number c.args.self.now c.step_conferences.new.self c.in-Ok-step_conferences.emits c.items-2.result.now c.args.out.now c.emit_all-emitted.new.out
     c.in-Ok-step_conferences.ensures c.items-2.ensures c.in_err-emitted.ensures.err)
 
 pub returns-clause-done : goal.returns-clause-done

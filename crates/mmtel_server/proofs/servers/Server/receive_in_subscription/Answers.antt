@@ -6,7 +6,7 @@ use Rattle.mmtel_message.specs.declared.messages.Start.{Start}
 use Rattle.mmtel_mwi.specs.Boxes.{request_check, table_after_request, with_table}
 use Rattle.mmtel_mwi.specs.Operations.{Receives}
 use Rattle.mmtel_run_definitions.specs.Events.{message_in}
-use Rattle.mmtel_server.proofs.Subscriptions.{hears_none, is_live_so, says_none, says_there}
+use Rattle.mmtel_server.proofs.Subscriptions.{is_live_so, receives_nothing, says_none, says_there}
 use Rattle.mmtel_server.proofs.Operations.{notes_action}
 use Rattle.mmtel_server.proofs.servers.Server.receive_in_subscription.Goals as goal
 
@@ -14,7 +14,7 @@ pub returns-in-None-clause-check : goal.returns-in-None-clause-check
 returns-in-None-clause-check c = says_none c.args.sub (message_in c.args.request.now.parsed) c.args.self.now (sym c.in-None.ensures.peer)
 
 pub returns-in-None-clause-done : goal.returns-in-None-clause-done
-returns-in-None-clause-done c = hears_none c.args.sub (message_in c.args.request.now.parsed) c.args.self.now (sym c.in-None.ensures.peer)
+returns-in-None-clause-done c = receives_nothing c.args.sub (message_in c.args.request.now.parsed) c.args.self.now (sym c.in-None.ensures.peer)
 
 pub heard-requires : goal.heard-requires
 heard-requires c = is_live_so c.args.sub c.request.inside.message c.args.self.now c.in-Some.field-0 (sym c.in-Some.ensures.peer)

@@ -6,9 +6,11 @@ ghost use Rattle.mmtel_lex.specs.Reading.{uri_of};
 ghost use Rattle.mmtel_sdp.specs.Offers.{offers_audio};
 ghost use Rattle.mmtel_trust.specs.MaskedMessages.{public_part};
 ghost use Rattle.mmtel_run_definitions.specs.Audio.{is_for_conference};
-ghost use Rattle.mmtel_run_definitions.specs.Refusals.{disposition, disposition_by, disposition_by_method, disposition_in as course_in_dialog, entry_into, first_that_applies, in_dialog_disposition, invite_disposition, invite_disposition_at};
+ghost use Rattle.mmtel_run_definitions.specs.Refusals.{disposition, disposition_by, disposition_by_method, disposition_in as course_in_dialog};
+ghost use Rattle.mmtel_run_definitions.specs.Refusals.{entry_into, first_that_applies, in_dialog_disposition, invite_disposition, invite_disposition_at};
 ghost use Rattle.mmtel_run_definitions.specs.Refusals.{invite_disposition_to, is_known_method};
-ghost use Rattle.mmtel_run_definitions.specs.Refusals.{audio_or_refusal, call_opening, conference_number, is_conference, is_conference_number, is_conference_user, is_factory, is_of_no_subscription, session_refusals};
+ghost use Rattle.mmtel_run_definitions.specs.Refusals.{audio_or_refusal, call_opening, conference_number, is_conference, is_conference_number};
+ghost use Rattle.mmtel_run_definitions.specs.Refusals.{is_conference_user, is_factory, is_of_no_subscription, session_refusals};
 ghost use Rattle.mmtel_admission.specs.Dispositions.{dialog_owner_in, disposition_in};
 ghost use Rattle.mmtel_admission.specs.Targets.{target_in};
 
@@ -227,7 +229,8 @@ fn disposition_in_dialog(
     request: &ReceivedMessage,
 ) -> Result<Disposition, NoMemory>
     requires { target_in target.now ≡ uri_of (request_uri request.now.parsed.start) }
-    ensures { IfOk result (λ c. disposition_in c ≡ course_in_dialog directory.now context.now.is_full (option_map dialog_owner_in context.now.owner) (public_part request.now.parsed)) }
+    ensures { IfOk result (λ c. disposition_in c ≡ course_in_dialog directory.now context.now.is_full
+        (option_map dialog_owner_in context.now.owner) (public_part request.now.parsed)) }
 {
     match context.owner {
         None => disposition_by_method(alloc, directory, target, context.is_full, request),
@@ -271,7 +274,8 @@ fn disposition_to(
 ) -> Result<Disposition, NoMemory>
     requires known { is_known_method directory.now request.now.parsed.start ≡ true }
     requires target { target_in target.now ≡ uri_of (request_uri request.now.parsed.start) }
-    ensures { IfOk result (λ c. disposition_in c ≡ disposition directory.now context.now.is_merged context.now.is_full (option_map dialog_owner_in context.now.owner) request.now.parsed) }
+    ensures { IfOk result (λ c. disposition_in c ≡ disposition directory.now context.now.is_merged context.now.is_full
+        (option_map dialog_owner_in context.now.owner) request.now.parsed) }
 {
     if is_foreign(target) {
         return Ok(Disposition::Respond(plain_response(416)));
@@ -301,7 +305,8 @@ fn disposition_by_refusals(
     context: &RequestContext,
     request: &ReceivedMessage,
 ) -> Result<Disposition, NoMemory>
-    ensures { IfOk result (λ c. disposition_in c ≡ disposition directory.now context.now.is_merged context.now.is_full (option_map dialog_owner_in context.now.owner) request.now.parsed) }
+    ensures { IfOk result (λ c. disposition_in c ≡ disposition directory.now context.now.is_merged context.now.is_full
+        (option_map dialog_owner_in context.now.owner) request.now.parsed) }
 {
     if !is_known_method(directory, request.message.start()) {
         return Ok(Disposition::Respond(response_with_allow(alloc, directory, 405)?));
@@ -321,7 +326,8 @@ pub fn disposition(
     context: &RequestContext,
     request: &ReceivedMessage,
 ) -> Result<Disposition, NoMemory>
-    ensures disposition { IfOk result (λ c. disposition_in c ≡ disposition directory.now context.now.is_merged context.now.is_full (option_map dialog_owner_in context.now.owner) request.now.parsed) }
+    ensures disposition { IfOk result (λ c. disposition_in c ≡ disposition directory.now context.now.is_merged context.now.is_full
+        (option_map dialog_owner_in context.now.owner) request.now.parsed) }
     // An INVITE that opens a conference or asks to join one offers audio.
     ensures audio { IfOk result (λ c. is_for_conference (disposition_in c) ≡ true → offers_audio request.now.parsed.body ≡ true) }
 {

@@ -190,7 +190,8 @@ module _ (config : CallConfigView) (at : ℕ) (view : SheetsInForce) (counts : B
   snapshot_same busy same = ap (λ (f : ℕ → ℕ). let s : SnapshotView = record { at = at; sheets = sheet_in view; registration_ends = registration_end_in view; live = f } in s) (lives counts busy same)
 
   -- for the call at this index, where the account of its attempt was removed
-  pub stepped : (es : List Entry) (high k : ℕ) (e : Entry) (before : BusyCountsView) (served : Option Account) → Ascend number_of 0 es high → slice_get es k ≡ Some e → ((n : ℕ) → calls_of before n ≡ sum_by (busy_count n) es)
+  pub stepped : (es : List Entry) (high k : ℕ) (e : Entry) (before : BusyCountsView) (served : Option Account) → Ascend number_of 0 es high → slice_get es k ≡ Some e →
+      ((n : ℕ) → calls_of before n ≡ sum_by (busy_count n) es)
       → served ≡ served_of e → ((n : ℕ) → calls_of counts n ≡ calls_of before n - account_count served n) → (received : calls.Signal) (output : StepOutput)
       → step config by_counts received e.call output ≡ call_step config at view (busy_beside (number_of e) es) received output e
   unfolding call_step
@@ -203,7 +204,8 @@ module _ (config : CallConfigView) (at : ℕ) (view : SheetsInForce) (counts : B
 
   -- for a call that is opened, where that of its caller was added
   pub begun : (es : List Entry) (high : ℕ) (arrival : Arrival) (before : BusyCountsView) → Ascend number_of 0 es high → high < arrival.number.0 → ((n : ℕ) → calls_of before n ≡ sum_by (busy_count n) es)
-      → ((n : ℕ) → calls_of counts n ≡ calls_of before n + account_count arrival.served.origin n) → (output : StepOutput) → call_after_opening config by_counts arrival output ≡ opening_step config at view (busy_with arrival es) arrival output
+      → ((n : ℕ) → calls_of counts n ≡ calls_of before n + account_count arrival.served.origin n) → (output : StepOutput) →
+      call_after_opening config by_counts arrival output ≡ opening_step config at view (busy_with arrival es) arrival output
   unfolding opening_step
   begun es high arrival before a above counted into output =
       ap (λ (now : SnapshotView). call_after_opening config now arrival output) (snapshot_same (busy_with arrival es) (λ n.

@@ -23,7 +23,8 @@ use Rattle.mmtel_types.specs.declared.sides.Side.TheVariants.{Caller, Callee}
 use Rattle.mmtel_types.specs.declared.numbers.Account.{Account}
 use Rattle.mmtel_b2bua.specs.Entries.{is_live, is_numbered, origin_in, origin_of, served_in, served_of}
 use Rattle.mmtel_b2bua.specs.Invariant.{account_count, busy_count}
-use Rattle.mmtel_b2bua.specs.Detaching.{can_restore, entries_after_release, entry_after_release, entry_after_restore, entry_at, entry_of, has_detached_leg, leg_in_entry, place_of, released_at, released_leg_of, released_where}
+use Rattle.mmtel_b2bua.specs.Detaching.{can_restore, entries_after_release, entry_after_release, entry_after_restore, entry_at, entry_of}
+use Rattle.mmtel_b2bua.specs.Detaching.{has_detached_leg, leg_in_entry, place_of, released_at, released_leg_of, released_where}
 use Rattle.mmtel_b2bua.specs.declared.entries.Entry.{Entry}
 
 -- ---- of one call
@@ -134,7 +135,8 @@ served_after_release (Established x (Reinviting asking q)) side c h = refl
 served_after_release (Detached detached) side c h = refl
 served_after_release (Over cause) side c h = refl
 
-origin_after_restore : (phase : Phase) (leg : Released) (c : Call) → c.phase ≡ phase → origin_in (with_leg_restored phase leg c).phase (with_leg_restored phase leg c).opening.served.origin ≡ origin_in c.phase c.opening.served.origin
+origin_after_restore : (phase : Phase) (leg : Released) (c : Call) → c.phase ≡ phase →
+    origin_in (with_leg_restored phase leg c).phase (with_leg_restored phase leg c).opening.served.origin ≡ origin_in c.phase c.opening.served.origin
 origin_after_restore (Offered x) leg c h = refl
 origin_after_restore (Established x stage) leg c h = refl
 origin_after_restore (Detached detached) leg c h = sym (ap (λ (p : Phase). origin_in p c.opening.served.origin) h)
@@ -179,11 +181,15 @@ number_after_release : (number : ℕ) (side : Side) (e : Entry) → is_numbered 
 unfolding is_numbered
 number_after_release number side e = ap (λ n. n == number) (same_number e.call.phase side e.call)
 
-passes_at : (test : Option Entry → Bool) (number : ℕ) (side : Side) (es : List Entry) (leg : Released) → ((e : Entry) → removed_leg_in e.call.phase side ≡ Some leg → test (Some (entry_after_release side e)) ≡ true) → (k : ℕ) → place_of number es ≡ Some k → (o : Option Entry) → slice_get es k ≡ o → leg_in_entry side o ≡ Some leg → test (entry_of number (released_at side k o es)) ≡ true
+passes_at : (test : Option Entry → Bool) (number : ℕ) (side : Side) (es : List Entry) (leg : Released) →
+    ((e : Entry) → removed_leg_in e.call.phase side ≡ Some leg → test (Some (entry_after_release side e)) ≡ true) → (k : ℕ) → place_of number es ≡ Some k → (o : Option Entry) → slice_get es k ≡ o →
+    leg_in_entry side o ≡ Some leg → test (entry_of number (released_at side k o es)) ≡ true
 passes_at test number side es leg all k at None is h = absurd (none-some leg h)
 passes_at test number side es leg all k at (Some e) is h = ap test (entry_stays number es k e (entry_after_release side e) at is (number_after_release number side e)) ∙ all e h
 
-passes_by : (test : Option Entry → Bool) (number : ℕ) (side : Side) (es : List Entry) (leg : Released) → ((e : Entry) → removed_leg_in e.call.phase side ≡ Some leg → test (Some (entry_after_release side e)) ≡ true) → (o : Option ℕ) → place_of number es ≡ o → leg_in_entry side (entry_at o es) ≡ Some leg → test (entry_of number (released_where side o es)) ≡ true
+passes_by : (test : Option Entry → Bool) (number : ℕ) (side : Side) (es : List Entry) (leg : Released) →
+    ((e : Entry) → removed_leg_in e.call.phase side ≡ Some leg → test (Some (entry_after_release side e)) ≡ true) → (o : Option ℕ) → place_of number es ≡ o →
+    leg_in_entry side (entry_at o es) ≡ Some leg → test (entry_of number (released_where side o es)) ≡ true
 passes_by test number side es leg all None at h = absurd (none-some leg h)
 passes_by test number side es leg all (Some k) at h = passes_at test number side es leg all k at (slice_get es k) refl h
 
@@ -204,10 +210,12 @@ without_meter number side es leg h = no_meter side (entry_of number es) leg h
 
 -- ---- as a result of the function
 
-pub fits_after : {E : Type 0} (number : ℕ) (side : Side) (es now : List Entry) (r : Result Released E) (Q : E → Type 0) → now ≡ entries_after_release number side es → MatchResult r (λ leg. released_leg_of number side es ≡ Some leg) Q → IfOk r (λ leg. can_restore leg (entry_of number now) ≡ true)
+pub fits_after : {E : Type 0} (number : ℕ) (side : Side) (es now : List Entry) (r : Result Released E) (Q : E → Type 0) → now ≡ entries_after_release number side es →
+    MatchResult r (λ leg. released_leg_of number side es ≡ Some leg) Q → IfOk r (λ leg. can_restore leg (entry_of number now) ≡ true)
 fits_after number side es now (Ok leg) Q e h = ap (λ xs. can_restore leg (entry_of number xs)) e ∙ fits_again number side es leg h
 fits_after number side es now (Err x) Q e h = tt
 
-pub detached_after_release : {E : Type 0} (number : ℕ) (side : Side) (es now : List Entry) (r : Result Released E) (Q : E → Type 0) → now ≡ entries_after_release number side es → MatchResult r (λ leg. released_leg_of number side es ≡ Some leg) Q → IfOk r (λ leg. has_detached_leg (entry_of number now) ≡ true)
+pub detached_after_release : {E : Type 0} (number : ℕ) (side : Side) (es now : List Entry) (r : Result Released E) (Q : E → Type 0) → now ≡ entries_after_release number side es →
+    MatchResult r (λ leg. released_leg_of number side es ≡ Some leg) Q → IfOk r (λ leg. has_detached_leg (entry_of number now) ≡ true)
 detached_after_release number side es now (Ok leg) Q e h = ap (λ xs. has_detached_leg (entry_of number xs)) e ∙ becomes_detached number side es leg h
 detached_after_release number side es now (Err x) Q e h = tt

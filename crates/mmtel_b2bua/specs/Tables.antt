@@ -69,9 +69,11 @@ abbrev pub step_of_entry : (place : ℕ) → (invites : List InviteKey) → Entr
 step_of_entry place invites e s es = record { entries = put_at place (entry_after invites s e) es; output = s.output }
 
 -- the call at this index takes the step, and gets these INVITEs in addition
-abbrev pub step_of_entry_at : CallConfigView → (at : ℕ) → SheetsInForce → calls.Signal → (invites : List InviteKey) → (place : ℕ) → Option Entry → List Entry → StepOutput → TableStep
+abbrev pub step_of_entry_at : CallConfigView → (at : ℕ) → SheetsInForce → calls.Signal → (invites : List InviteKey) → (place : ℕ) →
+    Option Entry → List Entry → StepOutput → TableStep
 step_of_entry_at config at view received invites place None es output = unchanged_step es output
-step_of_entry_at config at view received invites place (Some e) es output = step_of_entry place invites e (call_step config at view (busy_beside e.call.opening.number.0 es) received output e) es
+step_of_entry_at config at view received invites place (Some e) es output =
+    step_of_entry place invites e (call_step config at view (busy_beside e.call.opening.number.0 es) received output e) es
 
 abbrev pub step_in : CallConfigView → (at : ℕ) → SheetsInForce → calls.Signal → (invites : List InviteKey) → Option ℕ → List Entry → StepOutput → TableStep
 step_in config at view received invites None es output = unchanged_step es output
@@ -109,13 +111,17 @@ invites_by side key m = if is_invite m then record { key = key; side = side } �
 -- where a call that is opened gets this number
 unfoldable pub step_of_signal : CallConfigView → (at : ℕ) → SheetsInForce → (number : ℕ) → Signal → List Entry → StepOutput → TableStep
 step_of_signal config at view number (signal.Arrived key invite served registration identities) es output =
-    step_of_arrival config at view (record { number = record { 0 = number }; key = key; invite = invite; served = served; registration = registration; identities = identities }) es output
+    step_of_arrival config at view
+    (record { number = record { 0 = number }; key = key; invite = invite; served = served; registration = registration; identities = identities }) es output
 step_of_signal config at view number (signal.Request call side key request) es output =
     step_of_receiver config at view (is_numbered call.0) (of_call.Request side key request) (invites_by side key request) es output
 step_of_signal config at view number (signal.Ack call side ack) es output = step_of_receiver config at view (is_numbered call.0) (of_call.Ack side ack) [] es output
-step_of_signal config at view number (signal.Cancel call key cancel invite) es output = step_of_receiver config at view (is_numbered call.0) (of_call.Cancel key cancel invite) [] es output
-step_of_signal config at view number (signal.Answer key response) es output = step_of_receiver config at view (has_sent_branch (awaited_request_branch response)) (of_call.Answer key response) [] es output
-step_of_signal config at view number (signal.Silent branch method) es output = step_of_receiver config at view (has_sent_branch (timed_out_branch branch method)) (of_call.Silent branch method) [] es output
+step_of_signal config at view number (signal.Cancel call key cancel invite) es output =
+    step_of_receiver config at view (is_numbered call.0) (of_call.Cancel key cancel invite) [] es output
+step_of_signal config at view number (signal.Answer key response) es output =
+    step_of_receiver config at view (has_sent_branch (awaited_request_branch response)) (of_call.Answer key response) [] es output
+step_of_signal config at view number (signal.Silent branch method) es output =
+    step_of_receiver config at view (has_sent_branch (timed_out_branch branch method)) (of_call.Silent branch method) [] es output
 step_of_signal config at view number (signal.Due call what) es output = step_of_receiver config at view (is_numbered call.0) (of_call.Due what) [] es output
 step_of_signal config at view number (signal.Over key) es output = step_of_receiver config at view (has_received_key key) (of_call.Ended key) [] es output
 

@@ -430,7 +430,8 @@ impl CallTable {
     ) -> Result<(), NoMemory>
         requires place { place < length self.old.entries }
         requires detached { has_detached_leg (slice_get self.old.entries place) ≡ true }
-        ensures table { OnOk result (self.new ≡ record self.old { entries = (step_of_finish_at config.now at place (slice_get self.old.entries place) self.old.entries output.old).entries }) }
+        ensures table { OnOk result
+            (self.new ≡ record self.old { entries = (step_of_finish_at config.now at place (slice_get self.old.entries place) self.old.entries output.old).entries }) }
         ensures output { OnOk result (output.new ≡ (step_of_finish_at config.now at place
             (slice_get self.old.entries place) self.old.entries output.old).output) }
     {

@@ -5,7 +5,8 @@ ghost use Rattle.std.specs.Option.{option_copied};
 ghost use Rattle.mmtel_call.specs.Table.{current_invite};
 ghost use Rattle.mmtel_output.specs.Marks.{MarkUpdate};
 ghost use Rattle.mmtel_b2bua.specs.Entries.{is_live};
-ghost use Rattle.mmtel_b2bua.specs.Marks.{abandoned_marks, answered_marks, client_key_marks, dialog_mark, dialog_marks, invite_marks, live_invite_marks, marks_of, relayed_marks, sent_invite_marks};
+ghost use Rattle.mmtel_b2bua.specs.Marks.{abandoned_marks, answered_marks, client_key_marks, dialog_mark, dialog_marks};
+ghost use Rattle.mmtel_b2bua.specs.Marks.{invite_marks, live_invite_marks, marks_of, relayed_marks, sent_invite_marks};
 ghost use Rattle.mmtel_b2bua.specs.Marks.{waiting_marks};
 
 use crate::entries::{Entry, InviteKey};

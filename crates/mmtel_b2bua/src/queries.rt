@@ -1,7 +1,8 @@
 //! Queries on the calls: to which dialog a request belongs, of which call an INVITE opened a server transaction, and the peer and the account of a side.
 ghost use Rattle.std.specs.Prelude.{◌≡◌, Some, position};
 ghost use Rattle.std.specs.Option.{option_map};
-ghost use Rattle.mmtel_b2bua.specs.Queries.{first_side, has_side, is_key, party, party_in_offered, party_in_remaining, party_of, side_in_established, side_in_offered, side_in_remaining};
+ghost use Rattle.mmtel_b2bua.specs.Queries.{first_side, has_side, is_key, party, party_in_offered, party_in_remaining};
+ghost use Rattle.mmtel_b2bua.specs.Queries.{party_of, side_in_established, side_in_offered, side_in_remaining};
 ghost use Rattle.mmtel_b2bua.specs.Queries.{call_and_side, inviting_side, party_in_established, side_by_dialog, side_by_invite_key};
 
 use crate::busy::account_of;

@@ -29,7 +29,8 @@ use Rattle.mmtel_call.specs.declared.signals.Signal as calls
 use Rattle.mmtel_call.specs.declared.signals.Signal.TheVariants as of_call
 use Rattle.mmtel_call_theorems.specs.Noninterference.EquivalentCalls.{EquivalentCalls, IsReceived}
 use Rattle.mmtel_call_theorems.specs.Noninterference.PublicParts.{PublicPartsDetermineQueries}
-use Rattle.mmtel_call_theorems.specs.Noninterference.Configurations.{CallsStayEquivalentInBoth, EndsLookUpNone, LooksUpEqually, OpeningsAreEquivalentInBoth, SignalRedirectsEqually, StepsKeepEquivalenceInBoth, requested_target}
+use Rattle.mmtel_call_theorems.specs.Noninterference.Configurations.{CallsStayEquivalentInBoth, EndsLookUpNone, LooksUpEqually, OpeningsAreEquivalentInBoth}
+use Rattle.mmtel_call_theorems.specs.Noninterference.Configurations.{SignalRedirectsEqually, StepsKeepEquivalenceInBoth, requested_target}
 use Rattle.mmtel_call_theorems.specs.Noninterference.Invariant.{CallInvariant, CallsKeepTheirInvariant}
 use Rattle.mmtel_call_theorems.specs.Noninterference.Detaching.{DetachingKeepsEquivalence}
 use Rattle.mmtel_call_theorems.specs.Noninterference.Opening.{public_arrival}
@@ -40,7 +41,8 @@ use Rattle.mmtel_call_theorems.specs.Noninterference.Observations.{EquivalentOut
 use Rattle.mmtel_call_theorems.specs.Noninterference.StepTable.{public_signal as public_received}
 use Rattle.mmtel_b2bua.specs.Entries.{busy_beside, has_received_key as has_received_it, has_sent_branch, is_numbered, kept_entry}
 use Rattle.mmtel_b2bua.specs.Operations.{ReceivedSignal, step_on_receive}
-use Rattle.mmtel_b2bua.specs.Tables.{Table, TableStep, busy_with, call_step, entry_after, entry_for, invites_by, is_opening, opened_after, opening_step, put_at, snapshot_at, step_in, step_of_arrival, step_of_entry, step_of_entry_at, step_of_opened, step_of_receiver, step_of_signal, with_step}
+use Rattle.mmtel_b2bua.specs.Tables.{Table, TableStep, busy_with, call_step, entry_after, entry_for, invites_by, is_opening, opened_after, opening_step, put_at}
+use Rattle.mmtel_b2bua.specs.Tables.{snapshot_at, step_in, step_of_arrival, step_of_entry, step_of_entry_at, step_of_opened, step_of_receiver, step_of_signal, with_step}
 use Rattle.mmtel_b2bua.specs.declared.entries.Entry.{Entry}
 use Rattle.mmtel_b2bua.specs.declared.entries.InviteKey.{InviteKey}
 use Rattle.mmtel_b2bua.specs.declared.signals.Signal.{Signal}
@@ -129,7 +131,8 @@ step_kind (Opens key invite served registration identities) config at view numbe
     step_of_arrival config at view (record { number = record { 0 = number }; key = key; invite = invite; served = served; registration = registration; identities = identities }) es output
 step_kind (OfCall whose x invites) config at view number es output = step_of_receiver config at view (is_owner whose) x invites es output
 
-step_as : (x : Signal) (config : CallConfigView) (at : ℕ) (view : SheetsInForce) (number : ℕ) (es : List Entry) (output : StepOutput) → step_of_signal config at view number x es output ≡ step_kind (kind_of x) config at view number es output
+step_as : (x : Signal) (config : CallConfigView) (at : ℕ) (view : SheetsInForce) (number : ℕ) (es : List Entry) (output : StepOutput) →
+    step_of_signal config at view number x es output ≡ step_kind (kind_of x) config at view number es output
 unfolding step_of_signal
 step_as (signal.Arrived key invite served registration identities) config at view number es output = refl
 step_as (signal.Request call side key request) config at view number es output = refl
@@ -154,12 +157,14 @@ abbrev KindReceives : (records : List Sheet) → Trust → SnapshotView → Role
 KindReceives records t now role (Opens key invite served registration identities) es = IsOpening t now key invite served role
 KindReceives records t now role (OfCall whose x invites) es = IsReceivedBy records t (is_owner whose) x role es
 
-call_receives : (records : List Sheet) (t : Trust) (whose : Entry → Bool) (x : calls.Signal) (role : Role) (es : List Entry) → CallsInvariant records t es → CallMayReceive t whose x role es → IsReceivedBy records t whose x role es
+call_receives : (records : List Sheet) (t : Trust) (whose : Entry → Bool) (x : calls.Signal) (role : Role) (es : List Entry) → CallsInvariant records t es → CallMayReceive t whose x role es →
+    IsReceivedBy records t whose x role es
 call_receives records t whose x role es kept h = λ place e is got.
     let k : CallInvariant records t e.call = get-kept records t es kept place e got in
     record { opening = k.opening; kept = k.kept; served = k.served; may_receive = h place e is got }
 
-kind_receives : (records : List Sheet) (t : Trust) (now : SnapshotView) (role : Role) (x : Signal) (es : List Entry) → CallsInvariant records t es → SignalIsFromOwnPeer t x → TableMayReceive t now role x es → KindReceives records t now role (kind_of x) es
+kind_receives : (records : List Sheet) (t : Trust) (now : SnapshotView) (role : Role) (x : Signal) (es : List Entry) → CallsInvariant records t es → SignalIsFromOwnPeer t x →
+    TableMayReceive t now role x es → KindReceives records t now role (kind_of x) es
 kind_receives records t now role (signal.Arrived key invite served registration identities) es kept asks h = record { from_own_peer = asks; role_is = h }
 kind_receives records t now role (signal.Request call side key request) es kept asks h = call_receives records t (is_numbered call.0) (of_call.Request side key request) role es kept h
 kind_receives records t now role (signal.Ack call side ack) es kept asks h = call_receives records t (is_numbered call.0) (of_call.Ack side ack) role es kept h
@@ -263,7 +268,8 @@ module _ (laws : OfCalls) (records : List Sheet) (config far : CallConfigView) (
   module _ (at : ℕ) (view : SheetsInForce) (stand : (busy : List Account) → RecordsCoverSnapshot records (snapshot_at at view busy)) (role second : Role) where
     steps-equivalent : (busy : List Account) (x y : calls.Signal) (e f : Entry) (one other : StepOutput) → public_received role x ≡ public_received second y → SignalRedirectsEqually config far second y →
         EquivalentEntry records known e f → IsReceived records T x role e.call → IsReceived records T y second f.call → EquivalentOutputs T one other →
-        EquivalentSteps T (call_step config at view busy x one e) (call_step far at view busy y other f) × EquivalentCalls records known (call_step config at view busy x one e).call (call_step far at view busy y other f).call
+        EquivalentSteps T (call_step config at view busy x one e) (call_step far at view busy y other f)
+        × EquivalentCalls records known (call_step config at view busy x one e).call (call_step far at view busy y other f).call
     unfolding call_step
     steps-equivalent busy x y e f one other said looks b first then d =
         let now : SnapshotView = snapshot_at at view busy in (
@@ -271,8 +277,10 @@ module _ (laws : OfCalls) (records : List Sheet) (config far : CallConfigView) (
           laws.stay records config far keys now x y role second e.call f.call one other configured.equal configured.lead looks (stand busy) b.calls said first then d,
         )
 
-    at-equivalent : (x y : calls.Signal) (invites : List InviteKey) (place : ℕ) (g h : Option Entry) (es fs : List Entry) (one other : StepOutput) → public_received role x ≡ public_received second y → SignalRedirectsEqually config far second y →
-        EquivalentAt records known g h → EquivalentEntries records known es fs → ((e : Entry) → g ≡ Some e → IsReceived records T x role e.call) → ((f : Entry) → h ≡ Some f → IsReceived records T y second f.call) → EquivalentOutputs T one other →
+    at-equivalent : (x y : calls.Signal) (invites : List InviteKey) (place : ℕ) (g h : Option Entry) (es fs : List Entry) (one other : StepOutput) → public_received role x ≡ public_received second y →
+        SignalRedirectsEqually config far second y →
+        EquivalentAt records known g h → EquivalentEntries records known es fs → ((e : Entry) → g ≡ Some e → IsReceived records T x role e.call) →
+        ((f : Entry) → h ≡ Some f → IsReceived records T y second f.call) → EquivalentOutputs T one other →
         EquivalentMoves (step_of_entry_at config at view x invites place g es one) (step_of_entry_at far at view y invites place h fs other)
     at-equivalent x y invites place None None es fs one other said looks b a first then d = record { entries = a; output = d }
     at-equivalent x y invites place None (Some f) es fs one other said looks b a first then d = absurd b
@@ -285,14 +293,17 @@ module _ (laws : OfCalls) (records : List Sheet) (config far : CallConfigView) (
         subst (λ (l : List Account). EquivalentMoves (step_of_entry place invites e (call_step config at view busy x one e) es) (step_of_entry place invites f (call_step far at view l y other f) fs)) same
         (step-equivalent place invites e f (call_step config at view busy x one e) (call_step far at view busy y other f) es fs b a both.0 both.1)
 
-    in-equivalent : (x y : calls.Signal) (invites : List InviteKey) (o : Option ℕ) (es fs : List Entry) (one other : StepOutput) → public_received role x ≡ public_received second y → SignalRedirectsEqually config far second y → EquivalentEntries records known es fs →
-        ((place : ℕ) (e : Entry) → o ≡ Some place → slice_get es place ≡ Some e → IsReceived records T x role e.call) → ((place : ℕ) (f : Entry) → o ≡ Some place → slice_get fs place ≡ Some f → IsReceived records T y second f.call) → EquivalentOutputs T one other →
+    in-equivalent : (x y : calls.Signal) (invites : List InviteKey) (o : Option ℕ) (es fs : List Entry) (one other : StepOutput) → public_received role x ≡ public_received second y →
+        SignalRedirectsEqually config far second y → EquivalentEntries records known es fs →
+        ((place : ℕ) (e : Entry) → o ≡ Some place → slice_get es place ≡ Some e → IsReceived records T x role e.call) →
+        ((place : ℕ) (f : Entry) → o ≡ Some place → slice_get fs place ≡ Some f → IsReceived records T y second f.call) → EquivalentOutputs T one other →
         EquivalentMoves (step_in config at view x invites o es one) (step_in far at view y invites o fs other)
     in-equivalent x y invites None es fs one other said looks a first then d = record { entries = a; output = d }
     in-equivalent x y invites (Some place) es fs one other said looks a first then d =
         at-equivalent x y invites place (slice_get es place) (slice_get fs place) es fs one other said looks (get-equivalent records known es fs a place) a (λ e is. first place e refl is) (λ f is. then place f refl is) d
 
-    received-equivalent : (w : Owner) (x y : calls.Signal) (invites : List InviteKey) (es fs : List Entry) (one other : StepOutput) → public_received role x ≡ public_received second y → SignalRedirectsEqually config far second y → EquivalentEntries records known es fs →
+    received-equivalent : (w : Owner) (x y : calls.Signal) (invites : List InviteKey) (es fs : List Entry) (one other : StepOutput) → public_received role x ≡ public_received second y →
+        SignalRedirectsEqually config far second y → EquivalentEntries records known es fs →
         IsReceivedBy records T (is_owner w) x role es → IsReceivedBy records T (is_owner w) y second fs → EquivalentOutputs T one other →
         EquivalentMoves (step_of_receiver config at view (is_owner w) x invites es one) (step_of_receiver far at view (is_owner w) y invites fs other)
     received-equivalent w x y invites es fs one other said looks a first then d =
@@ -317,12 +328,17 @@ module _ (laws : OfCalls) (records : List Sheet) (config far : CallConfigView) (
         let q : StepResult = call_after_opening far (snapshot_at at view busy) b other in
         let entry : EquivalentEntry records known (entry_for a.key p) (entry_for b.key q) = record { calls = both.1; invites = ap (λ (k : TKey). record { key = k; side = Caller } ∷ []) key } in
         let moved : EquivalentMoves (step_of_opened a.key p es) (step_of_opened b.key q fs) =
-        record { entries = append-equivalent records known es fs (kept_entry (entry_for a.key p)) (kept_entry (entry_for b.key q)) es_alike (kept-equivalent laws.determine records known (entry_for a.key p) (entry_for b.key q) entry); output = (both.0).output } in
+        record {
+          entries = append-equivalent records known es fs (kept_entry (entry_for a.key p)) (kept_entry (entry_for b.key q)) es_alike
+              (kept-equivalent laws.determine records known (entry_for a.key p) (entry_for b.key q) entry);
+          output = (both.0).output;
+        } in
         subst (λ (l : List Account). EquivalentMoves (step_of_opened a.key p es) (step_of_opened b.key (call_after_opening far (snapshot_at at view l) b other) fs)) with moved
 
     -- ---- any signal
 
-    kinds-equivalent : (j k : Kind) (number : ℕ) (es fs : List Entry) (one other : StepOutput) → public_kind role j ≡ public_kind second k → KindCallers records j k → KindLooks config far second k → EquivalentEntries records known es fs →
+    kinds-equivalent : (j k : Kind) (number : ℕ) (es fs : List Entry) (one other : StepOutput) → public_kind role j ≡ public_kind second k → KindCallers records j k → KindLooks config far second k →
+        EquivalentEntries records known es fs →
         KindReceives records T (snapshot_at at view []) role j es → KindReceives records T (snapshot_at at view []) second k fs → EquivalentOutputs T one other →
         EquivalentMoves (step_kind j config at view number es one) (step_kind k far at view number fs other)
     kinds-equivalent (Opens key invite served registration identities) (Opens key2 invite2 served2 registration2 identities2) number es fs one other same callers looks a first then d =
@@ -332,7 +348,8 @@ module _ (laws : OfCalls) (records : List Sheet) (config far : CallConfigView) (
         let public : public_arrival (snapshot_at at view []) nobody x ≡ public_arrival (snapshot_at at view []) nobody y =
         ap (λ (r : Role). record x { invite = without_private r invite; identities = nobody }) (sym first.role_is)
         ∙ (arrivals ∙ ap (λ (r : Role). record y { invite = without_private r invite2; identities = nobody }) then.role_is) in
-        arrives-equivalent x y es fs one other refl (ap (λ (z : Arrival). z.key) arrivals) (ap (λ (z : Arrival). z.served) arrivals) public first.from_own_peer then.from_own_peer (callers identities identities2 refl refl) looks a d
+        arrives-equivalent x y es fs one other refl (ap (λ (z : Arrival). z.key) arrivals) (ap (λ (z : Arrival). z.served) arrivals) public first.from_own_peer
+        then.from_own_peer (callers identities identities2 refl refl) looks a d
     kinds-equivalent (Opens key invite served registration identities) (OfCall w y invites) number es fs one other same callers looks a first then d = absurd cc
     kinds-equivalent (OfCall w x invites) (Opens key invite served registration identities) number es fs one other same callers looks a first then d = absurd cc
     kinds-equivalent (OfCall v x invites) (OfCall w y invites2) number es fs one other same callers looks a first then d =
@@ -343,7 +360,8 @@ module _ (laws : OfCalls) (records : List Sheet) (config far : CallConfigView) (
         (subst (λ (l : List InviteKey). EquivalentMoves (step_of_receiver config at view (is_owner v) x invites es one) (step_of_receiver far at view (is_owner v) y l fs other)) added
         (received-equivalent v x y invites es fs one other said looks a first (subst (λ (z : Owner). IsReceivedBy records T (is_owner z) y second fs) (sym whose) then) d))
 
-    signal-equivalent : (x y : Signal) (number : ℕ) (es fs : List Entry) (one other : StepOutput) → public_signal role x ≡ public_signal second y → CallersDecidedEqually records x y → SignalLooksUpEqually config far second y → EquivalentEntries records known es fs →
+    signal-equivalent : (x y : Signal) (number : ℕ) (es fs : List Entry) (one other : StepOutput) → public_signal role x ≡ public_signal second y → CallersDecidedEqually records x y →
+        SignalLooksUpEqually config far second y → EquivalentEntries records known es fs →
         KindReceives records T (snapshot_at at view []) role (kind_of x) es → KindReceives records T (snapshot_at at view []) second (kind_of y) fs → EquivalentOutputs T one other →
         EquivalentMoves (step_of_signal config at view number x es one) (step_of_signal far at view number y fs other)
     signal-equivalent x y number es fs one other said callers looks a first then d =
@@ -365,14 +383,17 @@ module _ (laws : OfCalls) (records : List Sheet) (config far : CallConfigView) (
       ∙ (ap (λ (v : SheetsInForce). record other.received { view = v; tokens = one.received.tokens }) view
       ∙ ap (λ (d : TokensView). record other.received { tokens = d }) tokens)
 
-  pub signals-alike : (one other : ReceivedWithRole) (t u : Table) → TablesCorrespond records config keys t u → ReceiveEquivalent records config far keys one other t u → EquivalentMoves (step_on_receive config one.received t) (step_on_receive far other.received u)
+  pub signals-alike : (one other : ReceivedWithRole) (t u : Table) → TablesCorrespond records config keys t u → ReceiveEquivalent records config far keys one other t u →
+      EquivalentMoves (step_on_receive config one.received t) (step_on_receive far other.received u)
   signals-alike one other t u a receive =
       let x : ReceivedSignal = one.received in
       let same : beside one other ≡ other.received = beside_same one other receive.at receive.view receive.tokens in
       let second : TableMayReceive T (snapshot_at x.at x.view []) other.role other.received.signal u.entries =
       subst (λ (h : ReceivedSignal). TableMayReceive T (snapshot_at h.at h.view []) other.role other.received.signal u.entries) (sym same) receive.second in
-      let first : KindReceives records T (snapshot_at x.at x.view []) one.role (kind_of x.signal) t.entries = kind_receives records T (snapshot_at x.at x.view []) one.role x.signal t.entries a.one receive.first_peer receive.first in
-      let then : KindReceives records T (snapshot_at x.at x.view []) other.role (kind_of other.received.signal) u.entries = kind_receives records T (snapshot_at x.at x.view []) other.role other.received.signal u.entries a.other receive.second_peer second in
+      let first : KindReceives records T (snapshot_at x.at x.view []) one.role (kind_of x.signal) t.entries =
+      kind_receives records T (snapshot_at x.at x.view []) one.role x.signal t.entries a.one receive.first_peer receive.first in
+      let then : KindReceives records T (snapshot_at x.at x.view []) other.role (kind_of other.received.signal) u.entries =
+      kind_receives records T (snapshot_at x.at x.view []) other.role other.received.signal u.entries a.other receive.second_peer second in
       subst (λ (h : ReceivedSignal). EquivalentMoves (step_on_receive config x t) (step_on_receive far h u)) same
       (subst (λ (n : ℕ). EquivalentMoves (step_on_receive config x t) (step_of_signal far x.at x.view (next_number n) other.received.signal u.entries (empty_output x.tokens))) a.equivalent.opened
       (signal-equivalent x.at x.view receive.covered one.role other.role x.signal other.received.signal (next_number t.opened) t.entries u.entries (empty_output x.tokens) (empty_output x.tokens)
@@ -387,13 +408,15 @@ module _ (laws : OfCalls) (records : List Sheet) (config far : CallConfigView) (
     rows = ap (λ (l : List Row). l ++ p.output.rows) a.rows ∙ ap (λ (l : List Row). u.rows ++ l) moves.output.rows;
   }
 
-  opened_same : (one other : ReceivedWithRole) (t u : Table) → public_signal one.role one.received.signal ≡ public_signal other.role other.received.signal → t.opened ≡ u.opened → opened_after one.received.signal t.opened ≡ opened_after other.received.signal u.opened
+  opened_same : (one other : ReceivedWithRole) (t u : Table) → public_signal one.role one.received.signal ≡ public_signal other.role other.received.signal → t.opened ≡ u.opened →
+      opened_after one.received.signal t.opened ≡ opened_after other.received.signal u.opened
   opened_same one other t u said e =
       ap (λ (b : Bool). cond b (next_number t.opened) t.opened) (opening-same one.role other.role one.received.signal other.received.signal said)
       ∙ ap (λ (n : ℕ). cond (is_opening other.received.signal) (next_number n) n) e
 
   pub receiving-alike : (one other : ReceivedWithRole) (t u : Table) → TablesCorrespond records config keys t u → ReceiveEquivalent records config far keys one other t u →
-      EquivalentTables records known (with_step (step_on_receive config one.received t) (opened_after one.received.signal t.opened) t) (with_step (step_on_receive far other.received u) (opened_after other.received.signal u.opened) u)
+      EquivalentTables records known (with_step (step_on_receive config one.received t) (opened_after one.received.signal t.opened) t)
+      (with_step (step_on_receive far other.received u) (opened_after other.received.signal u.opened) u)
   receiving-alike one other t u a receive =
       with-alike (step_on_receive config one.received t) (step_on_receive far other.received u) (opened_after one.received.signal t.opened) (opened_after other.received.signal u.opened) t u
       (opened_same one other t u receive.signals a.equivalent.opened) (signals-alike one other t u a receive) a.equivalent

@@ -12,7 +12,8 @@ use Rattle.mmtel_types.specs.declared.numbers.Account.{Account}
 use Rattle.mmtel_call_theorems.specs.Noninterference.Premises.{RecordsCoverSnapshot}
 use Rattle.mmtel_call_theorems.specs.Noninterference.Observations.{trust_of}
 use Rattle.mmtel_b2bua_theorems.specs.EquivalentTables.{EquivalentTables}
-use Rattle.mmtel_b2bua_theorems.specs.Noninterference.{AllEquivalent, AreEquivalent, BothDrop, BothFinish, BothReceive, BothRelease, BothRestore, ConfigsAgree, OpIsFromOwnPeer, OpPair, ReceiveEquivalent, ReceivedWithRole, RecordsCoverSignal, TablesCorrespond, TablesStayEquivalent, one_after, one_of, other_after, other_of}
+use Rattle.mmtel_b2bua_theorems.specs.Noninterference.{AllEquivalent, AreEquivalent, BothDrop, BothFinish, BothReceive, BothRelease, BothRestore, ConfigsAgree, OpIsFromOwnPeer, OpPair}
+use Rattle.mmtel_b2bua_theorems.specs.Noninterference.{ReceiveEquivalent, ReceivedWithRole, RecordsCoverSignal, TablesCorrespond, TablesStayEquivalent, one_after, one_of, other_after, other_of}
 use Rattle.mmtel_b2bua_theorems.proofs.Invariants.{did-kept}
 use Rattle.mmtel_b2bua_theorems.proofs.ReleasedLegs.{finishing-equivalent, legs-equivalent, released-equivalent, restored-equivalent}
 use Rattle.mmtel_b2bua_theorems.proofs.EquivalentSignals.{OfCalls, receiving-alike, signals-alike, with-alike}
@@ -21,12 +22,16 @@ module _ (laws : OfCalls) (records : List Sheet) (config far : CallConfigView) (
   abbrev known : Peer → Bool
   known = λ peer. trusts config peer
 
-  op-equivalent : (both : OpPair) (t u : Table) → TablesCorrespond records config keys t u → AreEquivalent records config far keys both t u → EquivalentTables records known (table_after_op config (one_of both) t) (table_after_op far (other_of both) u)
+  op-equivalent : (both : OpPair) (t u : Table) → TablesCorrespond records config keys t u → AreEquivalent records config far keys both t u →
+      EquivalentTables records known (table_after_op config (one_of both) t) (table_after_op far (other_of both) u)
   op-equivalent (BothReceive one other) t u a alike = receiving-alike laws records config far keys configured one other t u a alike
-  op-equivalent (BothRelease number side) t u a alike = record { entries = released-equivalent laws records known number side t.entries u.entries a.equivalent.entries; opened = a.equivalent.opened; rows = a.equivalent.rows }
-  op-equivalent (BothRestore number one other) t u a alike = record { entries = restored-equivalent laws records known number one other alike t.entries u.entries a.equivalent.entries; opened = a.equivalent.opened; rows = a.equivalent.rows }
+  op-equivalent (BothRelease number side) t u a alike =
+      record { entries = released-equivalent laws records known number side t.entries u.entries a.equivalent.entries; opened = a.equivalent.opened; rows = a.equivalent.rows }
+  op-equivalent (BothRestore number one other) t u a alike =
+      record { entries = restored-equivalent laws records known number one other alike t.entries u.entries a.equivalent.entries; opened = a.equivalent.opened; rows = a.equivalent.rows }
   op-equivalent (BothFinish number at tokens) t u a alike =
-      with-alike laws records config far keys configured (step_on_finish config number at tokens t) (step_on_finish far number at tokens u) t.opened u.opened t u a.equivalent.opened (finishing-equivalent laws records config far keys configured number at tokens t u a) a.equivalent
+      with-alike laws records config far keys configured (step_on_finish config number at tokens t) (step_on_finish far number at tokens u) t.opened u.opened t u a.equivalent.opened
+      (finishing-equivalent laws records config far keys configured number at tokens t u a) a.equivalent
   op-equivalent (BothDrop count) t u a alike = record { entries = a.equivalent.entries; opened = a.equivalent.opened; rows = ap (λ (l : List Row). drop count l) a.equivalent.rows }
 
   -- ---- the invariant of each call remains
@@ -50,7 +55,8 @@ module _ (laws : OfCalls) (records : List Sheet) (config far : CallConfigView) (
   other_well (BothFinish number at tokens) t u alike = tt
   other_well (BothDrop count) t u alike = tt
 
-  tables-correspond : (both : OpPair) (t u : Table) → TablesCorrespond records config keys t u → AreEquivalent records config far keys both t u → TablesCorrespond records config keys (table_after_op config (one_of both) t) (table_after_op far (other_of both) u)
+  tables-correspond : (both : OpPair) (t u : Table) → TablesCorrespond records config keys t u → AreEquivalent records config far keys both t u →
+      TablesCorrespond records config keys (table_after_op config (one_of both) t) (table_after_op far (other_of both) u)
   tables-correspond both t u a alike = record {
     equivalent = op-equivalent both t u a alike;
     one = did-kept laws.keep records (trust_of config keys) config (one_of both) t (one_well both t u alike) a.one;

@@ -49,16 +49,19 @@ module _ (keep : CallsKeepTheirInvariant) (records : List Sheet) (t : Trust) whe
     unfolding call_step
     step-kept busy x e output asks k = keep.steps records t config (snapshot_at at view busy) x e.call output (stand busy) asks k
 
-    at-kept : (x : calls.Signal) (invites : List InviteKey) (place : ℕ) (g : Option Entry) (es : List Entry) (output : StepOutput) → slice_get es place ≡ g → CallAsksWell t x → CallsInvariant records t es → CallsInvariant records t (step_of_entry_at config at view x invites place g es output).entries
+    at-kept : (x : calls.Signal) (invites : List InviteKey) (place : ℕ) (g : Option Entry) (es : List Entry) (output : StepOutput) → slice_get es place ≡ g → CallAsksWell t x →
+        CallsInvariant records t es → CallsInvariant records t (step_of_entry_at config at view x invites place g es output).entries
     at-kept x invites place None es output is asks k = k
     at-kept x invites place (Some e) es output is asks k =
         put-kept place _ es (step-kept (busy_beside e.call.opening.number.0 es) x e output asks (get-kept records t es k place e is)) k
 
-    in-kept : (x : calls.Signal) (invites : List InviteKey) (o : Option ℕ) (es : List Entry) (output : StepOutput) → CallAsksWell t x → CallsInvariant records t es → CallsInvariant records t (step_in config at view x invites o es output).entries
+    in-kept : (x : calls.Signal) (invites : List InviteKey) (o : Option ℕ) (es : List Entry) (output : StepOutput) → CallAsksWell t x → CallsInvariant records t es →
+        CallsInvariant records t (step_in config at view x invites o es output).entries
     in-kept x invites None es output asks k = k
     in-kept x invites (Some place) es output asks k = at-kept x invites place (slice_get es place) es output refl asks k
 
-    received-kept : (whose : Entry → Bool) (x : calls.Signal) (invites : List InviteKey) (es : List Entry) (output : StepOutput) → CallAsksWell t x → CallsInvariant records t es → CallsInvariant records t (step_of_receiver config at view whose x invites es output).entries
+    received-kept : (whose : Entry → Bool) (x : calls.Signal) (invites : List InviteKey) (es : List Entry) (output : StepOutput) → CallAsksWell t x → CallsInvariant records t es →
+        CallsInvariant records t (step_of_receiver config at view whose x invites es output).entries
     received-kept whose x invites es output asks k = in-kept x invites (position whose es) es output asks k
 
     open-kept : (busy : List Account) (a : Arrival) (output : StepOutput) → IsFromOwnPeer t a.key a.invite → CallInvariant records t (opening_step config at view busy a output).call
@@ -70,7 +73,8 @@ module _ (keep : CallsKeepTheirInvariant) (records : List Sheet) (t : Trust) whe
         let s : StepResult = opening_step config at view (busy_with a es) a output in
         append-kept records t es (kept_entry (entry_for a.key s)) k (kept_if (is_settled s.call) (entry_for a.key s) (open-kept (busy_with a es) a output asked))
 
-    signal-kept : (x : Signal) (number : ℕ) (es : List Entry) (output : StepOutput) → SignalIsFromOwnPeer t x → CallsInvariant records t es → CallsInvariant records t (step_of_signal config at view number x es output).entries
+    signal-kept : (x : Signal) (number : ℕ) (es : List Entry) (output : StepOutput) → SignalIsFromOwnPeer t x → CallsInvariant records t es →
+        CallsInvariant records t (step_of_signal config at view number x es output).entries
     unfolding step_of_signal
     signal-kept (signal.Arrived key invite served registration identities) number es output asks k =
         arrived-kept (record { number = record { 0 = number }; key = key; invite = invite; served = served; registration = registration; identities = identities }) es output asks k
@@ -112,11 +116,13 @@ module _ (keep : CallsKeepTheirInvariant) (records : List Sheet) (t : Trust) whe
   unfolding finish_step
   end-kept config at e output k = keep.ended records t config at e.call output k
 
-  ended_at-kept : (config : CallConfigView) (at place : ℕ) (g : Option Entry) (es : List Entry) (output : StepOutput) → slice_get es place ≡ g → CallsInvariant records t es → CallsInvariant records t (step_of_finish_at config at place g es output).entries
+  ended_at-kept : (config : CallConfigView) (at place : ℕ) (g : Option Entry) (es : List Entry) (output : StepOutput) → slice_get es place ≡ g → CallsInvariant records t es →
+      CallsInvariant records t (step_of_finish_at config at place g es output).entries
   ended_at-kept config at place None es output is k = k
   ended_at-kept config at place (Some e) es output is k = put-kept place _ es (end-kept config at e output (get-kept records t es k place e is)) k
 
-  ended_by-kept : (config : CallConfigView) (at : ℕ) (place : Option ℕ) (es : List Entry) (output : StepOutput) → CallsInvariant records t es → CallsInvariant records t (step_of_finish_in config at place es output).entries
+  ended_by-kept : (config : CallConfigView) (at : ℕ) (place : Option ℕ) (es : List Entry) (output : StepOutput) → CallsInvariant records t es →
+      CallsInvariant records t (step_of_finish_in config at place es output).entries
   ended_by-kept config at None es output k = k
   ended_by-kept config at (Some place) es output k = ended_at-kept config at place (slice_get es place) es output refl k
 

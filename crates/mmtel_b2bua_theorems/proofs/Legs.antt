@@ -16,7 +16,8 @@ use Rattle.mmtel_call.specs.declared.calls.Phase.TheVariants.{Detached, Establis
 use Rattle.mmtel_call.specs.declared.calls.Phase.{Phase}
 use Rattle.mmtel_call.specs.declared.calls.Stage.TheVariants.{Answered, Departing, Reinviting, Stable}
 use Rattle.mmtel_b2bua.specs.Entries.{is_numbered}
-use Rattle.mmtel_b2bua.specs.Detaching.{can_restore, entries_after_release, entries_after_restore, entry_after_release, entry_at, entry_of, leg_in_entry, place_of, released_at, released_where, restored_at, restored_where}
+use Rattle.mmtel_b2bua.specs.Detaching.{can_restore, entries_after_release, entries_after_restore, entry_after_release, entry_at}
+use Rattle.mmtel_b2bua.specs.Detaching.{entry_of, leg_in_entry, place_of, released_at, released_where, restored_at, restored_where}
 use Rattle.mmtel_b2bua.specs.declared.entries.Entry.{Entry}
 use Rattle.mmtel_b2bua_theorems.specs.Legs.{LegsGoBack}
 

@@ -45,7 +45,8 @@ some-same : {A : Type 0} (x y : A) → Some x ≡ Some y → x ≡ y
 some-same x y h = cc
 
 -- by the signal
-start-no-injection : (acks : List ReceivedAck) (config : CallConfigView) (at : ℕ) (view : Rattle.mmtel_sheet_values.specs.View.SheetsInForce) (tokens : Rattle.mmtel_transaction.specs.Tokens.TokensView) (received : Signal)
+start-no-injection :
+    (acks : List ReceivedAck) (config : CallConfigView) (at : ℕ) (view : Rattle.mmtel_sheet_values.specs.View.SheetsInForce) (tokens : Rattle.mmtel_transaction.specs.Tokens.TokensView) (received : Signal)
     (table : Table) (s : TraceStart) → HasNoInjection config.home →
     clean.RecordsHaveNoInjection view → HasNoInjection tokens.token → clean.SignalHasNoInjection received →
     opening_by config (Receives (record { at = at; view = view; tokens = tokens; signal = received })) table ≡ Some s → TraceStartHasNoInjection acks s
@@ -59,7 +60,8 @@ start-no-injection acks config at view tokens (signal.Silent branch method) tabl
 start-no-injection acks config at view tokens (signal.Due call what) table s home records token given opens = absurd (none-some s opens)
 start-no-injection acks config at view tokens (signal.Over key) table s home records token given opens = absurd (none-some s opens)
 
-received-no-injection : (acks : List ReceivedAck) (at : ℕ) (view : Rattle.mmtel_sheet_values.specs.View.SheetsInForce) (tokens : Rattle.mmtel_transaction.specs.Tokens.TokensView) (received : Signal) (n : ℕ) (es : List Entry)
+received-no-injection :
+    (acks : List ReceivedAck) (at : ℕ) (view : Rattle.mmtel_sheet_values.specs.View.SheetsInForce) (tokens : Rattle.mmtel_transaction.specs.Tokens.TokensView) (received : Signal) (n : ℕ) (es : List Entry)
     (event : CallEvent) →
     clean.RecordsHaveNoInjection view → HasNoInjection tokens.token → clean.SignalHasNoInjection received →
     event_by (Receives (record { at = at; view = view; tokens = tokens; signal = received })) n es ≡ Some event → EventHasNoInjection acks event
@@ -79,7 +81,8 @@ received-no-injection acks at view tokens (signal.Due call what) n es event reco
 received-no-injection acks at view tokens (signal.Over key) n es event records token given came = subst (EventHasNoInjection acks) (some-same _ event came)
     (record { sheets = records; signal = tt; output = record { token_in = token; out_in = tt } })
 
-opened-no-injection : (acks : List ReceivedAck) (config : CallConfigView) (op : TableOp) (table : Table) (s : TraceStart) → HasNoInjection config.home → OpHasNoInjection op → opening_by config op table ≡ Some s → TraceStartHasNoInjection acks s
+opened-no-injection : (acks : List ReceivedAck) (config : CallConfigView) (op : TableOp) (table : Table) (s : TraceStart) → HasNoInjection config.home → OpHasNoInjection op →
+    opening_by config op table ≡ Some s → TraceStartHasNoInjection acks s
 opened-no-injection acks config (Receives x) table s home given opens = start-no-injection acks config x.at x.view x.tokens x.signal table s home given.records given.token given.signal opens
 opened-no-injection acks config (Releases number side) table s home given opens = absurd (none-some s opens)
 opened-no-injection acks config (Restores number away) table s home given opens = absurd (none-some s opens)
@@ -93,7 +96,8 @@ event-no-injection acks (Restores number away) n es event given came = subst (Ev
 event-no-injection acks (Finishes number at tokens) n es event given came = subst (EventHasNoInjection acks) (some-same _ event came) (record { token_in = given; out_in = tt })
 event-no-injection acks (Drops count) n es event given came = absurd (none-some event came)
 
-goes-no-injection : (acks : List ReceivedAck) (opens : Option TraceStart) (came : Option CallEvent) (was : Option CallTraceWithTransfers) (trace : CallTraceWithTransfers) → ((s : TraceStart) → opens ≡ Some s → TraceStartHasNoInjection acks s) → ((event : CallEvent) →
+goes-no-injection : (acks : List ReceivedAck) (opens : Option TraceStart) (came : Option CallEvent) (was : Option CallTraceWithTransfers) (trace : CallTraceWithTransfers) →
+    ((s : TraceStart) → opens ≡ Some s → TraceStartHasNoInjection acks s) → ((event : CallEvent) →
     came ≡ Some event → EventHasNoInjection acks event) →
     ((trace : CallTraceWithTransfers) → was ≡ Some trace → TraceHasNoInjection acks trace) → continued_trace opens came was ≡ Some trace → TraceHasNoInjection acks trace
 goes-no-injection acks (Some s) came was trace start event before h = subst (TraceHasNoInjection acks) (some-same (record { start = s; events = [] }) trace h) (start s refl, tt)
@@ -102,7 +106,8 @@ goes-no-injection acks None None (Some earlier) trace start event before h = sub
 goes-no-injection acks None (Some x) (Some earlier) trace start event before h =
     let b = before earlier refl in subst (TraceHasNoInjection acks) (some-same (record earlier { events = x ∷ earlier.events }) trace h) (b.0, (event x refl, b.1))
 
-trace-no-injection : (acks : List ReceivedAck) (config : CallConfigView) (ops : List TableOp) (n : ℕ) (trace : CallTraceWithTransfers) → HasNoInjection config.home → Each OpHasNoInjection ops → trace_of config n ops ≡ Some trace → TraceHasNoInjection acks trace
+trace-no-injection : (acks : List ReceivedAck) (config : CallConfigView) (ops : List TableOp) (n : ℕ) (trace : CallTraceWithTransfers) → HasNoInjection config.home → Each OpHasNoInjection ops →
+    trace_of config n ops ≡ Some trace → TraceHasNoInjection acks trace
 unfolding trace_of
 trace-no-injection acks config [] n trace home given h = absurd (none-some trace h)
 trace-no-injection acks config (op ∷ earlier) n trace home given h =
@@ -110,7 +115,8 @@ trace-no-injection acks config (op ∷ earlier) n trace home given h =
   where
     go : (b : Bool) → (if b then continued_trace (opening_by config op (table_after config earlier)) (event_by op n (table_after config earlier).entries)
         (trace_of config n earlier) else trace_of config n earlier) ≡ Some trace →
-        (trace_of config n earlier ≡ Some trace → TraceHasNoInjection acks trace) → ((trace : CallTraceWithTransfers) → trace_of config n earlier ≡ Some trace → TraceHasNoInjection acks trace) → TraceHasNoInjection acks trace
+        (trace_of config n earlier ≡ Some trace → TraceHasNoInjection acks trace) → ((trace : CallTraceWithTransfers) → trace_of config n earlier ≡ Some trace → TraceHasNoInjection acks trace) →
+        TraceHasNoInjection acks trace
     go true h same all =
         goes-no-injection acks (opening_by config op (table_after config earlier)) (event_by op n (table_after config earlier).entries) (trace_of config n earlier) trace
         (λ s opens. opened-no-injection acks config op (table_after config earlier) s home given.0 opens) (λ event came. event-no-injection acks op n
@@ -143,10 +149,12 @@ own-added P before after e h = subst (Each P) (ap (λ (l : List Emit). drop (len
 
 -- so is each that is sent in a trace, in which each ACK that was received is one of these
 abbrev OfTraces : (acks : List ReceivedAck) → (Emit → Type 0) → Type 0
-OfTraces acks P = (s : TraceStart) (received : List traces.TraceStep) → TraceStartHasNoInjection acks s → Each (TraceStepHasNoInjection acks) received → AreAmong (received_acks_after s received) acks → Each P (output_after s received).out
+OfTraces acks P = (s : TraceStart) (received : List traces.TraceStep) → TraceStartHasNoInjection acks s → Each (TraceStepHasNoInjection acks) received →
+    AreAmong (received_acks_after s received) acks → Each P (output_after s received).out
 
 plain-emits : (acks : List ReceivedAck) (P : Emit → Type 0) → OfTraces acks P →
-    (s : TraceStart) (received : List traces.TraceStep) → HaveEmptyOutputs s (signals received) → TraceStartHasNoInjection acks s → Each (TraceStepHasNoInjection acks) received → AreAmong (received_acks_after s received) acks →
+    (s : TraceStart) (received : List traces.TraceStep) → HaveEmptyOutputs s (signals received) → TraceStartHasNoInjection acks s → Each (TraceStepHasNoInjection acks) received →
+    AreAmong (received_acks_after s received) acks →
     Each P (emits_after s (signals received))
 unfolding emits_after
 plain-emits acks P law s [] step_outputs start given among = own-added P s.output.out _ step_outputs (law s [] start tt tt)

@@ -43,12 +43,14 @@ use Rattle.mmtel_b2bua_theorems.proofs.TraceSteps.{Beside, Later, MatchesTrace, 
 abbrev SameLast : ObservedAttempts → (one other : Option ℕ) → Type 0
 SameLast w one other = (g : AttemptInProgress) → w.in_progress ≡ Some g → one ≡ other
 
-observed-next : (config : CallConfigView) (o : Opening) (now : ℕ) (w : ObservedAttempts) (going : Option AttemptInProgress) (one other : Option ℕ) (received : Signal) (marks : List AttemptEvent) → w.in_progress ≡ going → SameLast w one other →
+observed-next : (config : CallConfigView) (o : Opening) (now : ℕ) (w : ObservedAttempts) (going : Option AttemptInProgress) (one other : Option ℕ) (received : Signal) (marks : List AttemptEvent) →
+    w.in_progress ≡ going → SameLast w one other →
     observed_step_from config o now w going one received marks ≡ observed_step_from config o now w going other received marks
 observed-next config o now w None one other received marks is same = refl
 observed-next config o now w (Some g) one other received marks is same = ap (λ last. observed_step_from config o now w (Some g) last received marks) (same g is)
 
-last-next : (config : CallConfigView) (o : Opening) (now : ℕ) (w : ObservedAttempts) (going : Option AttemptInProgress) (one other : Option ℕ) (received : Signal) (marks : List AttemptEvent) → w.in_progress ≡ going → SameLast w one other →
+last-next : (config : CallConfigView) (o : Opening) (now : ℕ) (w : ObservedAttempts) (going : Option AttemptInProgress) (one other : Option ℕ) (received : Signal) (marks : List AttemptEvent) →
+    w.in_progress ≡ going → SameLast w one other →
     SameLast (observed_step_from config o now w going one received marks) (last_by one received) (last_by other received)
 last-next config o now w None one other received marks is same g going = absurd (none-some g (sym is ∙ going))
 last-next config o now w (Some before) one other received marks is same g going = ap (λ last. last_by last received) (same before is)
@@ -59,7 +61,8 @@ ends-next w None key one other received is same = refl
 ends-next w (Some g) key one other received is same = ap (λ last. observed_end_in key last (Some g) w.acks received) (same g is)
 
 -- none is current, and so none follows
-none-next : (config : CallConfigView) (o : Opening) (now : ℕ) (w : ObservedAttempts) (last : Option ℕ) (received : Signal) (marks : List AttemptEvent) → w.in_progress ≡ None → observed_step config o now w last received marks ≡ w
+none-next : (config : CallConfigView) (o : Opening) (now : ℕ) (w : ObservedAttempts) (last : Option ℕ) (received : Signal) (marks : List AttemptEvent) → w.in_progress ≡ None →
+    observed_step config o now w last received marks ≡ w
 none-next config o now w last received marks none = ap (λ going. observed_step_from config o now w going last received marks) none
 
 none-ends : (w : ObservedAttempts) (key : TKey) (last : Option ℕ) (received : Signal) → w.in_progress ≡ None → end_observed key last w received ≡ None
@@ -80,7 +83,8 @@ record ObservedEqual (s : TraceStart) (events : List CallEvent) (received : List
 
 module _ (attempts : AttemptsAreObserved) (s : TraceStart) where
   -- of a signal that the trace of signals has too
-  same-observed : (x : TraceStep) (earlier : List CallEvent) (received : List TraceStep) → call_after s earlier ≡ traces.call_after s received → ObservedEqual s earlier received → ObservedEqual s (Receives x ∷ earlier) (x ∷ received)
+  same-observed : (x : TraceStep) (earlier : List CallEvent) (received : List TraceStep) → call_after s earlier ≡ traces.call_after s received → ObservedEqual s earlier received →
+      ObservedEqual s (Receives x ∷ earlier) (x ∷ received)
   unfolding observed_after last_after endings_observed trace_observed.observed_after trace_observed.last_after_all trace_observed.endings_observed
   same-observed x earlier received is r =
       let w = observed_after s earlier in
@@ -99,13 +103,15 @@ module _ (attempts : AttemptsAreObserved) (s : TraceStart) where
       }
 
   -- after a leg was detached
-  later-observed : (x : TraceStep) (earlier : List CallEvent) (received : List TraceStep) → is_established_in (traces.call_after s received).phase ≡ true → ObservedEqual s earlier received → ObservedEqual s (Receives x ∷ earlier) (quiet x ∷ received)
+  later-observed : (x : TraceStep) (earlier : List CallEvent) (received : List TraceStep) → is_established_in (traces.call_after s received).phase ≡ true → ObservedEqual s earlier received →
+      ObservedEqual s (Receives x ∷ earlier) (quiet x ∷ received)
   unfolding observed_after last_after endings_observed trace_observed.observed_after trace_observed.last_after_all trace_observed.endings_observed
   later-observed x earlier received stands r =
       let w = observed_after s earlier in
       let told = trace_observed.observed_after s received in
       let key = s.arrival.key in
-      let none-told : told.in_progress ≡ None = established-none s.config.bound (trace_attempts.no_reply_after s received) (traces.call_after s received) (traces.call_after s received).phase told stands (attempts s received) in
+      let none-told : told.in_progress ≡ None =
+      established-none s.config.bound (trace_attempts.no_reply_after s received) (traces.call_after s received) (traces.call_after s received).phase told stands (attempts s received) in
       let none : w.in_progress ≡ None = ap (λ (w : ObservedAttempts). w.in_progress) r.watch ∙ none-told in
       let o = opening_in s in
       let still : observed_after s (Receives x ∷ earlier) ≡ w = none-next s.config o x.now.at w (last_after s earlier) x.signal _ none in
@@ -157,7 +163,8 @@ observed-at attempts s events received l r (Same is rows over) =
     (subst (λ time. PhaseIsObserved s.config.bound time (traces.call_after s received).acks (traces.call_after s received).phase (trace_observed.observed_after s received)) (sym (time-same s events received l))
     (attempts s received)))
 observed-at attempts s events received l r (Later stands kept after) =
-    let none = established-none s.config.bound (trace_attempts.no_reply_after s received) (traces.call_after s received) (traces.call_after s received).phase (trace_observed.observed_after s received) stands (attempts s received) in
+    let none = established-none s.config.bound (trace_attempts.no_reply_after s received) (traces.call_after s received) (traces.call_after s received).phase
+    (trace_observed.observed_after s received) stands (attempts s received) in
     unoffered s.config.bound (no_reply_after s events) (call_after s events) (call_after s events).phase (observed_after s events) (after-offered _ _ (traces.call_after s received) (call_after s events) _ after)
     (ap (λ (w : ObservedAttempts). w.in_progress) r.watch ∙ none)
 
@@ -183,7 +190,8 @@ back-asks key (Established x stage) away c a = a
 back-asks key (Detached detached) away c a = tt
 back-asks key (Over cause) away c a = tt
 
-finished-asks : (key : TKey) (phase : Phase) (config : CallConfigView) (at : ℕ) (c : Call) (output : StepOutput) → PhaseHasOtherKey key phase → PhaseHasOtherKey key (finish_of_phase phase config at (record c { phase = phase }) output).call.phase
+finished-asks : (key : TKey) (phase : Phase) (config : CallConfigView) (at : ℕ) (c : Call) (output : StepOutput) → PhaseHasOtherKey key phase →
+    PhaseHasOtherKey key (finish_of_phase phase config at (record c { phase = phase }) output).call.phase
 finished-asks key (Offered x) config at c output a = tt
 finished-asks key (Established x stage) config at c output a = a
 finished-asks key (Detached detached) config at c output a = tt
@@ -235,7 +243,8 @@ if-none key true out none = refl
 if-none key false out none = none
 
 shown-received : ShowsNothingLater → (key : TKey) (config : CallConfigView) (x : TraceStep) (c : Call) (b : Bool) → is_offered c.phase ≡ b → CallHasOtherKeys key c → HasOtherKey key x.signal →
-    labels_of_step key x.signal (items_added x.output.out (step config x.now x.signal c x.output).output.out) ≡ labels_of key (if b then items_added x.output.out (step config x.now x.signal c x.output).output.out else [])
+    labels_of_step key x.signal (items_added x.output.out (step config x.now x.signal c x.output).output.out)
+    ≡ labels_of key (if b then items_added x.output.out (step config x.now x.signal c x.output).output.out else [])
 shown-received law key config x c true h asks other = law.all config x.now x.signal c x.output key h
 shown-received law key config x c false h asks other = law.none config x.now x.signal c x.output key h asks other
 
@@ -247,7 +256,8 @@ shown-alone law s (Receives x) earlier others =
 shown-alone law s (Releases side) earlier others = if-none s.arrival.key (is_offered (call_after s earlier).phase) [] refl
 shown-alone law s (Restores away) earlier others = if-none s.arrival.key (is_offered (call_after s earlier).phase) [] refl
 shown-alone law s (Finishes at output) earlier others =
-    let c = call_after s earlier in if-none s.arrival.key (is_offered c.phase) (items_added output.out (call_finish s.config at c output).output.out) (law.ends s.config at c output s.arrival.key (waits-after law s earlier others.1).1)
+    let c = call_after s earlier in if-none s.arrival.key (is_offered c.phase) (items_added output.out (call_finish s.config at c output).output.out)
+    (law.ends s.config at c output s.arrival.key (waits-after law s earlier others.1).1)
 
 all-shown : ShowsNothingLater → (s : TraceStart) (events : List CallEvent) → EventsHaveOtherKeys s.arrival.key events → labels_after s events ≡ labels_of s.arrival.key (emits_while_offered s events)
 unfolding labels_after emits_while_offered

@@ -149,5 +149,6 @@ equivalent_tables_answer_equally laws = record {
   live = λ records known account t u a. counts-same laws records known account t.entries u.entries a.entries;
   full = λ records known role second x y t u a said. full-same laws records known role second x y t.entries u.entries a.entries said;
   detached = λ records known number t u a. away-at laws records known (entry_of number t.entries) (entry_of number u.entries) (entry-equivalent laws records known number t.entries u.entries a.entries);
-  fits = λ records known number one other t u a same. fits-at laws records known one other same (entry_of number t.entries) (entry_of number u.entries) (entry-equivalent laws records known number t.entries u.entries a.entries);
+  fits = λ records known number one other t u a same. fits-at laws records known one other same (entry_of number t.entries) (entry_of number u.entries)
+      (entry-equivalent laws records known number t.entries u.entries a.entries);
 }

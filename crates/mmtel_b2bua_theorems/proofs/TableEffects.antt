@@ -23,7 +23,8 @@ use Rattle.mmtel_call.specs.declared.signals.Signal.TheVariants as of_call
 use Rattle.mmtel_call_theorems.specs.CallTrace.{TraceStart}
 use Rattle.mmtel_b2bua.specs.Entries.{busy_beside, has_received_key, has_sent_branch, is_numbered}
 use Rattle.mmtel_b2bua.specs.Operations.{Drops, Finishes, ReceivedSignal, Receives, Releases, Restores, TableOp, table_after_op}
-use Rattle.mmtel_b2bua.specs.Detaching.{can_restore, entries_after_release, entries_after_restore, entry_after_release, entry_after_restore, entry_at, finish_step, released_at, released_where, restored_at, restored_where, step_of_finish, step_of_finish_at, step_of_finish_in}
+use Rattle.mmtel_b2bua.specs.Detaching.{can_restore, entries_after_release, entries_after_restore, entry_after_release, entry_after_restore, entry_at, finish_step}
+use Rattle.mmtel_b2bua.specs.Detaching.{released_at, released_where, restored_at, restored_where, step_of_finish, step_of_finish_at, step_of_finish_in}
 use Rattle.mmtel_b2bua.specs.Tables as tables
 use Rattle.mmtel_b2bua.specs.Tables.{Table, TableStep, call_step, invites_by, opening_step, snapshot_at, step_in, step_of_entry, step_of_entry_at, step_of_signal, unchanged_step}
 use Rattle.mmtel_b2bua.specs.declared.entries.Entry.{Entry}

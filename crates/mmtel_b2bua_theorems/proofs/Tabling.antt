@@ -75,7 +75,8 @@ take_steps law charged config ops number few = (holds_after (traces_stay law cha
 pub output_own : CallsContinue → ChargingIsExact → CallOutputsAreOfTheTrace
 output_own law charged config ops number trace few is = (holds_after (traces_stay law charged) config ops few).brings number trace is
 
-pub calls_exact : CallsContinue → ChargingIsExact → ReachesItsOutcome → ShowsItsOutcome → ShowsNothingLater → AttemptsAreObserved → EndingsAreObserved → DiversionsAreCounted → SessionsAreObserved → SessionsExpireAsObserved → CallsOfTablesAreExact
+pub calls_exact : CallsContinue → ChargingIsExact → ReachesItsOutcome → ShowsItsOutcome → ShowsNothingLater → AttemptsAreObserved → EndingsAreObserved → DiversionsAreCounted → SessionsAreObserved →
+    SessionsExpireAsObserved → CallsOfTablesAreExact
 calls_exact law charged comes shows later attempts endings counted sessions expire config ops number trace few is =
     let holds = holds_after (traces_stay law charged) config ops few in
     let own = holds.brings number trace is in

@@ -95,7 +95,8 @@ event-others config earlier n trace is (Drops count) es event own came = absurd 
 abbrev HasOthers : CallTraceWithTransfers → Type 0
 HasOthers trace = EventsHaveOtherKeys trace.start.arrival.key trace.events
 
-goes-others : (opens : Option TraceStart) (came : Option CallEvent) (was : Option CallTraceWithTransfers) (trace : CallTraceWithTransfers) → ((earlier : CallTraceWithTransfers) (event : CallEvent) → was ≡ Some earlier → came ≡ Some event →
+goes-others : (opens : Option TraceStart) (came : Option CallEvent) (was : Option CallTraceWithTransfers) (trace : CallTraceWithTransfers) →
+    ((earlier : CallTraceWithTransfers) (event : CallEvent) → was ≡ Some earlier → came ≡ Some event →
     EventHasOtherKey earlier.start.arrival.key event) →
     ((earlier : CallTraceWithTransfers) → was ≡ Some earlier → HasOthers earlier) → continued_trace opens came was ≡ Some trace → HasOthers trace
 goes-others (Some s) came was trace event before h = subst HasOthers (some-same (record { start = s; events = [] }) trace h) tt

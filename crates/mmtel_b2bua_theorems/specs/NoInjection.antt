@@ -67,13 +67,19 @@ signals received = map transfers.Receives received
 -- for a call of which no leg was detached, and for one that ended in the operation after that; an ACK of a 2xx has no header fields but those that are copied from an ACK that this
 -- call received
 pub record CallsSendNoInjection : Type 0 where
-  pub no_injection : (config : CallConfigView) (ops : List TableOp) (number : ℕ) (start : traces.TraceStart) (received : List traces.TraceStep) → HasNumbers config ops → HasNoInjection config.home →
+  pub no_injection :
+      (config : CallConfigView) (ops : List TableOp) (number : ℕ) (start : traces.TraceStart) (received : List traces.TraceStep) →
+      HasNumbers config ops → HasNoInjection config.home →
       Each OpHasNoInjection ops →
-      trace_of config number ops ≡ Some (record { start = start; events = signals received }) → Each (EmitHasNoInjection (acks.received_acks_after start received)) (emits_of config number ops)
-  pub own_fields : (config : CallConfigView) (ops : List TableOp) (number : ℕ) (start : traces.TraceStart) (received : List traces.TraceStep) → HasNumbers config ops → HasNoInjection config.home →
+      trace_of config number ops ≡ Some (record { start = start; events = signals received }) →
+      Each (EmitHasNoInjection (acks.received_acks_after start received)) (emits_of config number ops)
+  pub own_fields : (config : CallConfigView) (ops : List TableOp) (number : ℕ) (start : traces.TraceStart) (received : List traces.TraceStep) →
+      HasNumbers config ops → HasNoInjection config.home →
       Each OpHasNoInjection ops →
-      trace_of config number ops ≡ Some (record { start = start; events = signals received }) → Each (SendsOwnFields (acks.received_acks_after start received)) (emits_of config number ops)
-  pub finished : (config : CallConfigView) (ops : List TableOp) (number : ℕ) (start : traces.TraceStart) (received : List traces.TraceStep) (side : Side) (at : ℕ) (output : StepOutput) →
+      trace_of config number ops ≡ Some (record { start = start; events = signals received }) →
+      Each (SendsOwnFields (acks.received_acks_after start received)) (emits_of config number ops)
+  pub finished : (config : CallConfigView) (ops : List TableOp) (number : ℕ) (start : traces.TraceStart) (received : List traces.TraceStep)
+      (side : Side) (at : ℕ) (output : StepOutput) →
       HasNumbers config ops → HasNoInjection config.home → Each OpHasNoInjection ops →
       trace_of config number ops ≡ Some (record { start = start; events = transfers.Finishes at output ∷ transfers.Releases side ∷ signals received }) →
       Each (EmitHasNoInjection (acks.received_acks_after start received)) (emits_of config number ops)

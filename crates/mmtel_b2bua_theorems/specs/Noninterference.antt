@@ -93,7 +93,9 @@ other_after far both = table_after far (map other_of both)
 
 abbrev pub AllEquivalent : (records : List Sheet) → (config far : CallConfigView) → (keys : TKey → Bool) → List OpPair → Type 0
 AllEquivalent records config far keys [] = Unit {0}
-AllEquivalent records config far keys (both ∷ earlier) = AreEquivalent records config far keys both (one_after config earlier) (other_after far earlier) × AllEquivalent records config far keys earlier
+AllEquivalent records config far keys (both ∷ earlier) =
+    AreEquivalent records config far keys both (one_after config earlier) (other_after far earlier)
+    × AllEquivalent records config far keys earlier
 
 -- ---- the theorems
 
@@ -112,7 +114,8 @@ OpIsFromOwnPeer records t (Drops count) = Unit {0}
 
 -- a table keeps the invariant of each of its calls, whatever the operation
 abbrev pub TablesKeepTheirInvariant : Type 0
-TablesKeepTheirInvariant = (records : List Sheet) (t : Trust) (config : CallConfigView) (op : TableOp) (table : Table) → OpIsFromOwnPeer records t op → CallsInvariant records t table.entries →
+TablesKeepTheirInvariant = (records : List Sheet) (t : Trust) (config : CallConfigView) (op : TableOp) (table : Table) →
+    OpIsFromOwnPeer records t op → CallsInvariant records t table.entries →
     CallsInvariant records t (table_after_op config op table).entries
 
 -- two indistinguishable tables for which the invariant holds
@@ -123,14 +126,18 @@ pub record TablesCorrespond (records : List Sheet) (config : CallConfigView) (ke
 
 pub record TablesStayEquivalent : Type 0 where
   -- each operation leaves indistinguishable tables indistinguishable
-  pub operations : (records : List Sheet) (config far : CallConfigView) (keys : TKey → Bool) (both : OpPair) (t u : Table) → ConfigsAgree records config far → TablesCorrespond records config keys t u →
+  pub operations : (records : List Sheet) (config far : CallConfigView) (keys : TKey → Bool) (both : OpPair) (t u : Table) →
+      ConfigsAgree records config far → TablesCorrespond records config keys t u →
       AreEquivalent records config far keys both t u → TablesCorrespond records config keys (table_after_op config (one_of both) t) (table_after_op far (other_of both) u)
   -- so do two lists of operations, of any length
-  pub traces : (records : List Sheet) (config far : CallConfigView) (keys : TKey → Bool) (both : List OpPair) → ConfigsAgree records config far → AllEquivalent records config far keys both →
+  pub traces : (records : List Sheet) (config far : CallConfigView) (keys : TKey → Bool) (both : List OpPair) →
+      ConfigsAgree records config far → AllEquivalent records config far keys both →
       TablesCorrespond records config keys (one_after config both) (other_after far both)
   -- the observable output on a signal is the same: untrusted peers see theirs whole, of what is sent to trusted ones the heads, and tokens, CDRs and deadlines are the same
-  pub signals : (records : List Sheet) (config far : CallConfigView) (keys : TKey → Bool) (one other : ReceivedWithRole) (t u : Table) → ConfigsAgree records config far → TablesCorrespond records config keys t u →
-      ReceiveEquivalent records config far keys one other t u → EquivalentOutputs (trust_of config keys) (step_on_receive config one.received t).output (step_on_receive far other.received u).output
+  pub signals : (records : List Sheet) (config far : CallConfigView) (keys : TKey → Bool) (one other : ReceivedWithRole) (t u : Table) →
+      ConfigsAgree records config far → TablesCorrespond records config keys t u →
+      ReceiveEquivalent records config far keys one other t u →
+      EquivalentOutputs (trust_of config keys) (step_on_receive config one.received t).output (step_on_receive far other.received u).output
   -- and so is that at the end of a call without its leg
   pub ends : (records : List Sheet) (config far : CallConfigView) (keys : TKey → Bool) (number at : ℕ) (tokens : TokensView) (t u : Table) → ConfigsAgree records config far →
       TablesCorrespond records config keys t u →

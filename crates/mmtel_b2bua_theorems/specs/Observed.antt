@@ -14,7 +14,8 @@ use Rattle.mmtel_call_theorems.specs.Outcomes.{last_record}
 use Rattle.mmtel_call_theorems.specs.Session.Observed.{Session, expiries_of, initial_session, session_after_step, session_after_success}
 use Rattle.mmtel_call_theorems.specs.Labels.{Label, labels_of, labels_of_step}
 use Rattle.mmtel_call_theorems.specs.CallTrace.{TraceStart, first_step, items_added, opening_in}
-use Rattle.mmtel_call_theorems.specs.Attempts.Observed.{AttemptEvent, ObservedAttempts, after_events, end_observed, events_at_start, events_of, first_last, last_by, nothing_observed, observed_step}
+use Rattle.mmtel_call_theorems.specs.Attempts.Observed.{AttemptEvent, ObservedAttempts, after_events, end_observed, events_at_start}
+use Rattle.mmtel_call_theorems.specs.Attempts.Observed.{events_of, first_last, last_by, nothing_observed, observed_step}
 use Rattle.mmtel_b2bua_theorems.specs.Outcomes.{call_inputs_after, outcome_after}
 use Rattle.mmtel_b2bua_theorems.specs.TracesWithTransfers.{CallEvent, Finishes, Receives, Releases, Restores, call_after, emits_by}
 

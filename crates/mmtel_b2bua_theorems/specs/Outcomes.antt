@@ -41,7 +41,8 @@ snapshot_by (Finishes at output) before = before
 
 unfoldable pub snapshot_at_diversion : TraceStart → List CallEvent → (k : ℕ) → SnapshotView
 snapshot_at_diversion s [] k = s.now
-snapshot_at_diversion s (x ∷ earlier) k = if nat_lt k (diversions_made_in s (call_after s earlier)) then snapshot_at_diversion s earlier k else snapshot_by x (snapshot_at_diversion s earlier k)
+snapshot_at_diversion s (x ∷ earlier) k = if nat_lt k (diversions_made_in s (call_after s earlier)) then snapshot_at_diversion s earlier k
+    else snapshot_by x (snapshot_at_diversion s earlier k)
 
 -- ---- its Outcome
 

@@ -28,5 +28,6 @@ TracesReplyInTheirOwn = (own : ℕ → Bool) (s : TraceStart) (events : List Cal
 
 -- and each reply that is sent in the operations of the call of a number
 abbrev pub CallsReplyInTheirOwn : Type 0
-CallsReplyInTheirOwn = (own : ℕ → Bool) (config : CallConfigView) (ops : List TableOp) (number : ℕ) (trace : CallTraceWithTransfers) → HasNumbers config ops → trace_of config number ops ≡ Some trace →
+CallsReplyInTheirOwn = (own : ℕ → Bool) (config : CallConfigView) (ops : List TableOp) (number : ℕ) (trace : CallTraceWithTransfers) →
+    HasNumbers config ops → trace_of config number ops ≡ Some trace →
     TraceIsOf own trace.start trace.events → Each (IsRepliedIn own) (emits_of config number ops)

@@ -18,7 +18,8 @@ use Rattle.mmtel_call_theorems.specs.CallTrace.{TraceStart, TraceStep, is_over, 
 use Rattle.mmtel_call_theorems.specs.Attempts.Theorems.{PhaseIsObserved}
 use Rattle.mmtel_b2bua.specs.Entries.{is_numbered}
 use Rattle.mmtel_b2bua.specs.Operations.{TableOp, table_after}
-use Rattle.mmtel_b2bua_theorems.specs.TracesOfTables.{ArePutBack, HasNumbers, HaveOwnKeys, all_charging_records as rows_of_all, call_of, emits_of, entry_in, out_by, records_handed_after, trace_of}
+use Rattle.mmtel_b2bua_theorems.specs.TracesOfTables.{ArePutBack, HasNumbers, HaveOwnKeys, all_charging_records as rows_of_all}
+use Rattle.mmtel_b2bua_theorems.specs.TracesOfTables.{call_of, emits_of, entry_in, out_by, records_handed_after, trace_of}
 use Rattle.mmtel_b2bua_theorems.specs.TracesOfTables.{charging_records_of, op_charging_records}
 use Rattle.mmtel_b2bua_theorems.specs.Outcomes.{AreFitting, EventsHaveOtherKeys, HaveEmptyOutputs, charges_due_after, endings_after, outcome_after, parts_after}
 use Rattle.mmtel_b2bua_theorems.specs.TracesWithTransfers.{CallEvent, CallTraceWithTransfers, Receives, call_after, charging_records_after, emits_after, emits_while_offered}
@@ -46,7 +47,8 @@ TraceEndingsAreObserved = (s : TraceStart) (events : List CallEvent) → endings
 
 -- while it is offered its attempt is the current one, with its deadlines, each at its moment, and with the reliable responses that wait for their PRACK; otherwise none is current
 abbrev pub TraceAttemptsAreObserved : Type 0
-TraceAttemptsAreObserved = (s : TraceStart) (events : List CallEvent) → PhaseIsObserved s.config.bound (no_reply_after s events) (call_after s events).acks (call_after s events).phase (observed_after s events)
+TraceAttemptsAreObserved = (s : TraceStart) (events : List CallEvent) →
+    PhaseIsObserved s.config.bound (no_reply_after s events) (call_after s events).acks (call_after s events).phase (observed_after s events)
 
 -- the deadline of its session that counts is that of the last 2xx which it relayed
 abbrev pub TracesKeepTheirSession : Type 0
@@ -62,7 +64,8 @@ TracesExpireAsObserved = (s : TraceStart) (earlier : List CallEvent) (x : TraceS
 
 -- as many diversions are left as the bound leaves after those that the call came with and those that were made
 abbrev pub TraceDiversionsAreCounted : Type 0
-TraceDiversionsAreCounted = (s : TraceStart) (events : List CallEvent) → (call_after s events).diversions.remaining + diversions_made (outcome_after s events) ≡ initially_remaining s
+TraceDiversionsAreCounted = (s : TraceStart) (events : List CallEvent) →
+    (call_after s events).diversions.remaining + diversions_made (outcome_after s events) ≡ initially_remaining s
 
 -- for a trace in which each leg that is put back is of the side that is detached
 pub record TracesAreCharged : Type 0 where
@@ -93,7 +96,8 @@ pub record OutputsAreOfTheTrace (config : CallConfigView) (ops : List TableOp) (
   pub rows : charging_records_of config number ops ≡ charging_records_after trace.start trace.events
 
 abbrev pub CallOutputsAreOfTheTrace : Type 0
-CallOutputsAreOfTheTrace = (config : CallConfigView) (ops : List TableOp) (number : ℕ) (trace : CallTraceWithTransfers) → HasNumbers config ops → trace_of config number ops ≡ Some trace →
+CallOutputsAreOfTheTrace = (config : CallConfigView) (ops : List TableOp) (number : ℕ) (trace : CallTraceWithTransfers) →
+    HasNumbers config ops → trace_of config number ops ≡ Some trace →
     OutputsAreOfTheTrace config ops number trace
 
 -- an operation that belongs to no call has no output
@@ -143,5 +147,6 @@ pub record CallIsExact (config : CallConfigView) (ops : List TableOp) (number : 
   pub ended : (cause : Cause) → (call_after trace.start trace.events).phase ≡ Over cause → is_some (answer_moment (endings_after trace.start trace.events)) ≡ true → cause ≡ Ended
 
 abbrev pub CallsOfTablesAreExact : Type 0
-CallsOfTablesAreExact = (config : CallConfigView) (ops : List TableOp) (number : ℕ) (trace : CallTraceWithTransfers) → HasNumbers config ops → trace_of config number ops ≡ Some trace →
+CallsOfTablesAreExact = (config : CallConfigView) (ops : List TableOp) (number : ℕ) (trace : CallTraceWithTransfers) →
+    HasNumbers config ops → trace_of config number ops ≡ Some trace →
     CallIsExact config ops number trace

@@ -202,7 +202,8 @@ emits_of config number (op ∷ earlier) =
 unfoldable pub charging_records_of : CallConfigView → (number : ℕ) → List TableOp → List Row
 charging_records_of config number [] = []
 charging_records_of config number (op ∷ earlier) =
-    charging_records_of config number earlier ++ (if is_number number (call_of config op (table_after config earlier)) then op_charging_records config op (table_after config earlier) else [])
+    charging_records_of config number earlier
+    ++ (if is_number number (call_of config op (table_after config earlier)) then op_charging_records config op (table_after config earlier) else [])
 
 -- ---- numbers
 

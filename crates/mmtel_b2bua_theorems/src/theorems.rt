@@ -1,7 +1,9 @@
 //! The result of each call of a table. These are theorems, without code.
 ghost use Rattle.mmtel_b2bua_theorems.specs.NoInjection.{CallsSendNoInjection, OperationsSendNoInjection, ReleasedLegsHaveNoInjection};
-ghost use Rattle.mmtel_b2bua_theorems.specs.Theorems.{CallOutputsAreOfTheTrace, CallsOfTablesAreExact, CallsTakeTheirSteps, TraceDiversionsAreCounted, TracesAreCharged, TracesExpireAsObserved, TracesKeepTheirSession};
-ghost use Rattle.mmtel_b2bua_theorems.specs.Theorems.{ChargingRecordsAreInOrder, ChargingRecordsAreOfCalls, OtherOperationsOutputNothing, TraceAttemptsAreObserved, TraceEndingsAreObserved, TracesReachTheirOutcome, TracesShowTheirOutcome, TracesShowThroughout};
+ghost use Rattle.mmtel_b2bua_theorems.specs.Theorems.{CallOutputsAreOfTheTrace, CallsOfTablesAreExact, CallsTakeTheirSteps};
+ghost use Rattle.mmtel_b2bua_theorems.specs.Theorems.{TraceDiversionsAreCounted, TracesAreCharged, TracesExpireAsObserved, TracesKeepTheirSession};
+ghost use Rattle.mmtel_b2bua_theorems.specs.Theorems.{ChargingRecordsAreInOrder, ChargingRecordsAreOfCalls, OtherOperationsOutputNothing, TraceAttemptsAreObserved};
+ghost use Rattle.mmtel_b2bua_theorems.specs.Theorems.{TraceEndingsAreObserved, TracesReachTheirOutcome, TracesShowTheirOutcome, TracesShowThroughout};
 ghost use Rattle.mmtel_b2bua_theorems.specs.Legs.{LegsGoBack};
 ghost use Rattle.mmtel_b2bua_theorems.specs.Replies.{CallsReplyInTheirOwn, TracesReplyInTheirOwn};
 

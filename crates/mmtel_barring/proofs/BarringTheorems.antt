@@ -19,11 +19,13 @@ refusal_unless rejected found = cond rejected (Some Refusals.Anonymous) (option_
 -- ---- truth values: what bars one caller bars another where the rules bar both
 
 module _ (asks asks2 : Who → Bool) (k : FactsView) where
-  pub outgoing_same : (part : Option BarPart) → barred_by (with_identity_matches k asks) (rules_of part) ≡ barred_by (with_identity_matches k asks2) (rules_of part) → outgoing_bar (with_identity_matches k asks) part ≡ outgoing_bar (with_identity_matches k asks2) part
+  pub outgoing_same : (part : Option BarPart) → barred_by (with_identity_matches k asks) (rules_of part) ≡ barred_by (with_identity_matches k asks2) (rules_of part) →
+      outgoing_bar (with_identity_matches k asks) part ≡ outgoing_bar (with_identity_matches k asks2) part
   outgoing_same None e = refl
   outgoing_same (Some part) e = ap (λ (found : Option ℕ). option_map (λ place. let bar : Barred = record { rule = place } in bar) found) e
 
-  pub incoming_same : (part : Option BarPart) → barred_by (with_identity_matches k asks) (rules_of part) ≡ barred_by (with_identity_matches k asks2) (rules_of part) → incoming_refusal (with_identity_matches k asks) part ≡ incoming_refusal (with_identity_matches k asks2) part
+  pub incoming_same : (part : Option BarPart) → barred_by (with_identity_matches k asks) (rules_of part) ≡ barred_by (with_identity_matches k asks2) (rules_of part) →
+      incoming_refusal (with_identity_matches k asks) part ≡ incoming_refusal (with_identity_matches k asks2) part
   incoming_same None e = refl
   incoming_same (Some part) e = ap (refusal_unless (is_anonymous_refused k part)) e
 
@@ -88,9 +90,11 @@ module _ (k : FactsView) where
   pub in_through : (rules : List Rule) → barred_by k rules ≡ None → incoming_refusal k (Some (record { rules = rules; reject_anonymous = false })) ≡ None
   in_through rules e = ap (refusal_unless false) e
 
-  pub out_in_any_order : (rules other : List Rule) (reject : Bool) → is_some (barred_by k rules) ≡ is_some (barred_by k other) → is_some (outgoing_bar k (Some (record { rules = rules; reject_anonymous = reject }))) ≡ is_some (outgoing_bar k (Some (record { rules = other; reject_anonymous = reject })))
+  pub out_in_any_order : (rules other : List Rule) (reject : Bool) → is_some (barred_by k rules) ≡ is_some (barred_by k other) →
+      is_some (outgoing_bar k (Some (record { rules = rules; reject_anonymous = reject }))) ≡ is_some (outgoing_bar k (Some (record { rules = other; reject_anonymous = reject })))
   out_in_any_order rules other reject same = is_some-bar (barred_by k rules) ∙ same ∙ sym (is_some-bar (barred_by k other))
 
-  pub in_any_order : (rules other : List Rule) (reject : Bool) → is_some (barred_by k rules) ≡ is_some (barred_by k other) → is_some (incoming_refusal k (Some (record { rules = rules; reject_anonymous = reject }))) ≡ is_some (incoming_refusal k (Some (record { rules = other; reject_anonymous = reject })))
+  pub in_any_order : (rules other : List Rule) (reject : Bool) → is_some (barred_by k rules) ≡ is_some (barred_by k other) →
+      is_some (incoming_refusal k (Some (record { rules = rules; reject_anonymous = reject }))) ≡ is_some (incoming_refusal k (Some (record { rules = other; reject_anonymous = reject })))
   in_any_order rules other reject same =
       is_some-refusal (reject && (k.restricted && k.has_identity)) (barred_by k rules) (barred_by k other) same

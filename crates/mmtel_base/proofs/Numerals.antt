@@ -51,7 +51,8 @@ spelled limit s n small e =
     let is = number_takes limit s n plain.1 in
     let worth : digits_value 10 s ≡ n = is.0.value in
     let fits : digits_value 10 s < 2 ^ 64 = omega (arith, worth, is.1) in
-    let text : decimal (digits_value 10 s) ≡ s = decimal-digits_value (numerals_by_value (λ ds. all_ascii_digits ds ≡ true) tells_all_ascii_digits) s (ascii_digits s is.0.digits.each) is.0.digits.filled (zero_alone s is.0.digits.filled plain.0) fits in
+    let text : decimal (digits_value 10 s) ≡ s =
+    decimal-digits_value (numerals_by_value (λ ds. all_ascii_digits ds ≡ true) tells_all_ascii_digits) s (ascii_digits s is.0.digits.each) is.0.digits.filled (zero_alone s is.0.digits.filled plain.0) fits in
     sym text ∙ ap decimal worth
 
 leads_other : (s : List ℕ) → 48 < get_or s 0 0 → has_leading_zero s ≡ false

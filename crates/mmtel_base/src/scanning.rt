@@ -3,7 +3,8 @@ ghost use Rattle.std.specs.Prelude.{position, ◌==◌, true, false, List, ℕ, 
 ghost use Rattle.std.specs.List.{prefix_len};
 ghost use Rattle.std.specs.Option.{option_copied, option_map};
 ghost use Rattle.mmtel_base.specs.Classes.{in_class, IsAll};
-ghost use Rattle.mmtel_base.specs.Scanning.{leading_run, after_run, after_byte, after_text, split_once_at, is_quoted_content, closing_quote_from, IsClosedAt, without_trailing, without_outer};
+ghost use Rattle.mmtel_base.specs.Scanning.{leading_run, after_run, after_byte, after_text, split_once_at, is_quoted_content};
+ghost use Rattle.mmtel_base.specs.Scanning.{closing_quote_from, IsClosedAt, without_trailing, without_outer};
 
 use crate::classes::Class;
 

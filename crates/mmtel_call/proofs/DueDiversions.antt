@@ -71,8 +71,10 @@ divert-made left later config now caller service due c output some passed =
     ∙ ap (λ refusal. diversion_unless_refused refusal (step_by later config now caller service due) config now.at caller c output) (ap (λ n. diversion_refusal n config now.at service due c) (sym some) ∙ passed)
 
 -- the call, as it is after the diversion was made, reaches its target
-pub divert-step : (left : ℕ) (config : CallConfigView) (now : SnapshotView) (caller : Leg) (service : Option Service) (due : DueDiversionView) (c : Call) (output : StepOutput) (target : Target) (c2 : Call) (output2 : StepOutput) →
-    diversion_refusal left config now.at service due c ≡ None → target ≡ diversion_target config due → c2 ≡ call_after_diversion target now.at (left - 1) service due c → output2 ≡ with_notification_of config due c2 output →
+pub divert-step : (left : ℕ) (config : CallConfigView) (now : SnapshotView) (caller : Leg) (service : Option Service) (due : DueDiversionView) (c : Call) (output : StepOutput) (target : Target)
+    (c2 : Call) (output2 : StepOutput) →
+    diversion_refusal left config now.at service due c ≡ None → target ≡ diversion_target config due → c2 ≡ call_after_diversion target now.at (left - 1) service due c →
+    output2 ≡ with_notification_of config due c2 output →
     at_target (divert c2.diversions.remaining config now caller) config now caller (Some due.cause) target c2 output2 ≡ divert left config now caller service due c output
 divert-step left config now caller service due c output target c2 output2 passed its_target its_call its_output =
     ap (λ (y : StepOutput). at_target (divert c2.diversions.remaining config now caller) config now caller (Some due.cause) target c2 y) its_output

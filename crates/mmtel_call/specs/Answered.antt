@@ -60,7 +60,9 @@ call_with_kept_ack branch text c = record c { answered_invites = map (with_kept_
 -- ACK to the other side, with its body; the call is stable afterwards
 abbrev pub after_ack_across : CallConfigView → EstablishedLegs → Side → Success → MessageView → Call → StepOutput → StepResult
 after_ack_across config x side success m c output = record {
-  call = call_with_kept_ack success.branch (relayed_ack_text config.sip (leg_of (other_side side) x).dialogue (token output) (copied_across config c x side m) m.parsed) (at_stage x Stable c);
+  call = call_with_kept_ack success.branch
+      (relayed_ack_text config.sip (leg_of (other_side side) x).dialogue (token output) (copied_across config c x side m) m.parsed)
+      (at_stage x Stable c);
   output = with_relayed_ack config.sip (leg_of (other_side side) x).dialogue (copied_across config c x side m) m.parsed output;
 }
 
@@ -92,4 +94,5 @@ after_bye_before_ack config at x waiting success side c output =
 
 -- from a side of a stable call: 200, and the BYE is relayed to the other side
 abbrev pub after_bye_across : CallConfigView → (at : ℕ) → EstablishedLegs → Side → MessageView → Call → StepOutput → StepResult
-after_bye_across config at x side m c output = established_call_end at x c (with_relayed_request config.sip (codes "BYE") (leg_of (other_side side) x).dialogue (copied_across config c x side m) m.parsed output)
+after_bye_across config at x side m c output = established_call_end at x c
+    (with_relayed_request config.sip (codes "BYE") (leg_of (other_side side) x).dialogue (copied_across config c x side m) m.parsed output)

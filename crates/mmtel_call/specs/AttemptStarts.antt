@@ -54,6 +54,10 @@ attempt_of service destination c output = record {
 -- the call is offered, as a waiting call or not
 abbrev pub attempt_start : CallConfigView → (at : ℕ) → Leg → Option Service → (waiting : Bool) → Destination → Call → StepOutput → StepResult
 attempt_start config at caller service waiting destination c output = record {
-  call = record c { attempts = next_attempt c; acks = Acks.next_attempt c.acks; phase = Offered (record { caller = caller; callee = callee_of at service destination c output; attempt = attempt_of service destination c output }) };
+  call = record c {
+    attempts = next_attempt c;
+    acks = Acks.next_attempt c.acks;
+    phase = Offered (record { caller = caller; callee = callee_of at service destination c output; attempt = attempt_of service destination c output });
+  };
   output = with_attempt config at service waiting destination c output;
 }

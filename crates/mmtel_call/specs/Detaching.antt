@@ -96,7 +96,8 @@ target_meter_of (released.Callee leg) meter = leg.meter
 
 -- requests in flight first get their final responses (RFC 3262 §3, RFC 3311 §5.2); then BYE to the remaining leg, and the CDRs
 abbrev pub finish_of_detached : CallConfigView → (at : ℕ) → DetachedLeg → Call → StepOutput → StepResult
-finish_of_detached config at detached c output = call_end at Ended (caller_meter_of detached.remaining detached.meter) (target_meter_of detached.remaining detached.meter) c (with_bye config.sip (released_leg detached.remaining).dialogue output)
+finish_of_detached config at detached c output = call_end at Ended (caller_meter_of detached.remaining detached.meter)
+    (target_meter_of detached.remaining detached.meter) c (with_bye config.sip (released_leg detached.remaining).dialogue output)
 
 abbrev pub is_detached : Phase → Bool
 is_detached (Offered x) = false

@@ -15,7 +15,8 @@ use Rattle.mmtel_types.specs.Causes.{status_of}
 use Rattle.mmtel_types.specs.declared.causes.Cause.{Cause}
 use Rattle.mmtel_types.specs.declared.causes.Cause.TheVariants as causes
 use Rattle.mmtel_types.specs.declared.numbers.Peer.{Peer}
-use Rattle.mmtel_call_services.specs.Decisions.{decision_after, decision_at, destination_of, diversion_target, is_status, peer_for, refusal_of_diversion, relayed_status, service_at}
+use Rattle.mmtel_call_services.specs.Decisions.{decision_after, decision_at, destination_of, diversion_target}
+use Rattle.mmtel_call_services.specs.Decisions.{is_status, peer_for, refusal_of_diversion, relayed_status, service_at}
 use Rattle.mmtel_call_services.specs.Diversions.{after_diversion}
 use Rattle.mmtel_call_services.specs.CallConfig.{CallConfigView}
 use Rattle.mmtel_call.specs.Calls.{Call, DiversionsView, OfferedAttempt, Service}
@@ -70,25 +71,30 @@ abbrev pub with_unoffered_meter : (at : ℕ) → Option Service → Call → Cal
 with_unoffered_meter at service c = with_past (meter_for Terminating c at service) c
 
 -- by what was decided; `divert` is what a diversion leads to
-abbrev pub on_next_step : (divert : Option Service → DueDiversionView → Call → StepOutput → StepResult) → CallConfigView → (at : ℕ) → Leg → Option Service → (cause : Option ℕ) → Target → NextStepView →
+abbrev pub on_next_step : (divert : Option Service → DueDiversionView → Call → StepOutput → StepResult) → CallConfigView → (at : ℕ) → Leg →
+    Option Service → (cause : Option ℕ) → Target → NextStepView →
     Call → StepOutput → StepResult
-on_next_step divert config at caller service cause target (StepOffer peer waiting) c output = attempt_start config at caller service waiting (destination_of c.opening peer cause target) c output
+on_next_step divert config at caller service cause target (StepOffer peer waiting) c output =
+    attempt_start config at caller service waiting (destination_of c.opening peer cause target) c output
 on_next_step divert config at caller service cause target (StepDivert due) c output = divert service due (with_unoffered_meter at service c) output
 on_next_step divert config at caller service cause target (StepRefuse why) c output = call_refusal config at caller why (with_unoffered_meter at service c) output
 
 -- where this account is served there, and this peer is the next hop
-abbrev pub at_served_target : (divert : Option Service → DueDiversionView → Call → StepOutput → StepResult) → CallConfigView → SnapshotView → Leg → Option Service → Option Peer → (cause : Option ℕ) →
+abbrev pub at_served_target : (divert : Option Service → DueDiversionView → Call → StepOutput → StepResult) → CallConfigView →
+    SnapshotView → Leg → Option Service → Option Peer → (cause : Option ℕ) →
     Target → Call → StepOutput → StepResult
 at_served_target divert config now caller service peer cause target c output =
     on_next_step divert config now.at caller service cause target (decision_at config now c.opening (is_diverted c) cause target service peer) c output
 
-abbrev pub at_target : (divert : Option Service → DueDiversionView → Call → StepOutput → StepResult) → CallConfigView → SnapshotView → Leg → (cause : Option ℕ) → Target → Call → StepOutput → StepResult
+abbrev pub at_target : (divert : Option Service → DueDiversionView → Call → StepOutput → StepResult) → CallConfigView → SnapshotView → Leg →
+    (cause : Option ℕ) → Target → Call → StepOutput → StepResult
 at_target divert config now caller cause target c output =
     at_served_target divert config now caller (service_at config now c.opening cause target) (peer_for config c.opening target) cause target c output
 
 -- a diversion is made, after which this many are left, and the caller is notified of it; `onward` is what is done at the new target
 abbrev pub diversion_step : (onward : Call → StepOutput → StepResult) → CallConfigView → Target → (at left : ℕ) → Option Service → DueDiversionView → Call → StepOutput → StepResult
-diversion_step onward config target at left service due c output = onward (call_after_diversion target at left service due c) (with_notification_of config due (call_after_diversion target at left service due c) output)
+diversion_step onward config target at left service due c output = onward (call_after_diversion target at left service due c)
+    (with_notification_of config due (call_after_diversion target at left service due c) output)
 
 -- a diversion that is due, where the configured bound leaves this many: it is made, unless a cause refuses it, and the call reaches the next target; where none is left, the bound
 -- refuses it
@@ -97,7 +103,8 @@ divert zero config now caller service due c output =
     diversion_unless_refused (diversion_refusal 0 config now.at service due c) (call_refusal config now.at caller (too_many due.cause)) config now.at caller c output
 divert (suc left) config now caller service due c output =
     diversion_unless_refused (diversion_refusal (suc left) config now.at service due c)
-    (diversion_step (at_target (divert left config now caller) config now caller (Some due.cause) (diversion_target config due)) config (diversion_target config due) now.at left service due)
+    (diversion_step (at_target (divert left config now caller) config now caller (Some due.cause) (diversion_target config due)) config
+    (diversion_target config due) now.at left service due)
     config now.at caller c output
 
 -- the call reaches a target

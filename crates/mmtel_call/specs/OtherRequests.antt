@@ -60,7 +60,8 @@ answered_after t (Some l) = Some (record t { invite = l.invite })
 
 -- what remains of it is placed last in the list
 abbrev pub with_answered_rest : (at : ℕ) → AnsweredInvite → AfterResponse → Call → StepResult
-with_answered_rest at t rest c = record { call = record c { answered_invites = without_at at c.answered_invites ++ option_to_list (answered_after t rest.remaining) }; output = rest.output }
+with_answered_rest at t rest c =
+    record { call = record c { answered_invites = without_at at c.answered_invites ++ option_to_list (answered_after t rest.remaining) }; output = rest.output }
 
 abbrev pub on_forked_response : CallConfigView → TKey → MessageView → (at : ℕ) → AnsweredInvite → Call → StepOutput → StepResult
 on_forked_response config key m at t c output = with_answered_rest at t (on_response config.sip key m.parsed (as_abandoned t) output) c

@@ -28,7 +28,8 @@ use Rattle.mmtel_call.specs.Sending.{with_status_to}
 -- 100 to the side that sent it; the INVITE to the other one, with the call's History-Info
 abbrev pub after_invite_across : CallConfigView → EstablishedLegs → Side → TKey → MessageView → Call → StepOutput → StepResult
 after_invite_across config x side key m c output = record {
-  call = at_stage (with_leg (other_side side) (leg_after_invite (leg_of (other_side side) x)) x) (Reinviting side (reinvite_of key m (leg_after_invite (leg_of (other_side side) x)) output)) c;
+  call = at_stage (with_leg (other_side side) (leg_after_invite (leg_of (other_side side) x)) x)
+      (Reinviting side (reinvite_of key m (leg_after_invite (leg_of (other_side side) x)) output)) c;
   output = with_relayed_request config.sip (codes "INVITE") (leg_of (other_side side) x).dialogue (copied_across config c x side m) m.parsed output;
 }
 
@@ -39,11 +40,13 @@ on_reinvite config x side key m c output = after_invite_across config x side key
 
 -- a response is relayed to the side that sent the INVITE
 abbrev pub with_relayed_back : CallConfigView → EstablishedLegs → Side → Reinvite → MessageView → Call → StepOutput → StepOutput
-with_relayed_back config x side q m c output = with_relayed_response config.sip q.key q.request c.opening.tag (copied_lines config c.opening c.diversions x.service (other_side side) q.request.peer m) m output
+with_relayed_back config x side q m c output = with_relayed_response config.sip q.key q.request c.opening.tag
+    (copied_lines config c.opening c.diversions x.service (other_side side) q.request.peer m) m output
 
 -- 1xx: nothing, except for a CANCEL that waits for it
 abbrev pub reinvite_after_provisional : TKey → Reinvite → Reinvite
-reinvite_after_provisional key q = record q { cancel_due = false; invite = if q.cancel_due then invite_after_cancel (with_provisional key q.invite) else with_provisional key q.invite }
+reinvite_after_provisional key q =
+    record q { cancel_due = false; invite = if q.cancel_due then invite_after_cancel (with_provisional key q.invite) else with_provisional key q.invite }
 
 abbrev pub with_cancel_if_due : CallConfigView → TKey → Reinvite → StepOutput → StepOutput
 with_cancel_if_due config key q output = if q.cancel_due then with_due_cancel config.sip (with_provisional key q.invite) output else output
@@ -104,4 +107,5 @@ abandoned_across x asking leaving q = record { invite = record q.invite { forks 
 -- 487 to the INVITE that is pending; BYE to the side that did not leave
 abbrev pub on_bye_reinviting : CallConfigView → (at : ℕ) → EstablishedLegs → (asking : Side) → Reinvite → (leaving : Side) → Call → StepOutput → StepResult
 on_bye_reinviting config at x asking q leaving c output =
-    established_call_end at x (with_abandoned (abandoned_across x asking leaving q) c) (with_bye_to config x (other_side leaving) (with_status_to config c q.key q.request 487 output))
+    established_call_end at x (with_abandoned (abandoned_across x asking leaving q) c)
+    (with_bye_to config x (other_side leaving) (with_status_to config c q.key q.request 487 output))

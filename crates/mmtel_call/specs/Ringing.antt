@@ -87,7 +87,8 @@ with_no_reply_timer_in None at attempt c output = output
 with_no_reply_timer_in (Some time) at attempt c output = with_emit (emit.Arm c.opening.number (due.NoReply attempt.number) (at + time)) output
 
 abbrev pub with_no_reply_timer : ℕ → (at : ℕ) → Attempt → Call → StepOutput → StepOutput
-with_no_reply_timer code at attempt c output = if rings code && not attempt.rang then with_no_reply_timer_in (no_reply_time_of (service_sheet attempt.service)) at attempt c output else output
+with_no_reply_timer code at attempt c output = if rings code && not attempt.rang
+    then with_no_reply_timer_in (no_reply_time_of (service_sheet attempt.service)) at attempt c output else output
 
 abbrev pub attempt_after_provisional : OfferedAttempt → TKey → MessageView → ℕ → OfferedAttempt
 attempt_after_provisional x key m code =
@@ -127,7 +128,11 @@ success_of c m i = record { number = next_success c; cseq = number_of m; branch 
 
 -- its dialog is confirmed (§13.2.2.4)
 abbrev pub established_legs_of : OfferedAttempt → MessageView → EstablishedLegs
-established_legs_of x m = record { caller = x.caller; callee = with_dialogue x.callee.leg (with_remote x.callee.leg.dialogue (remote_of Callee m.parsed.lines)); service = x.attempt.service }
+established_legs_of x m = record {
+  caller = x.caller;
+  callee = with_dialogue x.callee.leg (with_remote x.callee.leg.dialogue (remote_of Callee m.parsed.lines));
+  service = x.attempt.service;
+}
 
 -- it is relayed to the caller, whose ACK is due
 abbrev pub on_answer : CallConfigView → (at : ℕ) → OfferedAttempt → TKey → MessageView → Call → StepOutput → StepResult
@@ -167,7 +172,8 @@ on_attempt_timeout config now x how c output = after_attempt config now x how No
 
 -- the final response for this cause to the caller, and CANCEL to the target
 abbrev pub end_before_answer : Cause → CallConfigView → (at : ℕ) → OfferedAttempt → Call → StepOutput → StepResult
-end_before_answer cause config at x c output = offered_call_end at cause x (call_without_attempt x c) (with_attempt_cancel config x (with_status_to_caller config c (status_of cause) output))
+end_before_answer cause config at x c output = offered_call_end at cause x (call_without_attempt x c)
+    (with_attempt_cancel config x (with_status_to_caller config c (status_of cause) output))
 
 -- only a deadline of this attempt, or of a reliable response that waits for its PRACK, has an effect
 abbrev pub on_due : CallConfigView → SnapshotView → OfferedAttempt → DueWord → Call → StepOutput → StepResult
@@ -201,7 +207,8 @@ on_other config x side key m c output =
 
 -- a BYE of the caller has the effect of its CANCEL; one of the target, which has no dialog to end, is refused
 abbrev pub on_valid_request : CallConfigView → (at : ℕ) → OfferedAttempt → Side → TKey → MessageView → Call → StepOutput → StepResult
-on_valid_request config at x Caller key m c output = if is_bye m then on_caller_cancel config at x c (with_status_to config c key m 200 output) else on_other config x Caller key m c output
+on_valid_request config at x Caller key m c output =
+    if is_bye m then on_caller_cancel config at x c (with_status_to config c key m 200 output) else on_other config x Caller key m c output
 on_valid_request config at x Callee key m c output = on_other config x Callee key m c output
 
 -- ---- requests
@@ -211,7 +218,8 @@ attempt_after_request Caller m x = record x { caller = leg_after_receiving x.cal
 attempt_after_request Callee m x = record x { callee = record x.callee { leg = leg_after_receiving x.callee.leg m } }
 
 abbrev pub on_request_if : Result (Unit {0}) DialogueFault → CallConfigView → (at : ℕ) → OfferedAttempt → Side → TKey → MessageView → Call → StepOutput → StepResult
-on_request_if (Ok received) config at x side key m c output = on_valid_request config at (attempt_after_request side m x) side key m (record c { phase = Offered (attempt_after_request side m x) }) output
+on_request_if (Ok received) config at x side key m c output = on_valid_request config at (attempt_after_request side m x) side key m
+    (record c { phase = Offered (attempt_after_request side m x) }) output
 on_request_if (Err fault) config at x side key m c output = step_result c (with_refused_request config c key m fault output)
 
 -- an INVITE of the caller is received before the one that opened the call has its final response, one of the target while the server's own is in flight

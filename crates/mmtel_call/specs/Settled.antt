@@ -19,7 +19,8 @@ is_settled c = is_over_in c.phase && (length c.abandoned == 0 && length c.answer
 
 -- a request of it to which a response may still be received has this branch: the INVITE for which it waits, an abandoned INVITE, one that had a 2xx, or a request that is in flight
 unfoldable pub has_sent : (branch : List ℕ) → Call → Bool
-has_sent branch c = is_current branch c || (is_some (position (is_of_branch branch) c.abandoned) || (is_some (position (is_answered_invite branch) c.answered_invites) || is_some (position (is_in_flight branch) c.relayed)))
+has_sent branch c = is_current branch c || (is_some (position (is_of_branch branch) c.abandoned)
+    || (is_some (position (is_answered_invite branch) c.answered_invites) || is_some (position (is_in_flight branch) c.relayed)))
 
 -- whether this is the client transaction of an abandoned INVITE of it, or of one that had a 2xx, as far as that is known from a response
 unfoldable pub has_received : TKey → Call → Bool

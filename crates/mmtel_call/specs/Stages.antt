@@ -10,7 +10,8 @@ use Rattle.mmtel_transaction.specs.declared.words.TKey.{TKey}
 use Rattle.mmtel_types.specs.declared.sides.Side.{Side}
 use Rattle.mmtel_call_services.specs.Requests.{is_same_side}
 use Rattle.mmtel_call_services.specs.CallConfig.{CallConfigView}
-use Rattle.mmtel_call.specs.Answered.{acknowledges, after_ack_across, after_ack_timeout, after_bye_across, after_bye_before_ack, after_departure, at_stage, is_due, leg_of, with_leg}
+use Rattle.mmtel_call.specs.Answered.{acknowledges, after_ack_across, after_ack_timeout, after_bye_across}
+use Rattle.mmtel_call.specs.Answered.{after_bye_before_ack, after_departure, at_stage, is_due, leg_of, with_leg}
 use Rattle.mmtel_call.specs.Calls.{Answered, Call, Departing, EstablishedLegs, Reinviting, Stable, Stage}
 use Rattle.mmtel_call.specs.Closing.{StepResult, established_call_end, step_result}
 use Rattle.mmtel_call.specs.Expiring.{after_expiry, after_expiry_reinviting, is_expiry}
@@ -68,7 +69,8 @@ on_valid_request_at stage config at x side key m c output =
 
 abbrev pub on_request_at_if : Result (Unit {0}) DialogueFault → Stage → CallConfigView → (at : ℕ) → EstablishedLegs → Side → TKey → MessageView → Call → StepOutput → StepResult
 on_request_at_if (Ok received) stage config at x side key m c output =
-    on_valid_request_at stage config at (with_leg side (leg_after_receiving (leg_of side x) m) x) side key m (at_stage (with_leg side (leg_after_receiving (leg_of side x) m) x) stage c) output
+    on_valid_request_at stage config at (with_leg side (leg_after_receiving (leg_of side x) m) x) side key m
+    (at_stage (with_leg side (leg_after_receiving (leg_of side x) m) x) stage c) output
 on_request_at_if (Err fault) stage config at x side key m c output = step_result c (with_refused_request config c key m fault output)
 
 abbrev pub on_request_at : Stage → CallConfigView → (at : ℕ) → EstablishedLegs → Side → TKey → MessageView → Call → StepOutput → StepResult

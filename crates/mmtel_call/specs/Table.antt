@@ -85,7 +85,8 @@ due_in (Over cause) config now what c output = step_result c output
 -- a response: to the INVITE for which the call waits, or to another request
 abbrev pub on_response_to : Option (List ℕ) → CallConfigView → SnapshotView → TKey → MessageView → Call → StepOutput → StepResult
 on_response_to None config now key m c output = step_result c output
-on_response_to (Some branch) config now key m c output = if is_current branch c then response_in c.phase config now key m c output else on_other_response config now.at key m branch c output
+on_response_to (Some branch) config now key m c output =
+    if is_current branch c then response_in c.phase config now key m c output else on_other_response config now.at key m branch c output
 
 abbrev pub on_timeout_of : Option (List ℕ) → CallConfigView → SnapshotView → Call → StepOutput → StepResult
 on_timeout_of None config now c output = step_result c output

@@ -53,7 +53,8 @@ attempt_after_update Caller x = attempt_after_early_request (codes "UPDATE") x
 attempt_after_update Callee x = record x { caller = leg_after_request (codes "UPDATE") x.caller }
 
 abbrev pub on_early_update : CallConfigView → OfferedAttempt → Side → TKey → MessageView → Call → StepOutput → StepResult
-on_early_update config x side key m c output = after_update_relay config x.attempt.service side (other_leg side x) key m (record c { phase = Offered (attempt_after_update side x) }) output
+on_early_update config x side key m c output = after_update_relay config x.attempt.service side (other_leg side x) key m
+    (record c { phase = Offered (attempt_after_update side x) }) output
 
 -- of a stable one
 abbrev pub on_stable_update : CallConfigView → EstablishedLegs → Side → TKey → MessageView → Call → StepOutput → StepResult

@@ -5,7 +5,8 @@ ghost use Rattle.mmtel_output.specs.Sending.{relayed_ack_text, with_ack, with_re
 ghost use Rattle.mmtel_types.specs.Sides.{other_side};
 ghost use Rattle.mmtel_types.specs.declared.causes.Cause.TheVariants.{Ended as HasEnded};
 ghost use Rattle.mmtel_call_services.specs.Requests.{is_same_side};
-ghost use Rattle.mmtel_call.specs.Answered.{acknowledges, after_ack_across, after_bye_across, after_bye_before_ack, after_departure, call_with_kept_ack, is_due, leg_of, with_ack_and_bye, with_bye_to};
+ghost use Rattle.mmtel_call.specs.Answered.{acknowledges, after_ack_across, after_bye_across, after_bye_before_ack};
+ghost use Rattle.mmtel_call.specs.Answered.{after_departure, call_with_kept_ack, is_due, leg_of, with_ack_and_bye, with_bye_to};
 ghost use Rattle.mmtel_call.specs.Answered.{after_ack_timeout, copied_across, with_kept_ack};
 ghost use Rattle.mmtel_call.specs.Calls.{Over};
 ghost use Rattle.mmtel_call.specs.Closing.{established_call_end};

@@ -9,7 +9,9 @@ ghost use Rattle.mmtel_types.specs.declared.causes.Cause.TheVariants.{Ended as H
 ghost use Rattle.mmtel_types.specs.declared.sides.Side.TheVariants.{Callee as TheCallee, Caller};
 ghost use Rattle.mmtel_leg.specs.Remotes.{remote_of};
 ghost use Rattle.mmtel_call.specs.Calls.{Answered, Established, Offered, Over};
-ghost use Rattle.mmtel_call.specs.Ringing.{abandoned_invite, attempt_after_provisional, attempt_after_ringing, attempt_with_early, attempt_with_provisional, early_remote_of, leg_with_remote, next_success, on_answer, on_plain_provisional, on_provisional, on_provisional_by, success_of, to_tag_of, with_ack_timer, with_expiry_timer, with_no_reply_timer};
+ghost use Rattle.mmtel_call.specs.Ringing.{abandoned_invite, attempt_after_provisional, attempt_after_ringing, attempt_with_early, attempt_with_provisional};
+ghost use Rattle.mmtel_call.specs.Ringing.{early_remote_of, leg_with_remote, next_success, on_answer, on_plain_provisional, on_provisional};
+ghost use Rattle.mmtel_call.specs.Ringing.{on_provisional_by, success_of, to_tag_of, with_ack_timer, with_expiry_timer, with_no_reply_timer};
 ghost use Rattle.mmtel_call.specs.Reliable.{with_prack_timer, with_reliable_response};
 ghost use Rattle.mmtel_call.specs.Ringing.{with_abandoned};
 

@@ -4,7 +4,8 @@ ghost use Rattle.mmtel_output.specs.Sending.{with_bye};
 ghost use Rattle.mmtel_leg.specs.Releases.{released_leg};
 ghost use Rattle.mmtel_types.specs.declared.causes.Cause.TheVariants.{Ended as HasEnded};
 ghost use Rattle.mmtel_call.specs.Calls.{Established, Over};
-ghost use Rattle.mmtel_call.specs.Detaching.{call_finish, caller_meter_of, detached_at, detached_in, detached_of, finish_of_detached, fits, fits_in, is_detached, legs_with, removed_leg, target_meter_of, with_leg_restored};
+ghost use Rattle.mmtel_call.specs.Detaching.{call_finish, caller_meter_of, detached_at, detached_in, detached_of, finish_of_detached};
+ghost use Rattle.mmtel_call.specs.Detaching.{fits, fits_in, is_detached, legs_with, removed_leg, target_meter_of, with_leg_restored};
 ghost use Rattle.mmtel_call.specs.Detaching.{removed_leg_at, removed_leg_in, with_meter};
 
 use crate::calls::{Call, DetachedLeg, EstablishedLegs, Phase, Stage};

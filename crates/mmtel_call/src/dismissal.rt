@@ -2,7 +2,8 @@
 //! (RFC 3262 §3, RFC 3311 §5.2).
 ghost use Rattle.std.specs.Prelude.{◌≡◌, IfOk};
 ghost use Rattle.std.specs.Option.{option_copied};
-ghost use Rattle.mmtel_call.specs.Dismissal.{ends_by_bye, is_bye_in, is_in_order, leaves_by_bye, leaves_by_bye_at, leaves_on_ack, leaves_on_ack_at, leaves_on_cancel, leaves_on_due, leaves_on_request};
+ghost use Rattle.mmtel_call.specs.Dismissal.{ends_by_bye, is_bye_in, is_in_order, leaves_by_bye, leaves_by_bye_at, leaves_on_ack};
+ghost use Rattle.mmtel_call.specs.Dismissal.{leaves_on_ack_at, leaves_on_cancel, leaves_on_due, leaves_on_request};
 ghost use Rattle.mmtel_call.specs.Dismissal.{leaves_on_status, leaves_on_status_at, leaves_on_timeout, leaves_on_timeout_at, leaves_on_timer};
 ghost use Rattle.mmtel_call.specs.Table.{leaves, leaves_on_response, leaves_on_timeout_of};
 

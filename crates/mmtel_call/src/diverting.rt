@@ -7,7 +7,8 @@ ghost use Rattle.mmtel_types.specs.declared.causes.Cause.TheVariants.{Ended as H
 ghost use Rattle.mmtel_call_services.specs.Decisions.{decision_after, decision_at, diversion_target, peer_for, service_at};
 ghost use Rattle.mmtel_call_services.specs.CallConfig.{snapshot_of};
 ghost use Rattle.mmtel_call.specs.Calls.{Over};
-ghost use Rattle.mmtel_call.specs.Diverting.{at_served_target, at_target, call_after_diversion, call_refusal, diversion_refusal, diversions_after, divert, is_diverted, on_end, relayed_refusal, with_notification_of, with_unoffered_meter};
+ghost use Rattle.mmtel_call.specs.Diverting.{at_served_target, at_target, call_after_diversion, call_refusal, diversion_refusal, diversions_after};
+ghost use Rattle.mmtel_call.specs.Diverting.{divert, is_diverted, on_end, relayed_refusal, with_notification_of, with_unoffered_meter};
 
 use crate::calls::Call;
 use crate::closing::meter_for;

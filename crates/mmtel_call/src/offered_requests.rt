@@ -4,7 +4,8 @@ ghost use Rattle.mmtel_output.specs.Sending.{with_due_cancel};
 ghost use Rattle.mmtel_call.specs.Sending.{with_status_to, with_status_to_caller};
 ghost use Rattle.mmtel_types.specs.declared.causes.Cause.TheVariants.{Ended as HasEnded};
 ghost use Rattle.mmtel_call.specs.Calls.{Offered, Over};
-ghost use Rattle.mmtel_call.specs.Ringing.{attempt_after_request, end_before_answer, offered_request_check, on_caller_cancel, on_cancel, on_other, on_prack_of, on_request, on_valid_request};
+ghost use Rattle.mmtel_call.specs.Ringing.{attempt_after_request, end_before_answer, offered_request_check};
+ghost use Rattle.mmtel_call.specs.Ringing.{on_caller_cancel, on_cancel, on_other, on_prack_of, on_request, on_valid_request};
 ghost use Rattle.mmtel_types.specs.Causes.{status_of};
 
 use crate::calls::{Attempt, Call, OfferedAttempt, Phase};

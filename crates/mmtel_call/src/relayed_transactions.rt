@@ -6,8 +6,10 @@ ghost use Rattle.std.specs.Option.{option_copied};
 ghost use Rattle.mmtel_output.specs.Outputs.{token};
 ghost use Rattle.mmtel_output.specs.Sending.{with_relayed_request};
 ghost use Rattle.mmtel_call.specs.Awaiting.{with_expiry_timer};
-ghost use Rattle.mmtel_call.specs.RelayedTransactions.{dismissal_of, is_in_flight, leg_after_request, on_final_relayed, on_response_in_flight, output_after_dismissal, with_dismissal, with_dismissals, without_in_flight};
-ghost use Rattle.mmtel_call.specs.RelayedTransactions.{call_after_update, invite_sent_in, is_update_of, is_updating, on_timeout_in_flight, service_in, updating_side, with_response_back, with_settled, with_settled_in, with_transaction};
+ghost use Rattle.mmtel_call.specs.RelayedTransactions.{dismissal_of, is_in_flight, leg_after_request, on_final_relayed, on_response_in_flight};
+ghost use Rattle.mmtel_call.specs.RelayedTransactions.{output_after_dismissal, with_dismissal, with_dismissals, without_in_flight};
+ghost use Rattle.mmtel_call.specs.RelayedTransactions.{call_after_update, invite_sent_in, is_update_of, is_updating, on_timeout_in_flight, service_in};
+ghost use Rattle.mmtel_call.specs.RelayedTransactions.{updating_side, with_response_back, with_settled, with_settled_in, with_transaction};
 
 use crate::acceptances::hold_after;
 use crate::calls::{Call, Phase, Reinvite, RelayedKind, RelayedTransaction};

@@ -10,7 +10,8 @@ ghost use Rattle.mmtel_call_services.specs.Reliable.{rack_line, reliable_lines};
 ghost use Rattle.mmtel_call_services.specs.CopiedHeaders.{copied_lines};
 ghost use Rattle.mmtel_call.specs.Calls.{Offered, Over};
 ghost use Rattle.mmtel_call.specs.RelayedTransactions.{invite_sent_in, leg_after_request, with_settled};
-ghost use Rattle.mmtel_call.specs.Reliable.{attempt_after_early_request, is_of_early, named_rseq, on_prack, on_rack, on_refused_prack, own_rseq_for, rack_in, with_prack_timer, with_reliable_response};
+ghost use Rattle.mmtel_call.specs.Reliable.{attempt_after_early_request, is_of_early, named_rseq, on_prack, on_rack};
+ghost use Rattle.mmtel_call.specs.Reliable.{on_refused_prack, own_rseq_for, rack_in, with_prack_timer, with_reliable_response};
 
 use crate::calls::{AttemptLeg, Call, OfferedAttempt, Phase, RelayedKind};
 use crate::context::StepContext;

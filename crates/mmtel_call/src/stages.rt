@@ -2,7 +2,8 @@
 ghost use Rattle.std.specs.Prelude.{◌≡◌, OnErr, OnOk};
 ghost use Rattle.mmtel_types.specs.declared.causes.Cause.TheVariants.{Ended as HasEnded};
 ghost use Rattle.mmtel_call.specs.Calls.{Established, Over};
-ghost use Rattle.mmtel_call.specs.Stages.{after_ack_at, after_bye_at, busy_in, has_departed, is_ack_at, is_due_at, on_ack_at, on_bye, on_cancel_at, on_due_at, on_invite, on_request_at, on_valid_request_at};
+ghost use Rattle.mmtel_call.specs.Stages.{after_ack_at, after_bye_at, busy_in, has_departed, is_ack_at, is_due_at, on_ack_at};
+ghost use Rattle.mmtel_call.specs.Stages.{on_bye, on_cancel_at, on_due_at, on_invite, on_request_at, on_valid_request_at};
 ghost use Rattle.mmtel_call.specs.Stages.{after_timer_at, on_other_at, on_response_at, on_timeout_at};
 ghost use Rattle.mmtel_call.specs.Answered.{leg_of, with_leg};
 ghost use Rattle.mmtel_call.specs.Reinvites.{on_timeout_across};

@@ -8,7 +8,8 @@ ghost use Rattle.mmtel_call_services.specs.CallConfig.{snapshot_of};
 ghost use Rattle.mmtel_call.specs.Calls.{Offered, Over};
 ghost use Rattle.mmtel_call.specs.RelayedTransactions.{output_after_dismissal, without_in_flight};
 ghost use Rattle.mmtel_call.specs.Ringing.{on_response};
-ghost use Rattle.mmtel_call.specs.Table.{ack_in, cancel_in, current_invite, due_in, is_branch, leaves, on_response_to, on_timeout_of, request_in, response_in, step, timeout_in, transition};
+ghost use Rattle.mmtel_call.specs.Table.{ack_in, cancel_in, current_invite, due_in, is_branch, leaves, on_response_to};
+ghost use Rattle.mmtel_call.specs.Table.{on_timeout_of, request_in, response_in, step, timeout_in, transition};
 
 use crate::calls::{Call, OfferedAttempt, Phase, Stage};
 use crate::context::StepContext;

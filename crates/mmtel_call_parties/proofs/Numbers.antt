@@ -35,7 +35,8 @@ differ-mutual s t n = elim (cases_Bool (bytes_eq t s)) [
 ]
 
 -- a sip URI whose user is the number
-own-alike : (home host digits : List ℕ) (params : List Param) → list_all (in_class Digit) digits ≡ true → (str_eq_ignore_ascii_case host home && has_user_phone params) ≡ true → (bytes_eq (43 ∷ digits) (43 ∷ digits) && str_eq_ignore_ascii_case host home) ≡ is_phone (Some (43 ∷ digits)) params (43 ∷ digits)
+own-alike : (home host digits : List ℕ) (params : List Param) → list_all (in_class Digit) digits ≡ true → (str_eq_ignore_ascii_case host home && has_user_phone params) ≡ true →
+    (bytes_eq (43 ∷ digits) (43 ∷ digits) && str_eq_ignore_ascii_case host home) ≡ is_phone (Some (43 ∷ digits)) params (43 ∷ digits)
 own-alike home host digits params each alike =
     let parts = both-true (str_eq_ignore_ascii_case host home) (has_user_phone params) alike in
     let self : bytes_eq (43 ∷ digits) (43 ∷ digits) ≡ true = (bytes_eq-Decides (43 ∷ digits) (43 ∷ digits)).1 refl in
@@ -59,12 +60,15 @@ tel-alike : (digits other : List ℕ) → list_all (in_class Digit) digits ≡ t
     is_phone (Some (43 ∷ digits)) (record { name = codes "user"; value = Some (codes "phone") } ∷ []) other ≡ bytes_eq other (43 ∷ digits)
 tel-alike digits other each = rw each refl
 
-pub identity-equal : (home digits : List ℕ) (params : List Param) (uri : Uri) → list_all (in_class Digit) (without_separators digits) ≡ true → names_number_and_sip_uri home (without_separators (43 ∷ digits)) uri ≡ true → is_same_identity uri (new_target home (Tel (43 ∷ digits) params)) ≡ is_same_identity uri (Tel (43 ∷ digits) params)
+pub identity-equal : (home digits : List ℕ) (params : List Param) (uri : Uri) → list_all (in_class Digit) (without_separators digits) ≡ true →
+    names_number_and_sip_uri home (without_separators (43 ∷ digits)) uri ≡ true → is_same_identity uri (new_target home (Tel (43 ∷ digits) params)) ≡ is_same_identity uri (Tel (43 ∷ digits) params)
 unfolding is_same_identity
 identity-equal home digits params (Sip user host port ps headers) each alike = sip-alike home (without_separators digits) user host ps each alike
 identity-equal home digits params (Tel other ps) each alike = tel-alike (without_separators digits) (without_separators other) each
 
-found-alike : (es : List AccountIdentity) (home digits : List ℕ) (params : List Param) → list_all (in_class Digit) (without_separators digits) ≡ true → list_all (λ e. names_number_and_sip_uri home (without_separators (43 ∷ digits)) e.uri) es ≡ true → find (is_of (new_target home (Tel (43 ∷ digits) params))) es ≡ find (is_of (Tel (43 ∷ digits) params)) es
+found-alike : (es : List AccountIdentity) (home digits : List ℕ) (params : List Param) → list_all (in_class Digit) (without_separators digits) ≡ true →
+    list_all (λ e. names_number_and_sip_uri home (without_separators (43 ∷ digits)) e.uri) es ≡ true →
+    find (is_of (new_target home (Tel (43 ∷ digits) params))) es ≡ find (is_of (Tel (43 ∷ digits) params)) es
 found-alike [] home digits params each all = refl
 found-alike (e ∷ es) home digits params each all =
     let parts = both-true (names_number_and_sip_uri home (without_separators (43 ∷ digits)) e.uri) (list_all (λ (x : AccountIdentity). names_number_and_sip_uri home (without_separators (43 ∷ digits)) x.uri) es) all in
@@ -74,5 +78,7 @@ found-alike (e ∷ es) home digits params each all =
       | inr n ↦ rw n (found-alike es home digits params each parts.1)
     ])
 
-pub account-equal : (es : List AccountIdentity) (home digits : List ℕ) (params : List Param) → list_all (in_class Digit) (without_separators digits) ≡ true → list_all (λ e. names_number_and_sip_uri home (without_separators (43 ∷ digits)) e.uri) es ≡ true → account_of es (new_target home (Tel (43 ∷ digits) params)) ≡ account_of es (Tel (43 ∷ digits) params)
+pub account-equal : (es : List AccountIdentity) (home digits : List ℕ) (params : List Param) → list_all (in_class Digit) (without_separators digits) ≡ true →
+    list_all (λ e. names_number_and_sip_uri home (without_separators (43 ∷ digits)) e.uri) es ≡ true →
+    account_of es (new_target home (Tel (43 ∷ digits) params)) ≡ account_of es (Tel (43 ∷ digits) params)
 account-equal es home digits params each all = ap (λ (e : Option AccountIdentity). option_map (λ (x : AccountIdentity). x.account) e) (found-alike es home digits params each all)

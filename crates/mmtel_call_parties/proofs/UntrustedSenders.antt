@@ -9,7 +9,8 @@ use Rattle.mmtel_message.specs.Message.{Line, Message, is_line, first_value}
 use Rattle.mmtel_message.specs.declared.messages.Start.{Start}
 use Rattle.mmtel_types.specs.declared.numbers.Account.{Account}
 use Rattle.mmtel_trust.specs.Asserted.{asserted}
-use Rattle.mmtel_trust.specs.ParsedMessage.{NoCase, Originating, ParsedMessage, ServedUser, SessionCase, Terminating, account_from, caller_account, case_of, is_terminating, parsed_message, served_account, served_by, served_in, served_origin, user_if}
+use Rattle.mmtel_trust.specs.ParsedMessage.{NoCase, Originating, ParsedMessage, ServedUser, SessionCase, Terminating, account_from, caller_account}
+use Rattle.mmtel_trust.specs.ParsedMessage.{case_of, is_terminating, parsed_message, served_account, served_by, served_in, served_origin, user_if}
 use Rattle.mmtel_trust.specs.PrivateFields.{is_orig, is_session}
 use Rattle.mmtel_trust.specs.MaskedMessages.{DecideTheSame, Restriction, public_part}
 use Rattle.mmtel_trust.specs.HeaderTable.{name_addr_in}
@@ -29,7 +30,8 @@ first_value-append name (l ∷ before) after value e = elim (cases_Bool (is_line
 same_first : (before after : List Line) (value : List ℕ) → first_value (codes "P-Served-User") before ≡ Some value → first_value (codes "P-Served-User") (before ++ after) ≡ first_value (codes "P-Served-User") before
 same_first before after value e = first_value-append (codes "P-Served-User") before after value e ∙ sym e
 
-pub said-first : (before after : List Line) (value : List ℕ) → first_value (codes "P-Served-User") before ≡ Some value → served_by (first_value (codes "P-Served-User") (before ++ after)) ≡ served_by (first_value (codes "P-Served-User") before)
+pub said-first : (before after : List Line) (value : List ℕ) → first_value (codes "P-Served-User") before ≡ Some value →
+    served_by (first_value (codes "P-Served-User") (before ++ after)) ≡ served_by (first_value (codes "P-Served-User") before)
 said-first before after value e = ap (λ (v : Option (List ℕ)). served_by v) (same_first before after value e)
 
 abbrev origin_in : Option (List ℕ) → Option NameAddr
@@ -61,14 +63,17 @@ user-heard false m = refl
 user-heard true m = ap (λ (user : Option NameAddr). served_in user) (read-first (first_value (codes "P-Served-User") m.lines))
 
 -- the parties by the user that was read
-pub parties_named : (accounts : List AccountIdentity) (trusted : Bool) (m : Message Start) → parties_by accounts (account_from accounts (asserted trusted m.lines) (named_origin (named_user trusted m.lines))) m.start (served_in (named_user trusted m.lines)) ≡ parties_of accounts (parsed_message trusted m)
+pub parties_named : (accounts : List AccountIdentity) (trusted : Bool) (m : Message Start) →
+    parties_by accounts (account_from accounts (asserted trusted m.lines) (named_origin (named_user trusted m.lines))) m.start (served_in (named_user trusted m.lines))
+    ≡ parties_of accounts (parsed_message trusted m)
 parties_named accounts trusted m =
     ap (λ (user : Option NameAddr). parties_by accounts (account_from accounts (asserted trusted m.lines) user) m.start (served_in (named_user trusted m.lines))) (origin-heard trusted m.lines)
     ∙ ap (λ (user : ServedUser). parties_by accounts (caller_account accounts (parsed_message trusted m)) m.start user) (user-heard trusted m)
 
 -- ---- the user alone decides
 
-origin-of : (accounts : List AccountIdentity) (ls : List Line) (value : List ℕ) (user : NameAddr) → first_value (codes "P-Served-User") ls ≡ Some value → name_addr_of value ≡ Some user → is_orig user.params ≡ true → served_origin ls ≡ Some user
+origin-of : (accounts : List AccountIdentity) (ls : List Line) (value : List ℕ) (user : NameAddr) → first_value (codes "P-Served-User") ls ≡ Some value → name_addr_of value ≡ Some user →
+    is_orig user.params ≡ true → served_origin ls ≡ Some user
 origin-of accounts ls value user first named orig =
     ap (λ (v : Option (List ℕ)). origin_in v) first
     ∙ ap (λ (n : Option NameAddr). n >>= λ x. if is_orig x.params then Some x else None) named
@@ -80,14 +85,16 @@ orig-by true b e = refl
 orig-by false true e = absurd cc
 orig-by false false e = absurd cc
 
-pub origin-alone : (accounts : List AccountIdentity) (m : Message Start) (value : List ℕ) (user : NameAddr) → first_value (codes "P-Served-User") m.lines ≡ Some value → name_addr_of value ≡ Some user → case_of user.params ≡ Originating → (parties_of accounts (parsed_message true m)).origin ≡ account_in accounts user.uri
+pub origin-alone : (accounts : List AccountIdentity) (m : Message Start) (value : List ℕ) (user : NameAddr) → first_value (codes "P-Served-User") m.lines ≡ Some value →
+    name_addr_of value ≡ Some user → case_of user.params ≡ Originating → (parties_of accounts (parsed_message true m)).origin ≡ account_in accounts user.uri
 origin-alone accounts m value user first named orig =
     ap (λ (n : Option NameAddr). account_from accounts (asserted true m.lines) n) (origin-of accounts m.lines value user first named (orig-by (is_orig user.params) (is_session (codes "term") user.params) orig))
 
 target-in : (user : NameAddr) → case_of user.params ≡ Terminating → (served_in (Some user)).user ≡ Some user.uri
 target-in user term = ap (λ (c : SessionCase). user_if c user.uri) term
 
-pub target-alone : (accounts : List AccountIdentity) (m : Message Start) (value : List ℕ) (user : NameAddr) → first_value (codes "P-Served-User") m.lines ≡ Some value → name_addr_of value ≡ Some user → case_of user.params ≡ Terminating → (parties_of accounts (parsed_message true m)).target ≡ account_in accounts user.uri
+pub target-alone : (accounts : List AccountIdentity) (m : Message Start) (value : List ℕ) (user : NameAddr) → first_value (codes "P-Served-User") m.lines ≡ Some value →
+    name_addr_of value ≡ Some user → case_of user.params ≡ Terminating → (parties_of accounts (parsed_message true m)).target ≡ account_in accounts user.uri
 target-alone accounts m value user first named term =
     ap (λ (v : Option (List ℕ)). target_from accounts m.start (served_by v).user) first
     ∙ ap (λ (n : Option NameAddr). target_from accounts m.start (served_in n).user) named
@@ -100,7 +107,8 @@ served-unless NoCase account = refl
 served-unless Originating account = refl
 served-unless Terminating account = refl
 
-served-by : (trusted : Bool) (user : ServedUser) (account : Option Account) → (if serves_origin (sides_of (if trusted then user else served_in None).session_case) then account else None) ≡ (if trusted && is_terminating user.session_case then None else account)
+served-by : (trusted : Bool) (user : ServedUser) (account : Option Account) →
+    (if serves_origin (sides_of (if trusted then user else served_in None).session_case) then account else None) ≡ (if trusted && is_terminating user.session_case then None else account)
 served-by false user account = refl
 served-by true user account = served-unless user.session_case account
 

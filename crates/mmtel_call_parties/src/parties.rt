@@ -5,7 +5,8 @@ ghost use Rattle.mmtel_trust.specs.Asserted.{asserted};
 ghost use Rattle.mmtel_trust.specs.ParsedMessage.{account_from, case_of, parsed_message, served_in};
 ghost use Rattle.mmtel_trust.specs.PrivateFields.{is_session};
 ghost use Rattle.mmtel_call_parties.specs.Named.{named_origin, named_user};
-ghost use Rattle.mmtel_call_parties.specs.Parties.{account_by, account_in, origin_served, parties_of, registration_by, served_accounts, sides_of, state_of, target_from, target_served};
+ghost use Rattle.mmtel_call_parties.specs.Parties.{account_by, account_in, origin_served, parties_of, registration_by};
+ghost use Rattle.mmtel_call_parties.specs.Parties.{served_accounts, sides_of, state_of, target_from, target_served};
 
 use crate::served::ServedSides;
 use mmtel_identity::if_trusted;

@@ -33,4 +33,5 @@ cause_by (Some at) cause = Ended
 
 -- the CDRs: the caller's, those of the past parts, and that of the last target
 abbrev pub charging_records : Ending → List MeterView → (first last : Option MeterView) → List Row
-charging_records end past first last = map (past_charging_record end) (option_to_list first) ++ map (past_charging_record end) past ++ map (last_charging_record end) (option_to_list last)
+charging_records end past first last = map (past_charging_record end) (option_to_list first) ++ map (past_charging_record end) past
+    ++ map (last_charging_record end) (option_to_list last)

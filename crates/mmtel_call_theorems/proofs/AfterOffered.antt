@@ -47,15 +47,18 @@ use Rattle.mmtel_call_services.specs.CallConfig.{CallConfigView, further_methods
 use Rattle.mmtel_call_services.specs.declared.openings.Service.{Service}
 use Rattle.mmtel_call.specs.Answered.{acknowledges, at_stage, leg_of, with_ack_and_bye, with_bye_to, with_leg}
 use Rattle.mmtel_call.specs.Closing.{StepResult, call_end, established_call_end, step_result, with_past}
-use Rattle.mmtel_call.specs.Diverting.{at_target, call_after_diversion, call_refusal, diversion_refusal, diversion_step, diversion_unless_refused, divert, is_diverted, on_end, on_next_step, relayed_refusal, with_notification_of, with_unoffered_meter}
+use Rattle.mmtel_call.specs.Diverting.{at_target, call_after_diversion, call_refusal, diversion_refusal, diversion_step, diversion_unless_refused}
+use Rattle.mmtel_call.specs.Diverting.{divert, is_diverted, on_end, on_next_step, relayed_refusal, with_notification_of, with_unoffered_meter}
 use Rattle.mmtel_call.specs.RelayedTransactions as in_flight
-use Rattle.mmtel_call.specs.OtherRequests.{as_abandoned, is_answered_invite, is_fork, is_stable, is_success, on_other_response, on_other_response_at, on_other_timeout, on_other_timeout_at, on_response_abandoned, on_response_answered, on_response_answered_at, with_retransmitted_ack}
+use Rattle.mmtel_call.specs.OtherRequests.{as_abandoned, is_answered_invite, is_fork, is_stable, is_success, on_other_response, on_other_response_at, on_other_timeout}
+use Rattle.mmtel_call.specs.OtherRequests.{on_other_timeout_at, on_response_abandoned, on_response_answered, on_response_answered_at, with_retransmitted_ack}
 use Rattle.mmtel_call.specs.Detaching.{call_finish, finish_of_phase}
 use Rattle.mmtel_call.specs.Opening.{call_after_opening, caller_of, new_call, unless_refused}
 use Rattle.mmtel_call.specs.Reinvites.{abandoned_across, ends_dialog, on_accepted_reinvite, on_provisional_across, with_byes, with_refusal_back, with_relayed_back}
 use Rattle.mmtel_call.specs.Reliable.{named_rseq, on_named_prack, on_rack, on_refused_prack, rack_in}
 use Rattle.mmtel_call.specs.Requests.{is_bye, is_invite, is_prack, is_update, leg_after_receiving, request_check, with_refused_request, with_response_to, with_unlisted_response}
-use Rattle.mmtel_call.specs.Ringing.{with_attempt_cancel, attempt_after_request, call_without_attempt, on_valid_request, on_other, on_prack_of, on_request_if, offered_request_check, with_abandoned, with_ack_timer, expiry_in}
+use Rattle.mmtel_call.specs.Ringing.{with_attempt_cancel, attempt_after_request, call_without_attempt, on_valid_request, on_other}
+use Rattle.mmtel_call.specs.Ringing.{on_prack_of, on_request_if, offered_request_check, with_abandoned, with_ack_timer, expiry_in}
 use Rattle.mmtel_call.specs.Sending.{with_relay_to_caller, with_status_to, with_status_to_caller}
 use Rattle.mmtel_call.specs.Stages.{after_bye_at, after_timer_at, busy_in, has_departed, is_due_at, on_ack_at, on_bye, on_cancel_at, on_invite, on_request_at_if, on_response_at, on_timeout_at}
 use Rattle.mmtel_call.specs.Table.{current_invite_at, is_branch, leaves, on_response_to, on_timeout_of, step, transition}
@@ -77,7 +80,8 @@ use Rattle.mmtel_call.specs.declared.signals.Signal.{Signal}
 use Rattle.mmtel_call.specs.declared.signals.Signal.TheVariants as signal
 use Rattle.mmtel_call_theorems.specs.Endings.{end_in}
 use Rattle.mmtel_call_theorems.specs.Theorems.{ShowsNothingLater}
-use Rattle.mmtel_call_theorems.specs.Labels.{Accepted, HasOtherKey, InFlightHasOtherKeys, Invited, Label, PhaseHasOtherKey, Refused, StageHasOtherKey, final_label, is_offered, is_reinvite, label_of, labels_of, labels_of_step, without_relayed_invite}
+use Rattle.mmtel_call_theorems.specs.Labels.{Accepted, HasOtherKey, InFlightHasOtherKeys, Invited, Label, PhaseHasOtherKey, Refused, StageHasOtherKey}
+use Rattle.mmtel_call_theorems.specs.Labels.{final_label, is_offered, is_reinvite, label_of, labels_of, labels_of_step, without_relayed_invite}
 use Rattle.mmtel_call_theorems.specs.CallTrace.{TraceStart, first_step, items_added, opening_in}
 use Rattle.mmtel_call_theorems.proofs.AttemptOutcomes as faring
 use Rattle.mmtel_call_theorems.proofs.Continuation as answering
@@ -146,15 +150,19 @@ unseen-bye key sip d output = adds-then key output (after_draw output) (with_bye
 unseen-final-acked : (key asked : TKey) (sip : Addr) (i : SentInvite) (m : ParsedMessage) (output : StepOutput) → IsUnseen key output (with_final_ack sip asked i m output)
 unseen-final-acked key asked sip i m output = adds-emit key output _ [] refl
 
-unseen-refused_request : (key : TKey) (config : CallConfigView) (c : Call) (asked : TKey) (m : MessageView) (fault : DialogueFault) (output : StepOutput) → (asked.0 == key.0) ≡ false → IsUnseen key output (with_refused_request config c asked m fault output)
+unseen-refused_request : (key : TKey) (config : CallConfigView) (c : Call) (asked : TKey) (m : MessageView) (fault : DialogueFault) (output : StepOutput) → (asked.0 == key.0) ≡ false →
+    IsUnseen key output (with_refused_request config c asked m fault output)
 unseen-refused_request key config c asked m (OldCSeq last) output e = unseen-reply key asked _ output e
 unseen-refused_request key config c asked m Pending output e = unseen-reply key asked _ output e
 unseen-refused_request key config c asked m Unfinished output e = unseen-reply key asked _ output e
 
-unseen-unlisted : (key : TKey) (config : CallConfigView) (c : Call) (asked : TKey) (m : MessageView) (output : StepOutput) → (asked.0 == key.0) ≡ false → IsUnseen key output (with_unlisted_response config c asked m output)
+unseen-unlisted : (key : TKey) (config : CallConfigView) (c : Call) (asked : TKey) (m : MessageView) (output : StepOutput) → (asked.0 == key.0) ≡ false →
+    IsUnseen key output (with_unlisted_response config c asked m output)
 unseen-unlisted key config c asked m output e =
-    adds-if key output (is_method (codes "OPTIONS") m.parsed.start) (with_response_to config c asked m 200 (allow_lines (further_methods config)) output) (if is_method (codes "REFER") m.parsed.start then with_status_to config c asked m 403 output else with_status_to config c asked m 481 output) [] (unseen-reply key asked _ output e)
-    (adds-if key output (is_method (codes "REFER") m.parsed.start) (with_status_to config c asked m 403 output) (with_status_to config c asked m 481 output) [] (unseen-reply key asked _ output e) (unseen-reply key asked _ output e))
+    adds-if key output (is_method (codes "OPTIONS") m.parsed.start) (with_response_to config c asked m 200 (allow_lines (further_methods config)) output)
+    (if is_method (codes "REFER") m.parsed.start then with_status_to config c asked m 403 output else with_status_to config c asked m 481 output) [] (unseen-reply key asked _ output e)
+    (adds-if key output (is_method (codes "REFER") m.parsed.start) (with_status_to config c asked m 403 output) (with_status_to config c asked m 481 output) [] (unseen-reply key asked _ output e)
+    (unseen-reply key asked _ output e))
 
 -- ---- an INVITE for which the call does not wait
 
@@ -181,11 +189,13 @@ again-unseen : (key : TKey) (t : AnsweredInvite) (text : Option (List ℕ)) (out
 again-unseen key t None output = nothing key output
 again-unseen key t (Some text) output = adds-emit key output _ [] refl
 
-abandoned-unseen : (key : TKey) (config : CallConfigView) (asked : TKey) (m : MessageView) (at : ℕ) (l : Option AbandonedInvite) (c : Call) (output : StepOutput) → IsUnseen key output (on_response_abandoned config asked m at l c output).output
+abandoned-unseen : (key : TKey) (config : CallConfigView) (asked : TKey) (m : MessageView) (at : ℕ) (l : Option AbandonedInvite) (c : Call) (output : StepOutput) →
+    IsUnseen key output (on_response_abandoned config asked m at l c output).output
 abandoned-unseen key config asked m at None c output = nothing key output
 abandoned-unseen key config asked m at (Some l) c output = rest-unseen key config.sip asked m.parsed l output
 
-answered-unseen : (key : TKey) (config : CallConfigView) (asked : TKey) (m : MessageView) (at : ℕ) (t : Option AnsweredInvite) (c : Call) (output : StepOutput) → IsUnseen key output (on_response_answered config asked m at t c output).output
+answered-unseen : (key : TKey) (config : CallConfigView) (asked : TKey) (m : MessageView) (at : ℕ) (t : Option AnsweredInvite) (c : Call) (output : StepOutput) →
+    IsUnseen key output (on_response_answered config asked m at t c output).output
 answered-unseen key config asked m at None c output = nothing key output
 answered-unseen key config asked m at (Some t) c output =
     step-if key output (not (is_success (status_of m.parsed.start))) _ _ (nothing key output)
@@ -207,11 +217,13 @@ expiry-unseen key timer time at c output = record { new = if timer then expiry_i
 abbrev IsOther : TKey → RelayedTransaction → Type 0
 IsOther key flight = (flight.exchange.key.0 == key.0) ≡ false
 
-agreed-unseen : (key : TKey) (kind : RelayedKind) (config : CallConfigView) (at : ℕ) (side : Side) (request response : MessageView) (c : Call) (output : StepOutput) → IsUnseen key output (in_flight.on_accepted_in_flight kind config at side request response c output).output
+agreed-unseen : (key : TKey) (kind : RelayedKind) (config : CallConfigView) (at : ℕ) (side : Side) (request response : MessageView) (c : Call) (output : StepOutput) →
+    IsUnseen key output (in_flight.on_accepted_in_flight kind config at side request response c output).output
 agreed-unseen key Prack config at side request response c output = nothing key output
 agreed-unseen key Update config at side request response c output = expiry-unseen key config.timer (expiry_interval_of response.parsed.session) at c output
 
-relayed-unseen : (key : TKey) (config : CallConfigView) (at : ℕ) (m : MessageView) (code place : ℕ) (o : Option RelayedTransaction) (c : Call) (output : StepOutput) → IfSome o (IsOther key) → IsUnseen key output (in_flight.on_response_relayed config at m code place o c output).output
+relayed-unseen : (key : TKey) (config : CallConfigView) (at : ℕ) (m : MessageView) (code place : ℕ) (o : Option RelayedTransaction) (c : Call) (output : StepOutput) → IfSome o (IsOther key) →
+    IsUnseen key output (in_flight.on_response_relayed config at m code place o c output).output
 relayed-unseen key config at m code place None c output other = nothing key output
 relayed-unseen key config at m code place (Some flight) c output other =
     let gone : Call = in_flight.without_transaction place c in
@@ -221,19 +233,23 @@ relayed-unseen key config at m code place (Some flight) c output other =
     (step-if key output (statuses.is_success code) (in_flight.on_accepted_in_flight flight.kind config at flight.side flight.exchange.request m gone back) (step_result gone back)
     (adds-then key output back _ [] [] passed (agreed-unseen key flight.kind config at flight.side flight.exchange.request m gone back)) passed)
 
-in-flight-unseen : (key : TKey) (config : CallConfigView) (at : ℕ) (m : MessageView) (o : Option ℕ) (c : Call) (output : StepOutput) → InFlightHasOtherKeys key c.relayed → IsUnseen key output (in_flight.on_response_in_flight config at m o c output).output
+in-flight-unseen : (key : TKey) (config : CallConfigView) (at : ℕ) (m : MessageView) (o : Option ℕ) (c : Call) (output : StepOutput) → InFlightHasOtherKeys key c.relayed →
+    IsUnseen key output (in_flight.on_response_in_flight config at m o c output).output
 in-flight-unseen key config at m None c output fly = nothing key output
 in-flight-unseen key config at m (Some place) c output fly = relayed-unseen key config at m (status_of m.parsed.start) place (slice_get c.relayed place) c output (each_get (IsOther key) c.relayed place fly)
 
-timed-out_relayed-unseen : (key : TKey) (config : CallConfigView) (place : ℕ) (o : Option RelayedTransaction) (c : Call) (output : StepOutput) → IfSome o (IsOther key) → IsUnseen key output (in_flight.on_timeout_relayed config place o c output).output
+timed-out_relayed-unseen : (key : TKey) (config : CallConfigView) (place : ℕ) (o : Option RelayedTransaction) (c : Call) (output : StepOutput) → IfSome o (IsOther key) →
+    IsUnseen key output (in_flight.on_timeout_relayed config place o c output).output
 timed-out_relayed-unseen key config place None c output other = nothing key output
 timed-out_relayed-unseen key config place (Some flight) c output other = unseen-reply key flight.exchange.key _ output other
 
-timed-out_in-flight-unseen : (key : TKey) (config : CallConfigView) (o : Option ℕ) (c : Call) (output : StepOutput) → InFlightHasOtherKeys key c.relayed → IsUnseen key output (in_flight.on_timeout_in_flight config o c output).output
+timed-out_in-flight-unseen : (key : TKey) (config : CallConfigView) (o : Option ℕ) (c : Call) (output : StepOutput) → InFlightHasOtherKeys key c.relayed →
+    IsUnseen key output (in_flight.on_timeout_in_flight config o c output).output
 timed-out_in-flight-unseen key config None c output fly = nothing key output
 timed-out_in-flight-unseen key config (Some place) c output fly = timed-out_relayed-unseen key config place (slice_get c.relayed place) c output (each_get (IsOther key) c.relayed place fly)
 
-timed-out_at-unseen : (key : TKey) (config : CallConfigView) (branch : List ℕ) (o : Option ℕ) (c : Call) (output : StepOutput) → InFlightHasOtherKeys key c.relayed → IsUnseen key output (on_other_timeout_at config branch o c output).output
+timed-out_at-unseen : (key : TKey) (config : CallConfigView) (branch : List ℕ) (o : Option ℕ) (c : Call) (output : StepOutput) → InFlightHasOtherKeys key c.relayed →
+    IsUnseen key output (on_other_timeout_at config branch o c output).output
 timed-out_at-unseen key config branch None c output fly = timed-out_in-flight-unseen key config (position (in_flight.is_in_flight branch) c.relayed) c output fly
 timed-out_at-unseen key config branch (Some place) c output fly = nothing key output
 
@@ -251,7 +267,8 @@ settled_in-unseen key (Established x stage) config c output = nothing key output
 settled_in-unseen key (Detached detached) config c output = nothing key output
 settled_in-unseen key (Over cause) config c output = nothing key output
 
-each-unseen : (key : TKey) (config : CallConfigView) (c : Call) (flights : List RelayedTransaction) (output : StepOutput) → InFlightHasOtherKeys key flights → IsUnseen key output (in_flight.with_dismissals config c flights output)
+each-unseen : (key : TKey) (config : CallConfigView) (c : Call) (flights : List RelayedTransaction) (output : StepOutput) → InFlightHasOtherKeys key flights →
+    IsUnseen key output (in_flight.with_dismissals config c flights output)
 each-unseen key config c [] output fly = nothing key output
 each-unseen key config c (flight ∷ flights) output fly =
     let next : StepOutput = in_flight.with_dismissal config c flight output in
@@ -262,7 +279,8 @@ dismissing-unseen key config c output fly =
     let first : StepOutput = in_flight.with_dismissals config c (filter (λ flight. not (in_flight.is_updating flight)) c.relayed) output in
     let all : StepOutput = in_flight.with_all_dismissals config c output in
     adds-then key output all (in_flight.output_after_dismissal config c output) [] []
-    (adds-then key output first all [] [] (each-unseen key config c (filter (λ flight. not (in_flight.is_updating flight)) c.relayed) output (each_filter (IsOther key) (λ flight. not (in_flight.is_updating flight)) c.relayed fly))
+    (adds-then key output first all [] []
+    (each-unseen key config c (filter (λ flight. not (in_flight.is_updating flight)) c.relayed) output (each_filter (IsOther key) (λ flight. not (in_flight.is_updating flight)) c.relayed fly))
     (each-unseen key config c (filter in_flight.is_updating c.relayed) first (each_filter (IsOther key) in_flight.is_updating c.relayed fly)))
     (settled_in-unseen key c.phase config c all)
 
@@ -273,11 +291,13 @@ answered_at-unseen : (key : TKey) (config : CallConfigView) (at : ℕ) (asked : 
 answered_at-unseen key config at asked m branch None c output fly = in-flight-unseen key config at m (position (in_flight.is_in_flight branch) c.relayed) c output fly
 answered_at-unseen key config at asked m branch (Some place) c output fly = answered-unseen key config asked m place (slice_get c.answered_invites place) c output
 
-at-unseen : (key : TKey) (config : CallConfigView) (at : ℕ) (asked : TKey) (m : MessageView) (branch : List ℕ) (o : Option ℕ) (c : Call) (output : StepOutput) → InFlightHasOtherKeys key c.relayed → IsUnseen key output (on_other_response_at config at asked m branch o c output).output
+at-unseen : (key : TKey) (config : CallConfigView) (at : ℕ) (asked : TKey) (m : MessageView) (branch : List ℕ) (o : Option ℕ) (c : Call) (output : StepOutput) → InFlightHasOtherKeys key c.relayed →
+    IsUnseen key output (on_other_response_at config at asked m branch o c output).output
 at-unseen key config at asked m branch None c output fly = answered_at-unseen key config at asked m branch (position (is_answered_invite branch) c.answered_invites) c output fly
 at-unseen key config at asked m branch (Some place) c output fly = abandoned-unseen key config asked m place (slice_get c.abandoned place) c output
 
-other-unseen : (key : TKey) (config : CallConfigView) (at : ℕ) (asked : TKey) (m : MessageView) (branch : List ℕ) (c : Call) (output : StepOutput) → InFlightHasOtherKeys key c.relayed → IsUnseen key output (on_other_response config at asked m branch c output).output
+other-unseen : (key : TKey) (config : CallConfigView) (at : ℕ) (asked : TKey) (m : MessageView) (branch : List ℕ) (c : Call) (output : StepOutput) → InFlightHasOtherKeys key c.relayed →
+    IsUnseen key output (on_other_response config at asked m branch c output).output
 unfolding on_other_response
 other-unseen key config at asked m branch c output fly = at-unseen key config at asked m branch (position (is_of_branch branch) c.abandoned) c output fly
 
@@ -332,7 +352,8 @@ module _ (key : TKey) (config : CallConfigView) (at : ℕ) where
   then-stays : (before output : StepOutput) (s : StepResult) → IsUnseen key before output → Stays key output s → Stays key before s
   then-stays before output s u r = record { unseen = adds-then key before output s.output [] [] u r.unseen; asks = r.asks }
 
-  bye-stays : (stage : Stage) (x : EstablishedLegs) (side : Side) (asked : TKey) (m : MessageView) (c : Call) (output : StepOutput) → (asked.0 == key.0) ≡ false → StageHasOtherKey key stage → PhaseHasOtherKey key c.phase →
+  bye-stays : (stage : Stage) (x : EstablishedLegs) (side : Side) (asked : TKey) (m : MessageView) (c : Call) (output : StepOutput) → (asked.0 == key.0) ≡ false → StageHasOtherKey key stage →
+      PhaseHasOtherKey key c.phase →
       Stays key output (on_bye stage config at x side asked m c output)
   bye-stays stage x side asked m c output other a now =
       let answered = with_status_to config c asked m 200 output in
@@ -341,13 +362,15 @@ module _ (key : TKey) (config : CallConfigView) (at : ℕ) where
 
   -- UPDATE of a side
 
-  unless-stays : (flying : Option Side) (across : Call → StepOutput → StepResult) (side : Side) (asked : TKey) (m : MessageView) (c : Call) (output : StepOutput) → (asked.0 == key.0) ≡ false → PhaseHasOtherKey key c.phase → Stays key output (across c output) →
+  unless-stays : (flying : Option Side) (across : Call → StepOutput → StepResult) (side : Side) (asked : TKey) (m : MessageView) (c : Call) (output : StepOutput) → (asked.0 == key.0) ≡ false →
+      PhaseHasOtherKey key c.phase → Stays key output (across c output) →
       Stays key output (unless_updating flying across config side asked m c output)
   unless-stays None across side asked m c output other now passes = passes
   unless-stays (Some flying) across side asked m c output other now passes =
       stays-if key output (is_same_side flying side) _ _ (as-it-was key output c _ now (unseen-reply key asked _ output other)) (as-it-was key output c _ now (unseen-reply key asked _ output other))
 
-  update-stays : (stage : Stage) (x : EstablishedLegs) (side : Side) (asked : TKey) (m : MessageView) (c : Call) (output : StepOutput) → (asked.0 == key.0) ≡ false → PhaseHasOtherKey key c.phase → Stays key output (on_update_at stage config x side asked m c output)
+  update-stays : (stage : Stage) (x : EstablishedLegs) (side : Side) (asked : TKey) (m : MessageView) (c : Call) (output : StepOutput) → (asked.0 == key.0) ≡ false → PhaseHasOtherKey key c.phase →
+      Stays key output (on_update_at stage config x side asked m c output)
   update-stays (Answered waiting success) x side asked m c output other now = as-it-was key output c _ now (unseen-reply key asked _ output other)
   update-stays (Departing waiting success) x side asked m c output other now = as-it-was key output c _ now (unseen-reply key asked _ output other)
   update-stays Stable x side asked m c output other now =
@@ -355,7 +378,8 @@ module _ (key : TKey) (config : CallConfigView) (at : ℕ) where
       (record { unseen = adds-then key output (after_draw output) _ [] [] (unseen-drew key output) (adds-emit key (after_draw output) _ [] refl); asks = tt })
   update-stays (Reinviting asking q) x side asked m c output other now = as-it-was key output c _ now (unseen-reply key asked _ output other)
 
-  rest-stays : (stage : Stage) (x : EstablishedLegs) (side : Side) (asked : TKey) (m : MessageView) (c : Call) (output : StepOutput) → (asked.0 == key.0) ≡ false → StageHasOtherKey key stage → PhaseHasOtherKey key c.phase →
+  rest-stays : (stage : Stage) (x : EstablishedLegs) (side : Side) (asked : TKey) (m : MessageView) (c : Call) (output : StepOutput) → (asked.0 == key.0) ≡ false → StageHasOtherKey key stage →
+      PhaseHasOtherKey key c.phase →
       Stays key output
       (if is_bye m then on_bye stage config at x side asked m c output
       else if is_update m then on_update_at stage config x side asked m c output
@@ -382,7 +406,8 @@ module _ (key : TKey) (config : CallConfigView) (at : ℕ) where
   receives : (within : Bool) (before : StepOutput) (s : StepResult) → Stays key before s → Receives within before s
   receives within before s r = record { labels = []; adds = r.unseen; none = none-within within; asks = r.asks }
 
-  invite-receives : (stage : Stage) (x : EstablishedLegs) (side : Side) (asked : TKey) (m : MessageView) (c : Call) (output : StepOutput) → (asked.0 == key.0) ≡ false → StageHasOtherKey key stage → c.phase ≡ Established x stage →
+  invite-receives : (stage : Stage) (x : EstablishedLegs) (side : Side) (asked : TKey) (m : MessageView) (c : Call) (output : StepOutput) → (asked.0 == key.0) ≡ false → StageHasOtherKey key stage →
+      c.phase ≡ Established x stage →
       Receives true output (on_invite stage config x side asked m c output)
   invite-receives (Answered waiting success) x side asked m c output other a is = receives true output _ (as-it-was key output c output (subst (PhaseHasOtherKey key) (sym is) tt) (nothing key output))
   invite-receives (Departing waiting success) x side asked m c output other a is = receives true output _ (as-it-was key output c output (subst (PhaseHasOtherKey key) (sym is) tt) (nothing key output))
@@ -399,7 +424,8 @@ module _ (key : TKey) (config : CallConfigView) (at : ℕ) where
       }
   invite-receives (Reinviting asking q) x side asked m c output other a is = receives true output _ (as-it-was key output c output (subst (PhaseHasOtherKey key) (sym is) a) (nothing key output))
 
-  received-receives : (b : Bool) (stage : Stage) (x : EstablishedLegs) (side : Side) (asked : TKey) (m : MessageView) (c : Call) (output : StepOutput) → (asked.0 == key.0) ≡ false → StageHasOtherKey key stage → c.phase ≡ Established x stage →
+  received-receives : (b : Bool) (stage : Stage) (x : EstablishedLegs) (side : Side) (asked : TKey) (m : MessageView) (c : Call) (output : StepOutput) → (asked.0 == key.0) ≡ false →
+      StageHasOtherKey key stage → c.phase ≡ Established x stage →
       Receives b output
       (if b then on_invite stage config x side asked m c output
       else if is_bye m then on_bye stage config at x side asked m c output
@@ -409,15 +435,18 @@ module _ (key : TKey) (config : CallConfigView) (at : ℕ) where
   received-receives true stage x side asked m c output other a is = invite-receives stage x side asked m c output other a is
   received-receives false stage x side asked m c output other a is = receives false output _ (rest-stays stage x side asked m c output other a (subst (PhaseHasOtherKey key) (sym is) a))
 
-  said-receives : (said : Result (Unit {0}) DialogueFault) (stage : Stage) (x : EstablishedLegs) (side : Side) (asked : TKey) (m : MessageView) (c : Call) (output : StepOutput) → (asked.0 == key.0) ≡ false → StageHasOtherKey key stage →
+  said-receives : (said : Result (Unit {0}) DialogueFault) (stage : Stage) (x : EstablishedLegs) (side : Side) (asked : TKey) (m : MessageView) (c : Call) (output : StepOutput) →
+      (asked.0 == key.0) ≡ false → StageHasOtherKey key stage →
       Receives (is_invite m) output (on_request_at_if said stage config at x side asked m (at_stage x stage c) output)
   said-receives (Ok received) stage x side asked m c output other a =
       let y = with_leg side (leg_after_receiving (leg_of side x) m) x in received-receives (is_invite m) stage y side asked m (at_stage y stage c) output other a refl
-  said-receives (Err fault) stage x side asked m c output other a = receives (is_invite m) output _ (as-it-was key output (at_stage x stage c) _ a (unseen-refused_request key config (at_stage x stage c) asked m fault output other))
+  said-receives (Err fault) stage x side asked m c output other a =
+      receives (is_invite m) output _ (as-it-was key output (at_stage x stage c) _ a (unseen-refused_request key config (at_stage x stage c) asked m fault output other))
 
   -- ---- ACK, CANCEL, deadlines, timeouts
 
-  ack-stays : (stage : Stage) (x : EstablishedLegs) (side : Side) (m : MessageView) (c : Call) (output : StepOutput) → StageHasOtherKey key stage → PhaseHasOtherKey key c.phase → Stays key output (on_ack_at stage config at x side m c output)
+  ack-stays : (stage : Stage) (x : EstablishedLegs) (side : Side) (m : MessageView) (c : Call) (output : StepOutput) → StageHasOtherKey key stage → PhaseHasOtherKey key c.phase →
+      Stays key output (on_ack_at stage config at x side m c output)
   ack-stays (Answered waiting success) x side m c output a now =
       stays-if key output (acknowledges waiting success side m) _ _
       (record { unseen = adds-then key output (after_draw output) _ [] [] (unseen-drew key output) (adds-emit key (after_draw output) _ [] refl); asks = tt }) (as-it-was key output c output now (nothing key output))
@@ -426,7 +455,8 @@ module _ (key : TKey) (config : CallConfigView) (at : ℕ) where
   ack-stays Stable x side m c output a now = as-it-was key output c output now (nothing key output)
   ack-stays (Reinviting asking q) x side m c output a now = as-it-was key output c output now (nothing key output)
 
-  cancel-stays : (stage : Stage) (x : EstablishedLegs) (invite : TKey) (c : Call) (output : StepOutput) → StageHasOtherKey key stage → PhaseHasOtherKey key c.phase → Stays key output (on_cancel_at stage config x invite c output)
+  cancel-stays : (stage : Stage) (x : EstablishedLegs) (invite : TKey) (c : Call) (output : StepOutput) → StageHasOtherKey key stage → PhaseHasOtherKey key c.phase →
+      Stays key output (on_cancel_at stage config x invite c output)
   cancel-stays (Answered waiting success) x invite c output a now = as-it-was key output c output now (nothing key output)
   cancel-stays (Departing waiting success) x invite c output a now = as-it-was key output c output now (nothing key output)
   cancel-stays Stable x invite c output a now = as-it-was key output c output now (nothing key output)
@@ -441,7 +471,8 @@ module _ (key : TKey) (config : CallConfigView) (at : ℕ) where
   rung-stays Stable x c output a = ends-so key at x c output _ (both-unseen key config x output)
   rung-stays (Reinviting asking q) x c output a =
       let refused = with_status_to config c q.key q.request 487 output in
-      ends-so key at x (with_abandoned (abandoned_across x asking asking q) c) output _ (adds-then key output refused (with_byes config x refused) [] [] (unseen-reply key q.key _ output a) (both-unseen key config x refused))
+      ends-so key at x (with_abandoned (abandoned_across x asking asking q) c) output _
+      (adds-then key output refused (with_byes config x refused) [] [] (unseen-reply key q.key _ output a) (both-unseen key config x refused))
 
   quiet-stays : (stage : Stage) (x : EstablishedLegs) (c : Call) (output : StepOutput) → StageHasOtherKey key stage → PhaseHasOtherKey key c.phase → Stays key output (on_timeout_at stage config at x c output)
   quiet-stays (Answered waiting success) x c output a now = as-it-was key output c output now (nothing key output)
@@ -453,7 +484,8 @@ module _ (key : TKey) (config : CallConfigView) (at : ℕ) where
 
   -- ---- responses
 
-  refused-unseen : (x : EstablishedLegs) (side : Side) (q : Reinvite) (asked : TKey) (m : MessageView) (c : Call) (output : StepOutput) → (q.key.0 == key.0) ≡ false → IsUnseen key output (with_refusal_back config x side q asked m c output)
+  refused-unseen : (x : EstablishedLegs) (side : Side) (q : Reinvite) (asked : TKey) (m : MessageView) (c : Call) (output : StepOutput) → (q.key.0 == key.0) ≡ false →
+      IsUnseen key output (with_refusal_back config x side q asked m c output)
   refused-unseen x side q asked m c output a =
       let acknowledged = with_final_ack config.sip asked q.invite m.parsed output in
       adds-then key output acknowledged _ [] [] (unseen-final-acked key asked config.sip q.invite m.parsed output) (unseen-reply key q.key _ acknowledged a)
@@ -465,17 +497,26 @@ module _ (key : TKey) (config : CallConfigView) (at : ℕ) where
       else if ends then established_call_end at x c (with_byes config x (with_refusal_back config x side q asked m c output))
       else step_result (at_stage x Stable c) (with_refusal_back config x side q asked m c output))
   across-stays x side q asked m c output true success ends a =
-      record { unseen = adds-if key output q.cancel_due (with_due_cancel config.sip (with_provisional asked q.invite) output) output [] (unseen-cancelled key config.sip (with_provisional asked q.invite) output) (nothing key output); asks = a }
+      record {
+        unseen = adds-if key output q.cancel_due (with_due_cancel config.sip (with_provisional asked q.invite) output) output []
+            (unseen-cancelled key config.sip (with_provisional asked q.invite) output) (nothing key output);
+        asks = a;
+      }
   across-stays x side q asked m c output false true ends a =
       let back = with_relayed_back config x side q m c output in
       let waits = with_ack_timer at c back in
-      record { unseen = adds-then key output waits _ [] [] (adds-then key output back waits [] [] (unseen-reply key q.key _ output a) (adds-emit key back _ [] refl)) (expiry-unseen key config.timer (expiry_interval_of m.parsed.session) at c waits); asks = tt }
+      record {
+        unseen = adds-then key output waits _ [] [] (adds-then key output back waits [] [] (unseen-reply key q.key _ output a) (adds-emit key back _ [] refl))
+            (expiry-unseen key config.timer (expiry_interval_of m.parsed.session) at c waits);
+        asks = tt;
+      }
   across-stays x side q asked m c output false false true a =
       let refused = with_refusal_back config x side q asked m c output in
       ends-so key at x c output _ (adds-then key output refused (with_byes config x refused) [] [] (refused-unseen x side q asked m c output a) (both-unseen key config x refused))
   across-stays x side q asked m c output false false false a = record { unseen = refused-unseen x side q asked m c output a; asks = tt }
 
-  response-stays : (stage : Stage) (x : EstablishedLegs) (asked : TKey) (m : MessageView) (c : Call) (output : StepOutput) → StageHasOtherKey key stage → PhaseHasOtherKey key c.phase → Stays key output (on_response_at stage config at x asked m c output)
+  response-stays : (stage : Stage) (x : EstablishedLegs) (asked : TKey) (m : MessageView) (c : Call) (output : StepOutput) → StageHasOtherKey key stage → PhaseHasOtherKey key c.phase →
+      Stays key output (on_response_at stage config at x asked m c output)
   response-stays (Answered waiting success) x asked m c output a now = as-it-was key output c output now (nothing key output)
   response-stays (Departing waiting success) x asked m c output a now = as-it-was key output c output now (nothing key output)
   response-stays Stable x asked m c output a now = as-it-was key output c output now (nothing key output)
@@ -484,77 +525,96 @@ module _ (key : TKey) (config : CallConfigView) (at : ℕ) where
 
 -- ---- a request for which the call does not wait does not change its phase
 
-other-stays : (key : TKey) (config : CallConfigView) (at : ℕ) (asked : TKey) (m : MessageView) (branch : List ℕ) (c : Call) (output : StepOutput) → PhaseHasOtherKey key c.phase → InFlightHasOtherKeys key c.relayed → Stays key output (on_other_response config at asked m branch c output)
+other-stays : (key : TKey) (config : CallConfigView) (at : ℕ) (asked : TKey) (m : MessageView) (branch : List ℕ) (c : Call) (output : StepOutput) → PhaseHasOtherKey key c.phase →
+    InFlightHasOtherKeys key c.relayed → Stays key output (on_other_response config at asked m branch c output)
 other-stays key config at asked m branch c output now fly =
     record { unseen = other-unseen key config at asked m branch c output fly; asks = subst (PhaseHasOtherKey key) (sym (other-untouched config at asked m branch c output).phase) now }
 
-timed-out-stays : (key : TKey) (config : CallConfigView) (branch : List ℕ) (c : Call) (output : StepOutput) → PhaseHasOtherKey key c.phase → InFlightHasOtherKeys key c.relayed → Stays key output (on_other_timeout config branch c output)
+timed-out-stays : (key : TKey) (config : CallConfigView) (branch : List ℕ) (c : Call) (output : StepOutput) → PhaseHasOtherKey key c.phase → InFlightHasOtherKeys key c.relayed →
+    Stays key output (on_other_timeout config branch c output)
 timed-out-stays key config branch c output now fly = record { unseen = timed-out-unseen key config branch c output fly; asks = subst (PhaseHasOtherKey key) (sym (timed-out-untouched config branch c output).phase) now }
 
 -- ---- an established call, on any signal
 
-answer-stays : (key : TKey) (branch : Option (List ℕ)) (stage : Stage) (config : CallConfigView) (now : SnapshotView) (x : EstablishedLegs) (asked : TKey) (m : MessageView) (c : Call) (output : StepOutput) → StageHasOtherKey key stage → InFlightHasOtherKeys key c.relayed →
+answer-stays :
+    (key : TKey) (branch : Option (List ℕ)) (stage : Stage) (config : CallConfigView) (now : SnapshotView) (x : EstablishedLegs) (asked : TKey) (m : MessageView) (c : Call) (output : StepOutput) →
+    StageHasOtherKey key stage → InFlightHasOtherKeys key c.relayed →
     Stays key output (on_response_to branch config now asked m (at_stage x stage c) output)
 answer-stays key None stage config now x asked m c output a fly = as-it-was key output (at_stage x stage c) output a (nothing key output)
 answer-stays key (Some branch) stage config now x asked m c output a fly =
-    stays-if key output (is_branch branch (current_invite_at stage)) _ _ (response-stays key config now.at stage x asked m (at_stage x stage c) output a a) (other-stays key config now.at asked m branch (at_stage x stage c) output a fly)
+    stays-if key output (is_branch branch (current_invite_at stage)) _ _ (response-stays key config now.at stage x asked m (at_stage x stage c) output a a)
+    (other-stays key config now.at asked m branch (at_stage x stage c) output a fly)
 
-timeout-stays : (key : TKey) (branch : Option (List ℕ)) (stage : Stage) (config : CallConfigView) (now : SnapshotView) (x : EstablishedLegs) (c : Call) (output : StepOutput) → StageHasOtherKey key stage → InFlightHasOtherKeys key c.relayed →
+timeout-stays : (key : TKey) (branch : Option (List ℕ)) (stage : Stage) (config : CallConfigView) (now : SnapshotView) (x : EstablishedLegs) (c : Call) (output : StepOutput) →
+    StageHasOtherKey key stage → InFlightHasOtherKeys key c.relayed →
     Stays key output (on_timeout_of branch config now (at_stage x stage c) output)
 timeout-stays key None stage config now x c output a fly = as-it-was key output (at_stage x stage c) output a (nothing key output)
 timeout-stays key (Some branch) stage config now x c output a fly =
     stays-if key output (is_branch branch (current_invite_at stage)) _ _ (quiet-stays key config now.at stage x (at_stage x stage c) output a a) (timed-out-stays key config branch (at_stage x stage c) output a fly)
 
-transition-receives : (key : TKey) (config : CallConfigView) (now : SnapshotView) (x : EstablishedLegs) (stage : Stage) (received : Signal) (c : Call) (output : StepOutput) → StageHasOtherKey key stage → InFlightHasOtherKeys key c.relayed → HasOtherKey key received →
+transition-receives : (key : TKey) (config : CallConfigView) (now : SnapshotView) (x : EstablishedLegs) (stage : Stage) (received : Signal) (c : Call) (output : StepOutput) →
+    StageHasOtherKey key stage → InFlightHasOtherKeys key c.relayed → HasOtherKey key received →
     Receives key config now.at (is_reinvite received) output (transition config now received (at_stage x stage c) output)
 unfolding transition
-transition-receives key config now x stage (signal.Request side asked request) c output a fly other = said-receives key config now.at (request_check (leg_of side x) request (busy_in stage side)) stage x side asked request c output other a
+transition-receives key config now x stage (signal.Request side asked request) c output a fly other =
+    said-receives key config now.at (request_check (leg_of side x) request (busy_in stage side)) stage x side asked request c output other a
 transition-receives key config now x stage (signal.Ack side ack) c output a fly other = receives key config now.at false output _ (ack-stays key config now.at stage x side ack (at_stage x stage c) output a a)
 transition-receives key config now x stage (signal.Cancel asked cancel invite) c output a fly other =
     let answered = with_status_to config (at_stage x stage c) asked cancel 200 output in
     receives key config now.at false output _ (then-stays key config now.at output answered _ (unseen-reply key asked _ output other) (cancel-stays key config now.at stage x invite (at_stage x stage c) answered a a))
-transition-receives key config now x stage (signal.Answer asked response) c output a fly other = receives key config now.at false output _ (answer-stays key (awaited_request_branch response) stage config now x asked response c output a fly)
-transition-receives key config now x stage (signal.Silent branch method) c output a fly other = receives key config now.at false output _ (timeout-stays key (timed_out_branch branch method) stage config now x c output a fly)
+transition-receives key config now x stage (signal.Answer asked response) c output a fly other =
+    receives key config now.at false output _ (answer-stays key (awaited_request_branch response) stage config now x asked response c output a fly)
+transition-receives key config now x stage (signal.Silent branch method) c output a fly other =
+    receives key config now.at false output _ (timeout-stays key (timed_out_branch branch method) stage config now x c output a fly)
 transition-receives key config now x stage (signal.Due what) c output a fly other =
-    receives key config now.at false output _ (stays-if key output (is_due_at stage c.successes what) _ _ (rung-stays key config now.at stage x (at_stage x stage c) output a) (as-it-was key output (at_stage x stage c) output a (nothing key output)))
+    receives key config now.at false output _
+    (stays-if key output (is_due_at stage c.successes what) _ _ (rung-stays key config now.at stage x (at_stage x stage c) output a) (as-it-was key output (at_stage x stage c) output a (nothing key output)))
 transition-receives key config now x stage (signal.Ended asked) c output a fly other = receives key config now.at false output _ (record { unseen = nothing key output; asks = a })
 
 -- the requests in flight were dismissed before
-receives-after : (key : TKey) (config : CallConfigView) (at : ℕ) (within : Bool) (output before : StepOutput) (s : StepResult) → IsUnseen key output before → Receives key config at within before s → Receives key config at within output s
+receives-after : (key : TKey) (config : CallConfigView) (at : ℕ) (within : Bool) (output before : StepOutput) (s : StepResult) → IsUnseen key output before → Receives key config at within before s →
+    Receives key config at within output s
 receives-after key config at within output before s u h = record { labels = h.labels; adds = adds-then key output before s.output [] h.labels u h.adds; none = h.none; asks = h.asks }
 
-receives-if : (key : TKey) (config : CallConfigView) (at : ℕ) (within : Bool) (output : StepOutput) (b : Bool) (one two : StepResult) → Receives key config at within output one → Receives key config at within output two → Receives key config at within output (if b then one else two)
+receives-if : (key : TKey) (config : CallConfigView) (at : ℕ) (within : Bool) (output : StepOutput) (b : Bool) (one two : StepResult) → Receives key config at within output one →
+    Receives key config at within output two → Receives key config at within output (if b then one else two)
 receives-if key config at within output true one two f g = f
 receives-if key config at within output false one two f g = g
 
-established-receives : (key : TKey) (config : CallConfigView) (now : SnapshotView) (x : EstablishedLegs) (stage : Stage) (received : Signal) (c : Call) (output : StepOutput) → StageHasOtherKey key stage → InFlightHasOtherKeys key c.relayed → HasOtherKey key received →
+established-receives : (key : TKey) (config : CallConfigView) (now : SnapshotView) (x : EstablishedLegs) (stage : Stage) (received : Signal) (c : Call) (output : StepOutput) →
+    StageHasOtherKey key stage → InFlightHasOtherKeys key c.relayed → HasOtherKey key received →
     Receives key config now.at (is_reinvite received) output (step config now received (at_stage x stage c) output)
 unfolding step
 established-receives key config now x stage received c output a fly other =
     let d : Call = at_stage x stage c in
     let before : StepOutput = in_flight.output_after_dismissal config d output in
     receives-if key config now.at (is_reinvite received) output (leaves received d) _ _
-    (receives-after key config now.at (is_reinvite received) output before _ (dismissing-unseen key config d output fly) (transition-receives key config now x stage received (in_flight.without_in_flight c) before a tt other))
+    (receives-after key config now.at (is_reinvite received) output before _ (dismissing-unseen key config d output fly)
+    (transition-receives key config now x stage received (in_flight.without_in_flight c) before a tt other))
     (transition-receives key config now x stage received c output a fly other)
 
 -- ---- one that is over, and one whose leg is detached
 
 -- a signal only affects requests for which it does not wait
 abbrev ReceivesNone : Phase → Type 0
-ReceivesNone phase = (key : TKey) (config : CallConfigView) (now : SnapshotView) (received : Signal) (c : Call) (output : StepOutput) → InFlightHasOtherKeys key c.relayed → IsUnseen key output (transition config now received (record c { phase = phase }) output).output
+ReceivesNone phase = (key : TKey) (config : CallConfigView) (now : SnapshotView) (received : Signal) (c : Call) (output : StepOutput) → InFlightHasOtherKeys key c.relayed →
+    IsUnseen key output (transition config now received (record c { phase = phase }) output).output
 
-none-answered : (phase : Phase) → (key : TKey) (branch : Option (List ℕ)) (config : CallConfigView) (now : SnapshotView) (asked : TKey) (m : MessageView) (c : Call) (output : StepOutput) → InFlightHasOtherKeys key c.relayed →
+none-answered : (phase : Phase) → (key : TKey) (branch : Option (List ℕ)) (config : CallConfigView) (now : SnapshotView) (asked : TKey) (m : MessageView) (c : Call) (output : StepOutput) →
+    InFlightHasOtherKeys key c.relayed →
     ((branch : List ℕ) → Rattle.mmtel_call.specs.Table.is_current branch (record c { phase = phase }) ≡ false) → IsUnseen key output (on_response_to branch config now asked m (record c { phase = phase }) output).output
 none-answered phase key None config now asked m c output fly none = nothing key output
 none-answered phase key (Some branch) config now asked m c output fly none =
-    subst (λ b. IsUnseen key output (if b then Rattle.mmtel_call.specs.Table.response_in phase config now asked m (record c { phase = phase }) output else on_other_response config now.at asked m branch (record c { phase = phase }) output).output)
+    subst (λ b. IsUnseen key output (if b then Rattle.mmtel_call.specs.Table.response_in phase config now asked m (record c { phase = phase }) output
+    else on_other_response config now.at asked m branch (record c { phase = phase }) output).output)
     (sym (none branch)) (other-unseen key config now.at asked m branch (record c { phase = phase }) output fly)
 
 quiet-gone : (phase : Phase) → (key : TKey) (branch : Option (List ℕ)) (config : CallConfigView) (now : SnapshotView) (c : Call) (output : StepOutput) → InFlightHasOtherKeys key c.relayed →
     ((branch : List ℕ) → Rattle.mmtel_call.specs.Table.is_current branch (record c { phase = phase }) ≡ false) → IsUnseen key output (on_timeout_of branch config now (record c { phase = phase }) output).output
 quiet-gone phase key None config now c output fly none = nothing key output
 quiet-gone phase key (Some branch) config now c output fly none =
-    subst (λ b. IsUnseen key output (if b then Rattle.mmtel_call.specs.Table.timeout_in phase config now (record c { phase = phase }) output else on_other_timeout config branch (record c { phase = phase }) output).output)
+    subst
+    (λ b. IsUnseen key output (if b then Rattle.mmtel_call.specs.Table.timeout_in phase config now (record c { phase = phase }) output else on_other_timeout config branch (record c { phase = phase }) output).output)
     (sym (none branch)) (timed-out-unseen key config branch (record c { phase = phase }) output fly)
 
 detached-none : (detached : DetachedLeg) → ReceivesNone (Detached detached)
@@ -578,12 +638,14 @@ over-none cause key config now (signal.Due what) c output fly = nothing key outp
 over-none cause key config now (signal.Ended asked) c output fly = nothing key output
 
 -- on a signal that ends neither an attempt of it nor the call
-step-none : (phase : Phase) (key : TKey) (config : CallConfigView) (now : SnapshotView) (received : Signal) (c : Call) (output : StepOutput) → leaves received (record c { phase = phase }) ≡ false → IsUnseen key output (transition config now received (record c { phase = phase }) output).output →
+step-none : (phase : Phase) (key : TKey) (config : CallConfigView) (now : SnapshotView) (received : Signal) (c : Call) (output : StepOutput) → leaves received (record c { phase = phase }) ≡ false →
+    IsUnseen key output (transition config now received (record c { phase = phase }) output).output →
     IsUnseen key output (step config now received (record c { phase = phase }) output).output
 unfolding step
 step-none phase key config now received c output stays u =
     let d : Call = record c { phase = phase } in
-    subst (λ b. IsUnseen key output (if b then transition config now received (in_flight.without_in_flight d) (in_flight.output_after_dismissal config d output) else transition config now received d output).output) (sym stays) u
+    subst (λ b. IsUnseen key output (if b then transition config now received (in_flight.without_in_flight d) (in_flight.output_after_dismissal config d output) else transition config now received d output).output)
+    (sym stays) u
 
 -- ---- what was added
 
@@ -591,7 +653,8 @@ labels-added : (key : TKey) (before after : StepOutput) (signs : List Label) →
 labels-added key before after signs a =
     ap (λ (out : List Emit). labels_of key (drop (length before.out) out)) a.out ∙ ap (labels_of key) (drop_at before.out a.new (length before.out) refl) ∙ a.seen
 
-shows-none : (key : TKey) (received : Signal) (config : CallConfigView) (at : ℕ) (output : StepOutput) (s : StepResult) → Receives key config at (is_reinvite received) output s → labels_of_step key received (items_added output.out s.output.out) ≡ []
+shows-none : (key : TKey) (received : Signal) (config : CallConfigView) (at : ℕ) (output : StepOutput) (s : StepResult) → Receives key config at (is_reinvite received) output s →
+    labels_of_step key received (items_added output.out s.output.out) ≡ []
 shows-none key received config at output s h = ap (λ signs. if is_reinvite received then without_relayed_invite signs else signs) (labels-added key output s.output h.labels h.adds) ∙ h.none
 
 unseen-none : (key : TKey) (received : Signal) (output : StepOutput) (s : StepResult) → IsUnseen key output s.output → labels_of_step key received (items_added output.out s.output.out) ≡ []
@@ -601,16 +664,20 @@ unseen-none key received output s u = ap (λ signs. if is_reinvite received then
     none true = refl
     none false = refl
 
-later-none : (phase : Phase) (config : CallConfigView) (now : SnapshotView) (received : Signal) (c : Call) (output : StepOutput) (key : TKey) → is_offered phase ≡ false → PhaseHasOtherKey key phase → InFlightHasOtherKeys key c.relayed → HasOtherKey key received →
+later-none : (phase : Phase) (config : CallConfigView) (now : SnapshotView) (received : Signal) (c : Call) (output : StepOutput) (key : TKey) → is_offered phase ≡ false → PhaseHasOtherKey key phase →
+    InFlightHasOtherKeys key c.relayed → HasOtherKey key received →
     labels_of_step key received (items_added output.out (step config now received (record c { phase = phase }) output).output.out) ≡ []
 later-none (Offered x) config now received c output key h a fly other = absurd (let e : true ≡ false = h in cc)
 later-none (Established x stage) config now received c output key h a fly other = shows-none key received config now.at output _ (established-receives key config now x stage received c output a fly other)
 later-none (Detached detached) config now received c output key h a fly other =
-    unseen-none key received output (step config now received (record c { phase = Detached detached }) output) (step-none (Detached detached) key config now received c output (lowering.no-leaving detached received c) (detached-none detached key config now received c output fly))
+    unseen-none key received output (step config now received (record c { phase = Detached detached }) output)
+    (step-none (Detached detached) key config now received c output (lowering.no-leaving detached received c) (detached-none detached key config now received c output fly))
 later-none (Over cause) config now received c output key h a fly other =
-    unseen-none key received output (step config now received (record c { phase = Over cause }) output) (step-none (Over cause) key config now received c output (answering.no-leaving cause received c) (over-none cause key config now received c output fly))
+    unseen-none key received output (step config now received (record c { phase = Over cause }) output)
+    (step-none (Over cause) key config now received c output (answering.no-leaving cause received c) (over-none cause key config now received c output fly))
 
-ends-none : (phase : Phase) (config : CallConfigView) (at : ℕ) (c : Call) (output : StepOutput) (key : TKey) → InFlightHasOtherKeys key c.relayed → IsUnseen key output (finish_of_phase phase config at (record c { phase = phase }) output).output
+ends-none : (phase : Phase) (config : CallConfigView) (at : ℕ) (c : Call) (output : StepOutput) (key : TKey) → InFlightHasOtherKeys key c.relayed →
+    IsUnseen key output (finish_of_phase phase config at (record c { phase = phase }) output).output
 ends-none (Offered x) config at c output key fly = nothing key output
 ends-none (Established x stage) config at c output key fly = nothing key output
 ends-none (Detached detached) config at c output key fly =
@@ -619,7 +686,8 @@ ends-none (Detached detached) config at c output key fly =
     record { new = left.new; out = left.out; seen = left.seen }
 ends-none (Over cause) config at c output key fly = nothing key output
 
-finished-none : (config : CallConfigView) (at : ℕ) (c : Call) (output : StepOutput) (key : TKey) → InFlightHasOtherKeys key c.relayed → labels_of key (items_added output.out (call_finish config at c output).output.out) ≡ []
+finished-none : (config : CallConfigView) (at : ℕ) (c : Call) (output : StepOutput) (key : TKey) → InFlightHasOtherKeys key c.relayed →
+    labels_of key (items_added output.out (call_finish config at c output).output.out) ≡ []
 unfolding call_finish
 finished-none config at c output key fly = labels-added key output (finish_of_phase c.phase config at c output).output [] (ends-none c.phase config at c output key fly)
 
@@ -673,14 +741,16 @@ a-reply key asked m output =
 no-answer : (key : TKey) (before after : StepOutput) → IsUnseen key before after → Answers key before after
 no-answer key before after u = record { new = u.new; out = u.out; finals = subst AreFinals (sym u.seen) tt }
 
-refused_request-answers : (key : TKey) (config : CallConfigView) (c : Call) (asked : TKey) (m : MessageView) (fault : DialogueFault) (output : StepOutput) → Answers key output (with_refused_request config c asked m fault output)
+refused_request-answers : (key : TKey) (config : CallConfigView) (c : Call) (asked : TKey) (m : MessageView) (fault : DialogueFault) (output : StepOutput) →
+    Answers key output (with_refused_request config c asked m fault output)
 refused_request-answers key config c asked m (OldCSeq last) output = a-reply key asked _ output
 refused_request-answers key config c asked m Pending output = a-reply key asked _ output
 refused_request-answers key config c asked m Unfinished output = a-reply key asked _ output
 
 unlisted-answers : (key : TKey) (config : CallConfigView) (c : Call) (asked : TKey) (m : MessageView) (output : StepOutput) → Answers key output (with_unlisted_response config c asked m output)
 unlisted-answers key config c asked m output =
-    answers-if key output (is_method (codes "OPTIONS") m.parsed.start) (with_response_to config c asked m 200 (allow_lines (further_methods config)) output) (if is_method (codes "REFER") m.parsed.start then with_status_to config c asked m 403 output else with_status_to config c asked m 481 output) (a-reply key asked _ output)
+    answers-if key output (is_method (codes "OPTIONS") m.parsed.start) (with_response_to config c asked m 200 (allow_lines (further_methods config)) output)
+    (if is_method (codes "REFER") m.parsed.start then with_status_to config c asked m 403 output else with_status_to config c asked m 481 output) (a-reply key asked _ output)
     (answers-if key output (is_method (codes "REFER") m.parsed.start) (with_status_to config c asked m 403 output) (with_status_to config c asked m 481 output) (a-reply key asked _ output) (a-reply key asked _ output))
 
 gives-up-answers : (key : TKey) (config : CallConfigView) (at : ℕ) (x : OfferedAttempt) (asked : TKey) (m : MessageView) (c : Call) (output : StepOutput) →
@@ -695,17 +765,20 @@ gives-up-answers key config at x asked m c output =
 drawn-answers : (key : TKey) (output : StepOutput) (e : Emit) → label_of key e ≡ [] → Answers key output (with_emit e (after_draw output))
 drawn-answers key output e none = no-answer key output _ (adds-then key output (after_draw output) _ [] [] (unseen-drew key output) (adds-emit key (after_draw output) e [] none))
 
-acknowledging-answers : (key : TKey) (config : CallConfigView) (x : OfferedAttempt) (asked : TKey) (m : MessageView) (rack : Rack) (answer : Option ℕ) (c : Call) (output : StepOutput) → Answers key output (on_named_prack config x asked m rack answer c output).output
+acknowledging-answers : (key : TKey) (config : CallConfigView) (x : OfferedAttempt) (asked : TKey) (m : MessageView) (rack : Rack) (answer : Option ℕ) (c : Call) (output : StepOutput) →
+    Answers key output (on_named_prack config x asked m rack answer c output).output
 acknowledging-answers key config x asked m rack None c output = a-reply key asked _ output
 acknowledging-answers key config x asked m rack (Some answer) c output =
     let before : StepOutput = in_flight.with_settled config (Some rack.answer) c output in
     answers-then key output before _ (no-answer key output before (settled-unseen key config (Some rack.answer) c output)) (drawn-answers key before _ refl)
 
-rack-answers : (key : TKey) (config : CallConfigView) (x : OfferedAttempt) (asked : TKey) (m : MessageView) (rack : Option Rack) (c : Call) (output : StepOutput) → Answers key output (on_rack config x asked m rack c output).output
+rack-answers : (key : TKey) (config : CallConfigView) (x : OfferedAttempt) (asked : TKey) (m : MessageView) (rack : Option Rack) (c : Call) (output : StepOutput) →
+    Answers key output (on_rack config x asked m rack c output).output
 rack-answers key config x asked m None c output = a-reply key asked _ output
 rack-answers key config x asked m (Some rack) c output = acknowledging-answers key config x asked m rack (named_rseq x c rack) c output
 
-prack-answers : (key : TKey) (side : Side) (config : CallConfigView) (x : OfferedAttempt) (asked : TKey) (m : MessageView) (c : Call) (output : StepOutput) → Answers key output (on_prack_of side config x asked m c output).output
+prack-answers : (key : TKey) (side : Side) (config : CallConfigView) (x : OfferedAttempt) (asked : TKey) (m : MessageView) (c : Call) (output : StepOutput) →
+    Answers key output (on_prack_of side config x asked m c output).output
 prack-answers key Caller config x asked m c output = rack-answers key config x asked m (rack_in m) c output
 prack-answers key Callee config x asked m c output = a-reply key asked _ output
 
@@ -713,20 +786,24 @@ step-answers : (key : TKey) (before : StepOutput) (b : Bool) (one two : StepResu
 step-answers key before true one two p q = p
 step-answers key before false one two p q = q
 
-unless-answers : (key : TKey) (flying : Option Side) (config : CallConfigView) (x : OfferedAttempt) (side : Side) (asked : TKey) (m : MessageView) (c : Call) (output : StepOutput) → Answers key output (unless_updating flying (on_early_update config x side asked m) config side asked m c output).output
+unless-answers : (key : TKey) (flying : Option Side) (config : CallConfigView) (x : OfferedAttempt) (side : Side) (asked : TKey) (m : MessageView) (c : Call) (output : StepOutput) →
+    Answers key output (unless_updating flying (on_early_update config x side asked m) config side asked m c output).output
 unless-answers key None config x side asked m c output = drawn-answers key output _ refl
 unless-answers key (Some flying) config x side asked m c output = step-answers key output (is_same_side flying side) _ _ (a-reply key asked _ output) (a-reply key asked _ output)
 
-update-answers : (key : TKey) (config : CallConfigView) (x : OfferedAttempt) (side : Side) (asked : TKey) (m : MessageView) (c : Call) (output : StepOutput) → Answers key output (on_update config x side asked m c output).output
+update-answers : (key : TKey) (config : CallConfigView) (x : OfferedAttempt) (side : Side) (asked : TKey) (m : MessageView) (c : Call) (output : StepOutput) →
+    Answers key output (on_update config x side asked m c output).output
 update-answers key config x side asked m c output =
     step-answers key output (accepts_updates x) _ _ (unless-answers key (in_flight.updating_side c.relayed) config x side asked m c output) (a-reply key asked _ output)
 
-other-answers : (key : TKey) (config : CallConfigView) (x : OfferedAttempt) (side : Side) (asked : TKey) (m : MessageView) (c : Call) (output : StepOutput) → Answers key output (on_other config x side asked m c output).output
+other-answers : (key : TKey) (config : CallConfigView) (x : OfferedAttempt) (side : Side) (asked : TKey) (m : MessageView) (c : Call) (output : StepOutput) →
+    Answers key output (on_other config x side asked m c output).output
 other-answers key config x side asked m c output =
     step-answers key output (is_prack m) _ _ (prack-answers key side config x asked m c output)
     (step-answers key output (is_update m) _ _ (update-answers key config x side asked m c output) (unlisted-answers key config c asked m output))
 
-received-answers : (key : TKey) (config : CallConfigView) (at : ℕ) (x : OfferedAttempt) (side : Side) (asked : TKey) (m : MessageView) (c : Call) (output : StepOutput) → Answers key output (on_valid_request config at x side asked m c output).output
+received-answers : (key : TKey) (config : CallConfigView) (at : ℕ) (x : OfferedAttempt) (side : Side) (asked : TKey) (m : MessageView) (c : Call) (output : StepOutput) →
+    Answers key output (on_valid_request config at x side asked m c output).output
 received-answers key config at x Caller asked m c output =
     step-answers key output (is_bye m) _ _ (gives-up-answers key config at x asked m c output) (other-answers key config x Caller asked m c output)
 received-answers key config at x Callee asked m c output = other-answers key config x Callee asked m c output
@@ -758,7 +835,8 @@ finals-all key true before after a =
     let new : items_added before.out after.out ≡ a.new = ap (λ (out : List Emit). drop (length before.out) out) a.out ∙ drop_at before.out a.new (length before.out) refl in
     all-count (labels_of key (items_added before.out after.out)) (subst (λ out. AreFinals (labels_of key out)) (sym new) a.finals)
 
-transition-answers : (key : TKey) (config : CallConfigView) (now : SnapshotView) (x : OfferedAttempt) (side : Side) (asked : TKey) (request : MessageView) (c : Call) (output : StepOutput) → Answers key output (transition config now (signal.Request side asked request) (record c { phase = Offered x }) output).output
+transition-answers : (key : TKey) (config : CallConfigView) (now : SnapshotView) (x : OfferedAttempt) (side : Side) (asked : TKey) (request : MessageView) (c : Call) (output : StepOutput) →
+    Answers key output (transition config now (signal.Request side asked request) (record c { phase = Offered x }) output).output
 unfolding transition
 transition-answers key config now x side asked request c output = request-answers key (offered_request_check x side request) config now.at x side asked request (record c { phase = Offered x }) output
 
@@ -769,10 +847,12 @@ offered-answers key config now x side asked request c output =
     let d : Call = record c { phase = Offered x } in
     let before : StepOutput = in_flight.output_after_dismissal config d output in
     step-answers key output (leaves (signal.Request side asked request) d) _ _
-    (answers-then key output before _ (dismissing-answers key config d output) (transition-answers key config now x side asked request (in_flight.without_in_flight c) before)) (transition-answers key config now x side asked request c output)
+    (answers-then key output before _ (dismissing-answers key config d output) (transition-answers key config now x side asked request (in_flight.without_in_flight c) before))
+    (transition-answers key config now x side asked request c output)
 
 offered-all : (phase : Phase) (config : CallConfigView) (now : SnapshotView) (received : Signal) (c : Call) (output : StepOutput) (key : TKey) → is_offered phase ≡ true →
-    labels_of_step key received (items_added output.out (step config now received (record c { phase = phase }) output).output.out) ≡ labels_of key (items_added output.out (step config now received (record c { phase = phase }) output).output.out)
+    labels_of_step key received (items_added output.out (step config now received (record c { phase = phase }) output).output.out)
+    ≡ labels_of key (items_added output.out (step config now received (record c { phase = phase }) output).output.out)
 offered-all (Offered x) config now (signal.Request side asked request) c output key h = finals-all key (is_invite request) output _ (offered-answers key config now x side asked request c output)
 offered-all (Offered x) config now (signal.Ack side ack) c output key h = refl
 offered-all (Offered x) config now (signal.Cancel asked cancel invite) c output key h = refl
@@ -820,7 +900,8 @@ divert-asks key (suc left) config now caller service due c output =
     unless-asks key (diversion_refusal (suc left) config now.at service due c) onward config now.at caller c output
     (target-asks key left config now caller (divert-asks key left config now caller) (Some due.cause) target next (with_notification_of config due next output))
 
-refused-asks : (key : TKey) (config : CallConfigView) (at : ℕ) (caller : Leg) (service : Option Service) (m : Option MessageView) (cause : Cause) (c : Call) (output : StepOutput) → Asks key (relayed_refusal config at caller service m cause c output)
+refused-asks : (key : TKey) (config : CallConfigView) (at : ℕ) (caller : Leg) (service : Option Service) (m : Option MessageView) (cause : Cause) (c : Call) (output : StepOutput) →
+    Asks key (relayed_refusal config at caller service m cause c output)
 refused-asks key config at caller service None cause c output = tt
 refused-asks key config at caller service (Some m) cause c output = go (is_status (status_of m.parsed.start) (relayed_status cause))
   where
@@ -828,12 +909,15 @@ refused-asks key config at caller service (Some m) cause c output = go (is_statu
     go true = tt
     go false = tt
 
-after-asks : (key : TKey) (config : CallConfigView) (now : SnapshotView) (caller : Leg) (service : Option Service) (m : Option MessageView) (after : StepAfterAttemptView) (c : Call) (output : StepOutput) → Asks key (on_end config now caller service m after c output)
+after-asks :
+    (key : TKey) (config : CallConfigView) (now : SnapshotView) (caller : Leg) (service : Option Service) (m : Option MessageView) (after : StepAfterAttemptView) (c : Call) (output : StepOutput) →
+    Asks key (on_end config now caller service m after c output)
 after-asks key config now caller service m EndAnswered c output = tt
 after-asks key config now caller service m (EndDivert due) c output = divert-asks key c.diversions.remaining config now caller service due c output
 after-asks key config now caller service m (EndRefuse cause) c output = refused-asks key config now.at caller service m cause c output
 
-attempt-step-asks : (key : TKey) (P : Type 0) (config : CallConfigView) (now : SnapshotView) (x : OfferedAttempt) (c : Call) (before : StepOutput) (end : Option AttemptEndView) (s : StepResult) → faring.AttemptStep P config now x c before end s → Asks key s
+attempt-step-asks : (key : TKey) (P : Type 0) (config : CallConfigView) (now : SnapshotView) (x : OfferedAttempt) (c : Call) (before : StepOutput) (end : Option AttemptEndView) (s : StepResult) →
+    faring.AttemptStep P config now x c before end s → Asks key s
 attempt-step-asks key P config now x c before end s (faring.Rings e y r) = subst (PhaseHasOtherKey key) (sym r.phase) tt
 attempt-step-asks key P config now x c before end s (faring.Answers e y stage r) = subst (PhaseHasOtherKey key) (sym r.phase) (r.awaits key)
 attempt-step-asks key P config now x c before end s (faring.GivesUp by_caller e y d output r) = subst (Asks key) (sym r.is) tt
@@ -849,7 +933,8 @@ unfolding call_after_opening
 first-asks s key =
     let c = new_call s.config (opening_in s) in opens-asks key (opening_refusal s.config s.now.at (opening_in s)) s.config s.now (caller_of s.now.at c) c (with_status_to_caller s.config c 100 (after_draw s.output))
 
-step-asks : (phase : Phase) (config : CallConfigView) (now : SnapshotView) (received : Signal) (c : Call) (output : StepOutput) (key : TKey) → PhaseHasOtherKey key phase → InFlightHasOtherKeys key c.relayed → HasOtherKey key received →
+step-asks : (phase : Phase) (config : CallConfigView) (now : SnapshotView) (received : Signal) (c : Call) (output : StepOutput) (key : TKey) → PhaseHasOtherKey key phase →
+    InFlightHasOtherKeys key c.relayed → HasOtherKey key received →
     Asks key (step config now received (record c { phase = phase }) output)
 step-asks (Offered x) config now received c output key a fly other =
     attempt-step-asks key (faring.IsOwn c received) config now x (faring.offered x c) output (end_in (Offered x) (faring.offered x c) received) _ (faring.attempt-step config now x received c output)

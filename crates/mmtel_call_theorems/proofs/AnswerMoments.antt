@@ -16,7 +16,8 @@ use Rattle.mmtel_call_services.specs.Opening.{initial_target, opening_refusal}
 use Rattle.mmtel_call_services.specs.CallConfig.{CallConfigView}
 use Rattle.mmtel_call_services.specs.declared.openings.Service.{Service}
 use Rattle.mmtel_call.specs.Closing.{StepResult, call_end, with_past}
-use Rattle.mmtel_call.specs.Diverting.{after_attempt, at_target, call_after_diversion, call_refusal, diversion_refusal, diversion_step, diversion_unless_refused, divert, is_diverted, on_end, on_next_step, relayed_refusal, with_notification_of, with_unoffered_meter}
+use Rattle.mmtel_call.specs.Diverting.{after_attempt, at_target, call_after_diversion, call_refusal, diversion_refusal, diversion_step, diversion_unless_refused}
+use Rattle.mmtel_call.specs.Diverting.{divert, is_diverted, on_end, on_next_step, relayed_refusal, with_notification_of, with_unoffered_meter}
 use Rattle.mmtel_call.specs.Opening.{call_after_opening, caller_of, new_call, unless_refused}
 use Rattle.mmtel_call.specs.Sending.{with_relay_to_caller, with_status_to_caller}
 use Rattle.mmtel_call.specs.declared.calls.Call.{Call}
@@ -38,24 +39,28 @@ abbrev DivertKeeps : ℕ → CallConfigView → SnapshotView → Leg → Type 0
 DivertKeeps left config now caller = (service : Option Service) (due : DueDiversionView) (c : Call) (output : StepOutput) → Keeps c.answered (divert left config now caller service due c output)
 
 next-step-keeps : (left : ℕ) (config : CallConfigView) (now : SnapshotView) (caller : Leg) → DivertKeeps left config now caller →
-    (service : Option Service) (cause : Option ℕ) (target : Target) (turn : NextStepView) (c : Call) (output : StepOutput) → Keeps c.answered (on_next_step (divert left config now caller) config now.at caller service cause target turn c output)
+    (service : Option Service) (cause : Option ℕ) (target : Target) (turn : NextStepView) (c : Call) (output : StepOutput) →
+    Keeps c.answered (on_next_step (divert left config now caller) config now.at caller service cause target turn c output)
 next-step-keeps left config now caller later service cause target (StepOffer peer waiting) c output = refl
 next-step-keeps left config now caller later service cause target (StepDivert due) c output = later service due (with_unoffered_meter now.at service c) output
 next-step-keeps left config now caller later service cause target (StepRefuse why) c output = refl
 
-unless-keeps : (answered : Option ℕ) (refusal : Option Cause) (onward : Call → StepOutput → StepResult) (config : CallConfigView) (at : ℕ) (caller : Leg) (c : Call) (output : StepOutput) → c.answered ≡ answered → Keeps answered (onward c output) →
+unless-keeps : (answered : Option ℕ) (refusal : Option Cause) (onward : Call → StepOutput → StepResult) (config : CallConfigView) (at : ℕ) (caller : Leg) (c : Call) (output : StepOutput) →
+    c.answered ≡ answered → Keeps answered (onward c output) →
     Keeps answered (diversion_unless_refused refusal onward config at caller c output)
 unless-keeps answered (Some why) onward config at caller c output e keeps = e
 unless-keeps answered None onward config at caller c output e keeps = keeps
 
-target-keeps : (left : ℕ) (config : CallConfigView) (now : SnapshotView) (caller : Leg) → DivertKeeps left config now caller → (cause : Option ℕ) (target : Target) (c : Call) (output : StepOutput) → Keeps c.answered (at_target (divert left config now caller) config now caller cause target c output)
+target-keeps : (left : ℕ) (config : CallConfigView) (now : SnapshotView) (caller : Leg) → DivertKeeps left config now caller → (cause : Option ℕ) (target : Target) (c : Call) (output : StepOutput) →
+    Keeps c.answered (at_target (divert left config now caller) config now caller cause target c output)
 target-keeps left config now caller later cause target c output =
     next-step-keeps left config now caller later (service_at config now c.opening cause target) cause target
     (decision_at config now c.opening (is_diverted c) cause target (service_at config now c.opening cause target) (peer_for config c.opening target)) c output
 
 divert-keeps : (left : ℕ) (config : CallConfigView) (now : SnapshotView) (caller : Leg) → DivertKeeps left config now caller
 unfolding divert
-divert-keeps zero config now caller service due c output = unless-keeps c.answered (diversion_refusal 0 config now.at service due c) (call_refusal config now.at caller (too_many due.cause)) config now.at caller c output refl refl
+divert-keeps zero config now caller service due c output =
+    unless-keeps c.answered (diversion_refusal 0 config now.at service due c) (call_refusal config now.at caller (too_many due.cause)) config now.at caller c output refl refl
 divert-keeps (suc left) config now caller service due c output =
     let target = diversion_target config due in
     let next = call_after_diversion target now.at left service due c in
@@ -63,7 +68,8 @@ divert-keeps (suc left) config now caller service due c output =
     unless-keeps c.answered (diversion_refusal (suc left) config now.at service due c) onward config now.at caller c output refl
     (target-keeps left config now caller (divert-keeps left config now caller) (Some due.cause) target next (with_notification_of config due next output))
 
-refused-keeps : (config : CallConfigView) (at : ℕ) (caller : Leg) (service : Option Service) (m : Option MessageView) (cause : Cause) (c : Call) (output : StepOutput) → Keeps c.answered (relayed_refusal config at caller service m cause c output)
+refused-keeps : (config : CallConfigView) (at : ℕ) (caller : Leg) (service : Option Service) (m : Option MessageView) (cause : Cause) (c : Call) (output : StepOutput) →
+    Keeps c.answered (relayed_refusal config at caller service m cause c output)
 refused-keeps config at caller service None cause c output = refl
 refused-keeps config at caller service (Some m) cause c output = go (is_status (status_of m.parsed.start) (relayed_status cause))
   where
@@ -71,12 +77,14 @@ refused-keeps config at caller service (Some m) cause c output = go (is_status (
     go true = refl
     go false = refl
 
-after-keeps : (config : CallConfigView) (now : SnapshotView) (caller : Leg) (service : Option Service) (m : Option MessageView) (after : StepAfterAttemptView) (c : Call) (output : StepOutput) → Keeps c.answered (on_end config now caller service m after c output)
+after-keeps : (config : CallConfigView) (now : SnapshotView) (caller : Leg) (service : Option Service) (m : Option MessageView) (after : StepAfterAttemptView) (c : Call) (output : StepOutput) →
+    Keeps c.answered (on_end config now caller service m after c output)
 after-keeps config now caller service m EndAnswered c output = refl
 after-keeps config now caller service m (EndDivert due) c output = divert-keeps c.diversions.remaining config now caller service due c output
 after-keeps config now caller service m (EndRefuse cause) c output = refused-keeps config now.at caller service m cause c output
 
-on-keeps : (config : CallConfigView) (now : SnapshotView) (x : OfferedAttempt) (how : AttemptEndView) (m : Option MessageView) (c : Call) (output : StepOutput) → Keeps c.answered (after_attempt config now x how m c output)
+on-keeps : (config : CallConfigView) (now : SnapshotView) (x : OfferedAttempt) (how : AttemptEndView) (m : Option MessageView) (c : Call) (output : StepOutput) →
+    Keeps c.answered (after_attempt config now x how m c output)
 on-keeps config now x how m c output = after-keeps config now x.caller x.attempt.service m (decision_after c.opening now.at (is_diverted c) x.attempt.service how) (with_past x.callee.leg.meter c) output
 
 -- ---- one more ending
@@ -116,7 +124,9 @@ Adds before ends now s = answer_moment ends ≡ before → s.call.answered ≡ a
 adds-nothing : (c : Call) (ends now : List EndedAttempt) (s : StepResult) → now ≡ [] → s.call.answered ≡ c.answered → Adds c.answered ends now s
 adds-nothing c ends now s none same told = same ∙ sym told ∙ ap answer_moment (sym (append-nil ends)) ∙ ap (λ l. answer_moment (ends ++ l)) (sym none)
 
-attempt-step-adds : (P : Type 0) (config : CallConfigView) (now : SnapshotView) (x : OfferedAttempt) (c : Call) (before : StepOutput) (end : Option AttemptEndView) (s : StepResult) (ends : List EndedAttempt) → faring.AttemptStep P config now x c before end s → Adds c.answered ends (ends_by now.at end) s
+attempt-step-adds :
+    (P : Type 0) (config : CallConfigView) (now : SnapshotView) (x : OfferedAttempt) (c : Call) (before : StepOutput) (end : Option AttemptEndView) (s : StepResult) (ends : List EndedAttempt) →
+    faring.AttemptStep P config now x c before end s → Adds c.answered ends (ends_by now.at end) s
 attempt-step-adds P config now x c before end s ends (faring.Rings e y r) told = adds-nothing c ends (ends_by now.at end) s (ap (ends_by now.at) e) r.same.answered told
 attempt-step-adds P config now x c before end s ends (faring.Answers e y stage r) told = r.answered ∙ sym (answer-more ends (ending_at now.at Answer)) ∙ ap (λ end. answer_moment (ends ++ ends_by now.at end)) (sym e)
 attempt-step-adds P config now x c before end s ends (faring.GivesUp by_caller e y d output r) told =
@@ -127,13 +137,15 @@ attempt-step-adds P config now x c before end s ends (faring.GoesOn how e m d ou
     ap (λ (s : StepResult). s.call.answered) r.is ∙ on-keeps config now x how m d output ∙ r.same.answered ∙ sym told
     ∙ ap (λ one. last_or one (answer_moment ends)) (sym (failed-answer how now.at r.unanswered)) ∙ sym (answer-more ends (ending_at now.at how)) ∙ ap (λ end. answer_moment (ends ++ ends_by now.at end)) (sym e)
 
-goes-keeps : (at : ℕ) (x : Rattle.mmtel_call.specs.declared.calls.EstablishedLegs.EstablishedLegs) (c : Call) (rows : List Rattle.mmtel_charging.specs.declared.rows.Row.Row) (s : StepResult) → answering.ContinuesOrEnds at x c rows s → s.call.answered ≡ c.answered
+goes-keeps : (at : ℕ) (x : Rattle.mmtel_call.specs.declared.calls.EstablishedLegs.EstablishedLegs) (c : Call) (rows : List Rattle.mmtel_charging.specs.declared.rows.Row.Row) (s : StepResult) →
+    answering.ContinuesOrEnds at x c rows s → s.call.answered ≡ c.answered
 goes-keeps at x c rows s (answering.Continues y stage r) = r.same.answered
 goes-keeps at x c rows s (answering.Ends y d output r) = ap (λ (s : StepResult). s.call.answered) r.is ∙ r.same.answered
 
 in-phase-adds : (phase : Phase) (s : TraceStart) (x : TraceStep) (c : Call) (ends : List EndedAttempt) → Adds c.answered ends (ending_by x (record c { phase = phase })) (next_step s x (record c { phase = phase }))
 in-phase-adds (Offered trial) s x c ends =
-    attempt-step-adds (faring.IsOwn c x.signal) s.config x.now trial (faring.offered trial c) x.output (end_in (Offered trial) (faring.offered trial c) x.signal) (next_step s x (faring.offered trial c)) ends (faring.attempt-step s.config x.now trial x.signal c x.output)
+    attempt-step-adds (faring.IsOwn c x.signal) s.config x.now trial (faring.offered trial c) x.output (end_in (Offered trial) (faring.offered trial c) x.signal)
+    (next_step s x (faring.offered trial c)) ends (faring.attempt-step s.config x.now trial x.signal c x.output)
 in-phase-adds (Established pair stage) s x c ends =
     let new = next_step s x (record c { phase = Established pair stage }) in
     adds-nothing c ends [] new refl (goes-keeps x.now.at pair c x.output.rows new (answering.goes s.config x.now pair stage x.signal c x.output))
@@ -148,7 +160,8 @@ begins-keeps (Some cause) config now c output = refl
 
 opens-keeps : (s : TraceStart) → (first_step s).call.answered ≡ None
 unfolding call_after_opening
-opens-keeps s = begins-keeps (opening_refusal s.config s.now.at (opening_in s)) s.config s.now (new_call s.config (opening_in s)) (with_status_to_caller s.config (new_call s.config (opening_in s)) 100 (Rattle.mmtel_output.specs.Outputs.after_draw s.output))
+opens-keeps s = begins-keeps (opening_refusal s.config s.now.at (opening_in s)) s.config s.now (new_call s.config (opening_in s))
+    (with_status_to_caller s.config (new_call s.config (opening_in s)) 100 (Rattle.mmtel_output.specs.Outputs.after_draw s.output))
 
 pub answer-observed : (s : TraceStart) (received : List TraceStep) → (call_after s received).answered ≡ answer_moment (endings_after s received)
 unfolding call_after endings_after

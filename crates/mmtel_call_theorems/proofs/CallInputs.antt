@@ -167,7 +167,9 @@ none-left c (Some sheet) count due e = go (bars_outgoing c sheet) e
     go false same = let is : Some (too_many due.cause) ≡ None = sym (bound-refuses count due.cause due.bound) ∙ same in cc
 
 -- by the account that is served at a target, where this many were made and this many are left
-pub refusal-known : (config : CallConfigView) (first : SnapshotView) (o : Opening) (later : ℕ → SnapshotView) (at done left count : ℕ) (reach : ReachedTargetView) (service : Option Service) (due : DueDiversionView) → IsKnown first o →
+pub refusal-known :
+    (config : CallConfigView) (first : SnapshotView) (o : Opening) (later : ℕ → SnapshotView) (at done left count : ℕ) (reach : ReachedTargetView) (service : Option Service) (due : DueDiversionView) →
+    IsKnown first o →
     turns.sheet_of reach ≡ service_sheet service → left + done ≡ config.bound - received_diversions o → count ≡ received_diversions o + done →
     decisions.refusal_of_diversion config o at count left service due
     ≡ refusal_before_diversion (targets.target_facts (call_inputs_of config first o later) at (target_uri config due)) (Some (account_at reach).sheet) (received_diversions o) done config.bound due

@@ -60,11 +60,13 @@ goes-if : (at : ℕ) (x : EstablishedLegs) (c : Call) (rows : List Row) (b : Boo
 goes-if at x c rows true s s2 f g = f
 goes-if at x c rows false s s2 f g = g
 
-stays-established : (at : ℕ) (x : EstablishedLegs) (c : Call) (rows : List Row) (y : EstablishedLegs) (stage : Stage) (output : StepOutput) → y.caller.meter ≡ x.caller.meter → y.callee.meter ≡ x.callee.meter → output.rows ≡ rows →
+stays-established : (at : ℕ) (x : EstablishedLegs) (c : Call) (rows : List Row) (y : EstablishedLegs) (stage : Stage) (output : StepOutput) → y.caller.meter ≡ x.caller.meter →
+    y.callee.meter ≡ x.callee.meter → output.rows ≡ rows →
     ContinuesOrEnds at x c rows (step_result (at_stage y stage c) output)
 stays-established at x c rows y stage output e f g = Continues y stage (record { phase = refl; same = record { opening = refl; diversions = refl; answered = refl; past = refl }; caller = e; callee = f; none = g })
 
-ends-now : (at : ℕ) (x : EstablishedLegs) (c : Call) (rows : List Row) (y : EstablishedLegs) (stage : Stage) (output : StepOutput) → y.caller.meter ≡ x.caller.meter → y.callee.meter ≡ x.callee.meter → output.rows ≡ rows →
+ends-now : (at : ℕ) (x : EstablishedLegs) (c : Call) (rows : List Row) (y : EstablishedLegs) (stage : Stage) (output : StepOutput) → y.caller.meter ≡ x.caller.meter →
+    y.callee.meter ≡ x.callee.meter → output.rows ≡ rows →
     ContinuesOrEnds at x c rows (established_call_end at y (at_stage y stage c) output)
 ends-now at x c rows y stage output e f g = Ends y (at_stage y stage c) output (record { is = refl; same = record { opening = refl; diversions = refl; answered = refl; past = refl }; caller = e; callee = f; none = g })
 
@@ -74,7 +76,8 @@ untouched-established at x stage c rows s u =
 
 -- ---- requests
 
-invite-goes : (stage : Stage) (config : CallConfigView) (at : ℕ) (x y : EstablishedLegs) (side : Side) (key : TKey) (m : MessageView) (c : Call) (output : StepOutput) → y.caller.meter ≡ x.caller.meter → y.callee.meter ≡ x.callee.meter →
+invite-goes : (stage : Stage) (config : CallConfigView) (at : ℕ) (x y : EstablishedLegs) (side : Side) (key : TKey) (m : MessageView) (c : Call) (output : StepOutput) →
+    y.caller.meter ≡ x.caller.meter → y.callee.meter ≡ x.callee.meter →
     ContinuesOrEnds at x c output.rows (on_invite stage config y side key m (at_stage y stage c) output)
 invite-goes (Answered waiting success) config at x y side key m c output e f = stays-established at x c output.rows y (Answered waiting success) output e f refl
 invite-goes (Departing waiting success) config at x y side key m c output e f = stays-established at x c output.rows y (Departing waiting success) output e f refl
@@ -82,7 +85,8 @@ invite-goes Stable config at x y Caller key m c output e f = Continues _ _ (reco
 invite-goes Stable config at x y Callee key m c output e f = Continues _ _ (record { phase = refl; same = record { opening = refl; diversions = refl; answered = refl; past = refl }; caller = e; callee = f; none = refl })
 invite-goes (Reinviting asking q) config at x y side key m c output e f = stays-established at x c output.rows y (Reinviting asking q) output e f refl
 
-bye-goes : (stage : Stage) (config : CallConfigView) (at : ℕ) (x y : EstablishedLegs) (side : Side) (key : TKey) (m : MessageView) (c : Call) (output : StepOutput) → y.caller.meter ≡ x.caller.meter → y.callee.meter ≡ x.callee.meter →
+bye-goes : (stage : Stage) (config : CallConfigView) (at : ℕ) (x y : EstablishedLegs) (side : Side) (key : TKey) (m : MessageView) (c : Call) (output : StepOutput) → y.caller.meter ≡ x.caller.meter →
+    y.callee.meter ≡ x.callee.meter →
     ContinuesOrEnds at x c output.rows (on_bye stage config at y side key m (at_stage y stage c) output)
 bye-goes (Answered waiting success) config at x y side key m c output e f =
     goes-if at x c output.rows (is_same_side waiting side) _ _
@@ -95,28 +99,35 @@ bye-goes (Departing waiting success) config at x y side key m c output e f =
 bye-goes Stable config at x y side key m c output e f =
     Ends y (at_stage y Stable c) _ (record { is = refl; same = record { opening = refl; diversions = refl; answered = refl; past = refl }; caller = e; callee = f; none = refl })
 bye-goes (Reinviting asking q) config at x y side key m c output e f =
-    Ends y (with_abandoned (abandoned_across y asking side q) (at_stage y (Reinviting asking q) c)) _ (record { is = refl; same = record { opening = refl; diversions = refl; answered = refl; past = refl }; caller = e; callee = f; none = refl })
+    Ends y (with_abandoned (abandoned_across y asking side q) (at_stage y (Reinviting asking q) c)) _
+    (record { is = refl; same = record { opening = refl; diversions = refl; answered = refl; past = refl }; caller = e; callee = f; none = refl })
 
-unless-goes : (flying : Option Side) (f : Call → StepOutput → StepResult) (config : CallConfigView) (at : ℕ) (x y : EstablishedLegs) (stage : Stage) (side : Side) (key : TKey) (m : MessageView) (c : Call) (output : StepOutput) → y.caller.meter ≡ x.caller.meter →
+unless-goes : (flying : Option Side) (f : Call → StepOutput → StepResult) (config : CallConfigView) (at : ℕ) (x y : EstablishedLegs) (stage : Stage) (side : Side) (key : TKey) (m : MessageView)
+    (c : Call) (output : StepOutput) → y.caller.meter ≡ x.caller.meter →
     y.callee.meter ≡ x.callee.meter →
     ContinuesOrEnds at x c output.rows (f (at_stage y stage c) output) → ContinuesOrEnds at x c output.rows (unless_updating flying f config side key m (at_stage y stage c) output)
 unless-goes None f config at x y stage side key m c output e f2 goes = goes
 unless-goes (Some other) f config at x y stage side key m c output e f2 goes =
-    goes-if at x c output.rows (is_same_side other side) (on_early_retry config key m (at_stage y stage c) output) (on_glare config key m (at_stage y stage c) output) (stays-established at x c output.rows y stage _ e f2 refl) (stays-established at x c output.rows y stage _ e f2 refl)
+    goes-if at x c output.rows (is_same_side other side) (on_early_retry config key m (at_stage y stage c) output) (on_glare config key m (at_stage y stage c) output)
+    (stays-established at x c output.rows y stage _ e f2 refl) (stays-established at x c output.rows y stage _ e f2 refl)
 
-update-goes : (stage : Stage) (config : CallConfigView) (at : ℕ) (x y : EstablishedLegs) (side : Side) (key : TKey) (m : MessageView) (c : Call) (output : StepOutput) → y.caller.meter ≡ x.caller.meter → y.callee.meter ≡ x.callee.meter →
+update-goes : (stage : Stage) (config : CallConfigView) (at : ℕ) (x y : EstablishedLegs) (side : Side) (key : TKey) (m : MessageView) (c : Call) (output : StepOutput) →
+    y.caller.meter ≡ x.caller.meter → y.callee.meter ≡ x.callee.meter →
     ContinuesOrEnds at x c output.rows (on_update_at stage config y side key m (at_stage y stage c) output)
 update-goes (Answered waiting success) config at x y side key m c output e f = stays-established at x c output.rows y (Answered waiting success) _ e f refl
 update-goes (Departing waiting success) config at x y side key m c output e f = stays-established at x c output.rows y (Departing waiting success) _ e f refl
 update-goes Stable config at x y Caller key m c output e f =
     unless-goes (updating_side c.relayed) (on_stable_update config y Caller key m) config at x y Stable Caller key m c output e f
-    (Continues (with_leg Callee (leg_after_request (codes "UPDATE") y.callee) y) Stable (record { phase = refl; same = record { opening = refl; diversions = refl; answered = refl; past = refl }; caller = e; callee = f; none = refl }))
+    (Continues (with_leg Callee (leg_after_request (codes "UPDATE") y.callee) y) Stable
+    (record { phase = refl; same = record { opening = refl; diversions = refl; answered = refl; past = refl }; caller = e; callee = f; none = refl }))
 update-goes Stable config at x y Callee key m c output e f =
     unless-goes (updating_side c.relayed) (on_stable_update config y Callee key m) config at x y Stable Callee key m c output e f
-    (Continues (with_leg Caller (leg_after_request (codes "UPDATE") y.caller) y) Stable (record { phase = refl; same = record { opening = refl; diversions = refl; answered = refl; past = refl }; caller = e; callee = f; none = refl }))
+    (Continues (with_leg Caller (leg_after_request (codes "UPDATE") y.caller) y) Stable
+    (record { phase = refl; same = record { opening = refl; diversions = refl; answered = refl; past = refl }; caller = e; callee = f; none = refl }))
 update-goes (Reinviting asking q) config at x y side key m c output e f = stays-established at x c output.rows y (Reinviting asking q) _ e f refl
 
-received-goes : (stage : Stage) (config : CallConfigView) (at : ℕ) (x y : EstablishedLegs) (side : Side) (key : TKey) (m : MessageView) (c : Call) (output : StepOutput) → y.caller.meter ≡ x.caller.meter → y.callee.meter ≡ x.callee.meter →
+received-goes : (stage : Stage) (config : CallConfigView) (at : ℕ) (x y : EstablishedLegs) (side : Side) (key : TKey) (m : MessageView) (c : Call) (output : StepOutput) →
+    y.caller.meter ≡ x.caller.meter → y.callee.meter ≡ x.callee.meter →
     ContinuesOrEnds at x c output.rows (on_valid_request_at stage config at y side key m (at_stage y stage c) output)
 received-goes stage config at x y side key m c output e f =
     let none : StepResult = step_result (at_stage y stage c) (with_unlisted_response config (at_stage y stage c) key m output) in
@@ -132,11 +143,13 @@ check-goes : (said : Result (Unit {0}) DialogueFault) (stage : Stage) (config : 
     ContinuesOrEnds at x c output.rows (on_request_at_if said stage config at x side key m (at_stage x stage c) output)
 check-goes (Ok received) stage config at x Caller key m c output = received-goes stage config at x (with_leg Caller (leg_after_receiving (leg_of Caller x) m) x) Caller key m c output refl refl
 check-goes (Ok received) stage config at x Callee key m c output = received-goes stage config at x (with_leg Callee (leg_after_receiving (leg_of Callee x) m) x) Callee key m c output refl refl
-check-goes (Err fault) stage config at x side key m c output = stays-established at x c output.rows x stage (with_refused_request config (at_stage x stage c) key m fault output) refl refl (refused_request-rows config (at_stage x stage c) key m fault output)
+check-goes (Err fault) stage config at x side key m c output =
+    stays-established at x c output.rows x stage (with_refused_request config (at_stage x stage c) key m fault output) refl refl (refused_request-rows config (at_stage x stage c) key m fault output)
 
 -- ---- ACK, CANCEL, deadlines, timeouts
 
-ack-goes : (stage : Stage) (config : CallConfigView) (at : ℕ) (x : EstablishedLegs) (side : Side) (m : MessageView) (c : Call) (output : StepOutput) → ContinuesOrEnds at x c output.rows (on_ack_at stage config at x side m (at_stage x stage c) output)
+ack-goes : (stage : Stage) (config : CallConfigView) (at : ℕ) (x : EstablishedLegs) (side : Side) (m : MessageView) (c : Call) (output : StepOutput) →
+    ContinuesOrEnds at x c output.rows (on_ack_at stage config at x side m (at_stage x stage c) output)
 ack-goes (Answered waiting success) config at x side m c output =
     goes-if at x c output.rows (acknowledges waiting success side m) _ _
     (Continues x Stable (record { phase = refl; same = record { opening = refl; diversions = refl; answered = refl; past = refl }; caller = refl; callee = refl; none = refl }))
@@ -148,7 +161,8 @@ ack-goes (Departing waiting success) config at x side m c output =
 ack-goes Stable config at x side m c output = stays-established at x c output.rows x Stable output refl refl refl
 ack-goes (Reinviting asking q) config at x side m c output = stays-established at x c output.rows x (Reinviting asking q) output refl refl refl
 
-cancel-goes : (stage : Stage) (config : CallConfigView) (at : ℕ) (x : EstablishedLegs) (invite : TKey) (c : Call) (rows : List Row) (output : StepOutput) → output.rows ≡ rows → ContinuesOrEnds at x c rows (on_cancel_at stage config x invite (at_stage x stage c) output)
+cancel-goes : (stage : Stage) (config : CallConfigView) (at : ℕ) (x : EstablishedLegs) (invite : TKey) (c : Call) (rows : List Row) (output : StepOutput) → output.rows ≡ rows →
+    ContinuesOrEnds at x c rows (on_cancel_at stage config x invite (at_stage x stage c) output)
 cancel-goes (Answered waiting success) config at x invite c rows output e = stays-established at x c rows x (Answered waiting success) output refl refl e
 cancel-goes (Departing waiting success) config at x invite c rows output e = stays-established at x c rows x (Departing waiting success) output refl refl e
 cancel-goes Stable config at x invite c rows output e = stays-established at x c rows x Stable output refl refl e
@@ -165,7 +179,8 @@ rung-goes (Departing waiting success) config at x c output =
 rung-goes Stable config at x c output =
     Ends x (at_stage x Stable c) _ (record { is = refl; same = record { opening = refl; diversions = refl; answered = refl; past = refl }; caller = refl; callee = refl; none = refl })
 rung-goes (Reinviting asking q) config at x c output =
-    Ends x (with_abandoned (abandoned_across x asking asking q) (at_stage x (Reinviting asking q) c)) _ (record { is = refl; same = record { opening = refl; diversions = refl; answered = refl; past = refl }; caller = refl; callee = refl; none = refl })
+    Ends x (with_abandoned (abandoned_across x asking asking q) (at_stage x (Reinviting asking q) c)) _
+    (record { is = refl; same = record { opening = refl; diversions = refl; answered = refl; past = refl }; caller = refl; callee = refl; none = refl })
 
 quiet-goes : (stage : Stage) (config : CallConfigView) (at : ℕ) (x : EstablishedLegs) (c : Call) (output : StepOutput) → ContinuesOrEnds at x c output.rows (on_timeout_at stage config at x (at_stage x stage c) output)
 quiet-goes (Answered waiting success) config at x c output = stays-established at x c output.rows x (Answered waiting success) output refl refl refl
@@ -174,7 +189,8 @@ quiet-goes Stable config at x c output = stays-established at x c output.rows x 
 quiet-goes (Reinviting asking q) config at x c output =
     Ends x (at_stage x (Reinviting asking q) c) _ (record { is = refl; same = record { opening = refl; diversions = refl; answered = refl; past = refl }; caller = refl; callee = refl; none = refl })
 
-timeout-goes : (branch : Option (List ℕ)) (stage : Stage) (config : CallConfigView) (now : SnapshotView) (x : EstablishedLegs) (c : Call) (output : StepOutput) → ContinuesOrEnds now.at x c output.rows (on_timeout_of branch config now (at_stage x stage c) output)
+timeout-goes : (branch : Option (List ℕ)) (stage : Stage) (config : CallConfigView) (now : SnapshotView) (x : EstablishedLegs) (c : Call) (output : StepOutput) →
+    ContinuesOrEnds now.at x c output.rows (on_timeout_of branch config now (at_stage x stage c) output)
 timeout-goes None stage config now x c output = stays-established now.at x c output.rows x stage output refl refl refl
 timeout-goes (Some branch) stage config now x c output =
     goes-if now.at x c output.rows (is_branch branch (current_invite_at stage)) _ _ (quiet-goes stage config now.at x c output)
@@ -199,13 +215,15 @@ across-goes config at x side q key m code c output =
     (Ends x (at_stage x (Reinviting side q) c) _ (record { is = refl; same = record { opening = refl; diversions = refl; answered = refl; past = refl }; caller = refl; callee = refl; none = refl }))
     (stays-established at x c output.rows x Stable (with_refusal_back config x side q key m (at_stage x (Reinviting side q) c) output) refl refl refl)))
 
-response-goes : (stage : Stage) (config : CallConfigView) (at : ℕ) (x : EstablishedLegs) (key : TKey) (m : MessageView) (c : Call) (output : StepOutput) → ContinuesOrEnds at x c output.rows (on_response_at stage config at x key m (at_stage x stage c) output)
+response-goes : (stage : Stage) (config : CallConfigView) (at : ℕ) (x : EstablishedLegs) (key : TKey) (m : MessageView) (c : Call) (output : StepOutput) →
+    ContinuesOrEnds at x c output.rows (on_response_at stage config at x key m (at_stage x stage c) output)
 response-goes (Answered waiting success) config at x key m c output = stays-established at x c output.rows x (Answered waiting success) output refl refl refl
 response-goes (Departing waiting success) config at x key m c output = stays-established at x c output.rows x (Departing waiting success) output refl refl refl
 response-goes Stable config at x key m c output = stays-established at x c output.rows x Stable output refl refl refl
 response-goes (Reinviting asking q) config at x key m c output = across-goes config at x asking q key m (status_of m.parsed.start) c output
 
-answer-goes : (branch : Option (List ℕ)) (stage : Stage) (config : CallConfigView) (now : SnapshotView) (x : EstablishedLegs) (key : TKey) (m : MessageView) (c : Call) (output : StepOutput) → ContinuesOrEnds now.at x c output.rows (on_response_to branch config now key m (at_stage x stage c) output)
+answer-goes : (branch : Option (List ℕ)) (stage : Stage) (config : CallConfigView) (now : SnapshotView) (x : EstablishedLegs) (key : TKey) (m : MessageView) (c : Call) (output : StepOutput) →
+    ContinuesOrEnds now.at x c output.rows (on_response_to branch config now key m (at_stage x stage c) output)
 answer-goes None stage config now x key m c output = stays-established now.at x c output.rows x stage output refl refl refl
 answer-goes (Some branch) stage config now x key m c output =
     goes-if now.at x c output.rows (is_branch branch (current_invite_at stage)) _ _ (response-goes stage config now.at x key m c output)
@@ -213,7 +231,8 @@ answer-goes (Some branch) stage config now x key m c output =
 
 -- ---- any signal
 
-transition-goes : (config : CallConfigView) (now : SnapshotView) (x : EstablishedLegs) (stage : Stage) (received : Signal) (c : Call) (output : StepOutput) → ContinuesOrEnds now.at x c output.rows (transition config now received (at_stage x stage c) output)
+transition-goes : (config : CallConfigView) (now : SnapshotView) (x : EstablishedLegs) (stage : Stage) (received : Signal) (c : Call) (output : StepOutput) →
+    ContinuesOrEnds now.at x c output.rows (transition config now received (at_stage x stage c) output)
 unfolding transition
 transition-goes config now x stage (signal.Request side key request) c output = check-goes (request_check (leg_of side x) request (busy_in stage side)) stage config now.at x side key request c output
 transition-goes config now x stage (signal.Ack side ack) c output = ack-goes stage config now.at x side ack c output
@@ -227,11 +246,14 @@ transition-goes config now x stage (signal.Ended key) c output = untouched-estab
 -- where nothing is in flight any more, and what was sent before filed no CDR
 goes-from : (at : ℕ) (x : EstablishedLegs) (c : Call) (rows before : List Row) (s : StepResult) → rows ≡ before → ContinuesOrEnds at x (without_in_flight c) rows s → ContinuesOrEnds at x c before s
 goes-from at x c rows before s e (Continues y stage r) =
-    Continues y stage (record { phase = r.phase; same = record { opening = r.same.opening; diversions = r.same.diversions; answered = r.same.answered; past = r.same.past }; caller = r.caller; callee = r.callee; none = r.none ∙ e })
+    Continues y stage
+    (record { phase = r.phase; same = record { opening = r.same.opening; diversions = r.same.diversions; answered = r.same.answered; past = r.same.past }; caller = r.caller; callee = r.callee; none = r.none ∙ e })
 goes-from at x c rows before s e (Ends y d output r) =
-    Ends y d output (record { is = r.is; same = record { opening = r.same.opening; diversions = r.same.diversions; answered = r.same.answered; past = r.same.past }; caller = r.caller; callee = r.callee; none = r.none ∙ e })
+    Ends y d output
+    (record { is = r.is; same = record { opening = r.same.opening; diversions = r.same.diversions; answered = r.same.answered; past = r.same.past }; caller = r.caller; callee = r.callee; none = r.none ∙ e })
 
-pub goes : (config : CallConfigView) (now : SnapshotView) (x : EstablishedLegs) (stage : Stage) (received : Signal) (c : Call) (output : StepOutput) → ContinuesOrEnds now.at x c output.rows (step config now received (at_stage x stage c) output)
+pub goes : (config : CallConfigView) (now : SnapshotView) (x : EstablishedLegs) (stage : Stage) (received : Signal) (c : Call) (output : StepOutput) →
+    ContinuesOrEnds now.at x c output.rows (step config now received (at_stage x stage c) output)
 unfolding step
 goes config now x stage received c output =
     let d : Call = at_stage x stage c in
@@ -245,15 +267,18 @@ goes config now x stage received c output =
 abbrev pub ended : Cause → Call → Call
 ended cause c = record c { phase = Over cause }
 
-over-timed-out : (branch : Option (List ℕ)) (config : CallConfigView) (now : SnapshotView) (cause : Cause) (c : Call) (output : StepOutput) → Untouched (ended cause c) output.rows (on_timeout_of branch config now (ended cause c) output)
+over-timed-out : (branch : Option (List ℕ)) (config : CallConfigView) (now : SnapshotView) (cause : Cause) (c : Call) (output : StepOutput) →
+    Untouched (ended cause c) output.rows (on_timeout_of branch config now (ended cause c) output)
 over-timed-out None config now cause c output = untouched (ended cause c) output
 over-timed-out (Some branch) config now cause c output = timed-out-untouched config branch (ended cause c) output
 
-over-answered : (branch : Option (List ℕ)) (config : CallConfigView) (now : SnapshotView) (cause : Cause) (key : TKey) (m : MessageView) (c : Call) (output : StepOutput) → Untouched (ended cause c) output.rows (on_response_to branch config now key m (ended cause c) output)
+over-answered : (branch : Option (List ℕ)) (config : CallConfigView) (now : SnapshotView) (cause : Cause) (key : TKey) (m : MessageView) (c : Call) (output : StepOutput) →
+    Untouched (ended cause c) output.rows (on_response_to branch config now key m (ended cause c) output)
 over-answered None config now cause key m c output = untouched (ended cause c) output
 over-answered (Some branch) config now cause key m c output = other-untouched config now.at key m branch (ended cause c) output
 
-over-transition : (config : CallConfigView) (now : SnapshotView) (cause : Cause) (received : Signal) (c : Call) (output : StepOutput) → Untouched (ended cause c) output.rows (transition config now received (ended cause c) output)
+over-transition : (config : CallConfigView) (now : SnapshotView) (cause : Cause) (received : Signal) (c : Call) (output : StepOutput) →
+    Untouched (ended cause c) output.rows (transition config now received (ended cause c) output)
 unfolding transition
 over-transition config now cause (signal.Request side key request) c output = untouched (ended cause c) output
 over-transition config now cause (signal.Ack side ack) c output = untouched (ended cause c) output
@@ -281,8 +306,10 @@ no-leaving cause (signal.Silent branch method) c = by (timed_out_branch branch m
 no-leaving cause (signal.Due what) c = refl
 no-leaving cause (signal.Ended key) c = refl
 
-pub stays-over : (config : CallConfigView) (now : SnapshotView) (cause : Cause) (received : Signal) (c : Call) (output : StepOutput) → Untouched (ended cause c) output.rows (step config now received (ended cause c) output)
+pub stays-over : (config : CallConfigView) (now : SnapshotView) (cause : Cause) (received : Signal) (c : Call) (output : StepOutput) →
+    Untouched (ended cause c) output.rows (step config now received (ended cause c) output)
 unfolding step
 stays-over config now cause received c output =
     let d : Call = ended cause c in
-    subst (λ b. Untouched d output.rows (if b then transition config now received (without_in_flight d) (output_after_dismissal config d output) else transition config now received d output)) (sym (no-leaving cause received c)) (over-transition config now cause received c output)
+    subst (λ b. Untouched d output.rows (if b then transition config now received (without_in_flight d) (output_after_dismissal config d output) else transition config now received d output))
+    (sym (no-leaving cause received c)) (over-transition config now cause received c output)

@@ -48,7 +48,8 @@ stays_itself turn_law end_law extend enough_law s received = let (kept, t) = out
 abbrev made_of : Option MeterView → List MeterView → Option MeterView → Parts
 made_of first past last = record { first = first; past = past; last = last }
 
-parts-at : (config : CallConfigView) (first : SnapshotView) (o : Opening) (later : ℕ → SnapshotView) (kept : CallState) (c : Call) (filed : List Row) (at : ℕ) → is_over c.phase ≡ false → Place config first o later kept c filed at →
+parts-at : (config : CallConfigView) (first : SnapshotView) (o : Opening) (later : ℕ → SnapshotView) (kept : CallState) (c : Call) (filed : List Row) (at : ℕ) → is_over c.phase ≡ false →
+    Place config first o later kept c filed at →
     let call = call_inputs_of config first o later in parts_now c ≡ made_of (origin_part call o.number) (past_parts call o.number 0 None kept.targets) (last_part call o.number 0 kept.targets)
 parts-at config first o later kept c filed at goes (Rings x reach p) = ap (λ phase. parts_in phase c.past) p.phase ∙ (λ i. made_of (p.origin i) (p.past i) (p.last i))
 parts-at config first o later kept c filed at goes (Talks x stage moment p) = ap (λ phase. parts_in phase c.past) p.phase ∙ (λ i. made_of (p.origin i) (p.past i) (p.last i))
@@ -62,7 +63,8 @@ begun_run turn_law end_law extend enough_law s received goes =
     parts-at s.config s.now (opening_in s) (snapshot_at_diversion s received) kept (call_after s received) (charging_records_after s received) (over_at s received) goes t.agrees.place
     ∙ ap (λ (o : precedence.Outcome). made_of (origin_part call number) (past_parts call number 0 None o.targets) (last_part call number 0 o.targets)) t.outcome
 
-record-at : (config : CallConfigView) (first : SnapshotView) (o : Opening) (later : ℕ → SnapshotView) (kept : CallState) (c : Call) (filed : List Row) (at : ℕ) (y : OfferedAttempt) → c.phase ≡ Offered y → Place config first o later kept c filed at →
+record-at : (config : CallConfigView) (first : SnapshotView) (o : Opening) (later : ℕ → SnapshotView) (kept : CallState) (c : Call) (filed : List Row) (at : ℕ) (y : OfferedAttempt) →
+    c.phase ≡ Offered y → Place config first o later kept c filed at →
     service_sheet y.attempt.service ≡ last_record (call_inputs_of config first o later) 0 kept.targets
 record-at config first o later kept c filed at y offered (Rings x reach p) =
     let e : Offered y ≡ Offered x = sym offered ∙ p.phase in
@@ -71,13 +73,15 @@ record-at config first o later kept c filed at y offered (Rings x reach p) =
 record-at config first o later kept c filed at y offered (Talks x stage moment p) = absurd (let e : Established x stage ≡ Offered y = sym p.phase ∙ offered in cc)
 record-at config first o later kept c filed at y offered (Ends cause p) = absurd (let e : Over cause ≡ Offered y = sym p.phase ∙ offered in cc)
 
-goes_by_record : Theorems ((s : TraceStart) (received : List TraceStep) (x : OfferedAttempt) → (call_after s received).phase ≡ Offered x → service_sheet x.attempt.service ≡ last_record (call_inputs_after s received) 0 (outcome_after s received).targets)
+goes_by_record : Theorems ((s : TraceStart) (received : List TraceStep) (x : OfferedAttempt) → (call_after s received).phase ≡ Offered x →
+    service_sheet x.attempt.service ≡ last_record (call_inputs_after s received) 0 (outcome_after s received).targets)
 goes_by_record turn_law end_law extend enough_law s received x offered =
     let (kept, t) = outcome_of_trace turn_law end_law extend enough_law s received in
     record-at s.config s.now (opening_in s) (snapshot_at_diversion s received) kept (call_after s received) (charging_records_after s received) (over_at s received) x offered t.agrees.place
     ∙ ap (λ (o : precedence.Outcome). last_record (call_inputs_after s received) 0 o.targets) t.outcome
 
-answered-at : (config : CallConfigView) (first : SnapshotView) (o : Opening) (later : ℕ → SnapshotView) (kept : CallState) (c : Call) (filed : List Row) (at : ℕ) → is_established_in c.phase ≡ true → Place config first o later kept c filed at → is_some c.answered ≡ true
+answered-at : (config : CallConfigView) (first : SnapshotView) (o : Opening) (later : ℕ → SnapshotView) (kept : CallState) (c : Call) (filed : List Row) (at : ℕ) → is_established_in c.phase ≡ true →
+    Place config first o later kept c filed at → is_some c.answered ≡ true
 answered-at config first o later kept c filed at stands (Rings x reach p) = absurd (let e : false ≡ true = ap is_established_in (sym p.phase) ∙ stands in cc)
 answered-at config first o later kept c filed at stands (Talks x stage moment p) = ap is_some p.answered
 answered-at config first o later kept c filed at stands (Ends cause p) = absurd (let e : false ≡ true = ap is_established_in (sym p.phase) ∙ stands in cc)
@@ -87,7 +91,8 @@ was_answered turn_law end_law extend enough_law s received stands =
     let (kept, t) = outcome_of_trace turn_law end_law extend enough_law s received in
     answered-at s.config s.now (opening_in s) (snapshot_at_diversion s received) kept (call_after s received) (charging_records_after s received) (over_at s received) stands t.agrees.place
 
-cause-at : (config : CallConfigView) (first : SnapshotView) (o : Opening) (later : ℕ → SnapshotView) (kept : CallState) (c : Call) (filed : List Row) (at : ℕ) (cause : Cause) → c.phase ≡ Over cause → is_some c.answered ≡ true →
+cause-at : (config : CallConfigView) (first : SnapshotView) (o : Opening) (later : ℕ → SnapshotView) (kept : CallState) (c : Call) (filed : List Row) (at : ℕ) (cause : Cause) → c.phase ≡ Over cause →
+    is_some c.answered ≡ true →
     Place config first o later kept c filed at → cause ≡ causes.Ended
 cause-at config first o later kept c filed at cause over answered (Rings x reach p) = absurd (let e : Offered x ≡ Over cause = sym p.phase ∙ over in cc)
 cause-at config first o later kept c filed at cause over answered (Talks x stage moment p) = absurd (let e : Established x stage ≡ Over cause = sym p.phase ∙ over in cc)
@@ -120,7 +125,8 @@ leaves-so at x y stage c d rows output a e f g = record {
   filed = λ i. g i ++ charging_records (record { answered = d.answered; at = at; holds = d.hold.holds; cause = ended_so d.answered i }) (a.past i) (e i) (f i);
 }
 
-established-goes : (at : ℕ) (x : EstablishedLegs) (stage : Stage) (c : Call) (rows : List Row) (s : StepResult) → answering.ContinuesOrEnds at x c rows s → going.ContinuesOrEnds at (record c { phase = Established x stage }) rows s
+established-goes : (at : ℕ) (x : EstablishedLegs) (stage : Stage) (c : Call) (rows : List Row) (s : StepResult) → answering.ContinuesOrEnds at x c rows s →
+    going.ContinuesOrEnds at (record c { phase = Established x stage }) rows s
 established-goes at x stage c rows s (answering.Continues y later r) = going.Continues (record {
   same = record { opening = r.same.opening; diversions = r.same.diversions; answered = r.same.answered };
   established = ap is_established_in r.phase;
@@ -138,18 +144,21 @@ untouched-goes at c rows s stands u = going.Continues (record {
   none = u.none;
 })
 
-standing-goes : (phase : Phase) (config : CallConfigView) (now : SnapshotView) (received : Signal) (c : Call) (output : StepOutput) → is_established_in phase ≡ true → going.ContinuesOrEnds now.at (record c { phase = phase }) output.rows (step config now received (record c { phase = phase }) output)
+standing-goes : (phase : Phase) (config : CallConfigView) (now : SnapshotView) (received : Signal) (c : Call) (output : StepOutput) → is_established_in phase ≡ true →
+    going.ContinuesOrEnds now.at (record c { phase = phase }) output.rows (step config now received (record c { phase = phase }) output)
 standing-goes (Offered x) config now received c output stands = absurd (let e : false ≡ true = stands in cc)
 standing-goes (Established x stage) config now received c output stands = established-goes now.at x stage c output.rows _ (answering.goes config now x stage received c output)
 standing-goes (Detached detached) config now received c output stands = untouched-goes now.at (record c { phase = Detached detached }) output.rows _ refl (stays-detached config now detached received c output)
 standing-goes (Over cause) config now received c output stands = absurd (let e : false ≡ true = stands in cc)
 
-over-stays : (phase : Phase) (config : CallConfigView) (now : SnapshotView) (received : Signal) (c : Call) (output : StepOutput) → is_over phase ≡ true → StaysOver (record c { phase = phase; relayed = [] }) output.rows (step config now received (record c { phase = phase; relayed = [] }) output)
+over-stays : (phase : Phase) (config : CallConfigView) (now : SnapshotView) (received : Signal) (c : Call) (output : StepOutput) → is_over phase ≡ true →
+    StaysOver (record c { phase = phase; relayed = [] }) output.rows (step config now received (record c { phase = phase; relayed = [] }) output)
 over-stays (Offered x) config now received c output over = absurd (let e : false ≡ true = over in cc)
 over-stays (Established x stage) config now received c output over = absurd (let e : false ≡ true = over in cc)
 over-stays (Detached detached) config now received c output over = absurd (let e : false ≡ true = over in cc)
 over-stays (Over cause) config now received c output over =
-    let u = answering.stays-over config now cause received (record c { relayed = [] }) output in record { same = same_of _ _ u.same; phase = u.phase; past = u.same.past; hold = u.hold refl; in_flight = u.in_flight refl; none = u.none }
+    let u = answering.stays-over config now cause received (record c { relayed = [] }) output in
+    record { same = same_of _ _ u.same; phase = u.phase; past = u.same.past; hold = u.hold refl; in_flight = u.in_flight refl; none = u.none }
 
 pub calls_continue : Theorems CallsContinue
 calls_continue turn_law end_law extend enough_law = record {
@@ -160,6 +169,7 @@ calls_continue turn_law end_law extend enough_law = record {
   cause = by_ending turn_law end_law extend enough_law;
   established = λ config now received c output stands. standing-goes c.phase config now received c output stands;
   ended = λ config now received c output over none.
-      subst (λ (flights : List RelayedTransaction). StaysOver (record c { relayed = flights }) output.rows (step config now received (record c { relayed = flights }) output)) (sym none) (over-stays c.phase config now received c output over);
+      subst (λ (flights : List RelayedTransaction). StaysOver (record c { relayed = flights }) output.rows (step config now received (record c { relayed = flights }) output)) (sym none)
+      (over-stays c.phase config now received c output over);
   dismissed = last_none;
 }

@@ -13,7 +13,8 @@ use Rattle.mmtel_call_services.specs.Decisions.{decision_at, diversion_target, p
 use Rattle.mmtel_call_services.specs.CallConfig.{CallConfigView}
 use Rattle.mmtel_call_services.specs.declared.openings.Service.{Service}
 use Rattle.mmtel_call.specs.Closing.{StepResult}
-use Rattle.mmtel_call.specs.Diverting.{at_target, call_after_diversion, call_refusal, diversion_refusal, diversion_step, diversion_unless_refused, divert, is_diverted, on_next_step, with_notification_of, with_unoffered_meter}
+use Rattle.mmtel_call.specs.Diverting.{at_target, call_after_diversion, call_refusal, diversion_refusal, diversion_step}
+use Rattle.mmtel_call.specs.Diverting.{diversion_unless_refused, divert, is_diverted, on_next_step, with_notification_of, with_unoffered_meter}
 use Rattle.mmtel_call.specs.declared.calls.Call.{Call}
 
 -- at most this many are left after the step
@@ -22,7 +23,8 @@ Leaves left s = s.call.diversions.remaining ≤ left
 
 -- whatever the result of a diversion is that is due where this many are left
 abbrev DivertLeaves : ℕ → CallConfigView → SnapshotView → Leg → Type 0
-DivertLeaves left config now caller = (service : Option Service) (due : DueDiversionView) (c : Call) (output : StepOutput) → c.diversions.remaining ≡ left → Leaves left (divert left config now caller service due c output)
+DivertLeaves left config now caller =
+    (service : Option Service) (due : DueDiversionView) (c : Call) (output : StepOutput) → c.diversions.remaining ≡ left → Leaves left (divert left config now caller service due c output)
 
 next-step-leaves : (left : ℕ) (config : CallConfigView) (now : SnapshotView) (caller : Leg) → DivertLeaves left config now caller →
     (service : Option Service) (cause : Option ℕ) (target : Target) (turn : NextStepView) (c : Call) (output : StepOutput) → c.diversions.remaining ≡ left →

@@ -40,9 +40,11 @@ use Rattle.mmtel_call_services.specs.CallConfig.{CallConfigView, further_methods
 use Rattle.mmtel_call.specs.Answered.{leg_of}
 use Rattle.mmtel_call.specs.Awaiting.{expiry_in, next_success}
 use Rattle.mmtel_call.specs.Closing.{StepResult, step_result}
-use Rattle.mmtel_call.specs.RelayedTransactions.{is_in_flight, is_updating, on_accepted_in_flight, on_final_relayed, on_response_in_flight, on_response_relayed, output_after_dismissal, with_all_dismissals, with_dismissal, with_dismissals}
+use Rattle.mmtel_call.specs.RelayedTransactions.{is_in_flight, is_updating, on_accepted_in_flight, on_final_relayed, on_response_in_flight}
+use Rattle.mmtel_call.specs.RelayedTransactions.{on_response_relayed, output_after_dismissal, with_all_dismissals, with_dismissal, with_dismissals}
 use Rattle.mmtel_call.specs.RelayedTransactions.{on_timeout_in_flight, on_timeout_relayed, updating_side, with_response_back, with_settled, with_settled_in, without_transaction}
-use Rattle.mmtel_call.specs.OtherRequests.{as_abandoned, is_answered_invite, is_fork, is_stable, is_success, on_other_response, on_other_response_at, on_other_timeout, on_other_timeout_at, on_response_abandoned, on_response_answered, on_response_answered_at, with_retransmitted_ack}
+use Rattle.mmtel_call.specs.OtherRequests.{as_abandoned, is_answered_invite, is_fork, is_stable, is_success, on_other_response, on_other_response_at, on_other_timeout}
+use Rattle.mmtel_call.specs.OtherRequests.{on_other_timeout_at, on_response_abandoned, on_response_answered, on_response_answered_at, with_retransmitted_ack}
 use Rattle.mmtel_call.specs.Reliable.{named_rseq, on_named_prack, on_rack, rack_in}
 use Rattle.mmtel_call.specs.Requests.{is_prack, is_update, with_refused_request, with_response_to, with_unlisted_response}
 use Rattle.mmtel_call.specs.Ringing.{on_other, on_prack_of}
@@ -113,7 +115,8 @@ pub quiet-reply : (key asked : TKey) (start : Start) (lines : List Line) (r : Re
 quiet-reply key asked start lines r output e = quiet-emit key output _ (reply-label key asked start lines r ∙ if-false (asked.0 == key.0) (final_label r.code) e)
 
 -- that is provisional
-pub quiet-provisional : (key asked : TKey) (start : Start) (lines : List Line) (r : Reply) (output : StepOutput) → nat_lt r.code 200 ≡ true → Quiet key output (with_emit (emit.Reply asked (response start lines r)) output)
+pub quiet-provisional : (key asked : TKey) (start : Start) (lines : List Line) (r : Reply) (output : StepOutput) → nat_lt r.code 200 ≡ true →
+    Quiet key output (with_emit (emit.Reply asked (response start lines r)) output)
 quiet-provisional key asked start lines r output e = quiet-emit key output _ (reply-label key asked start lines r ∙ if-none (asked.0 == key.0) (final_label r.code) (go (nat_lt r.code 200) e))
   where
     go : (b : Bool) → b ≡ true → (if b then [] else if nat_lt r.code 300 then Label.Accepted ∷ [] else Label.Refused r.code ∷ []) ≡ []
@@ -144,15 +147,19 @@ quiet-final-acked key asked sip i m output = quiet-emit key output _ refl
 
 -- ---- responses to requests
 
-pub quiet-refused_request : (key : TKey) (config : CallConfigView) (c : Call) (asked : TKey) (m : MessageView) (fault : DialogueFault) (output : StepOutput) → (asked.0 == key.0) ≡ false → Quiet key output (with_refused_request config c asked m fault output)
+pub quiet-refused_request : (key : TKey) (config : CallConfigView) (c : Call) (asked : TKey) (m : MessageView) (fault : DialogueFault) (output : StepOutput) → (asked.0 == key.0) ≡ false →
+    Quiet key output (with_refused_request config c asked m fault output)
 quiet-refused_request key config c asked m (OldCSeq last) output e = quiet-reply key asked _ _ _ output e
 quiet-refused_request key config c asked m Pending output e = quiet-reply key asked _ _ _ output e
 quiet-refused_request key config c asked m Unfinished output e = quiet-reply key asked _ _ _ output e
 
-pub quiet-unlisted : (key : TKey) (config : CallConfigView) (c : Call) (asked : TKey) (m : MessageView) (output : StepOutput) → (asked.0 == key.0) ≡ false → Quiet key output (with_unlisted_response config c asked m output)
+pub quiet-unlisted : (key : TKey) (config : CallConfigView) (c : Call) (asked : TKey) (m : MessageView) (output : StepOutput) → (asked.0 == key.0) ≡ false →
+    Quiet key output (with_unlisted_response config c asked m output)
 quiet-unlisted key config c asked m output e =
-    quiet-if key output (is_method (codes "OPTIONS") m.parsed.start) (with_response_to config c asked m 200 (allow_lines (further_methods config)) output) (if is_method (codes "REFER") m.parsed.start then with_status_to config c asked m 403 output else with_status_to config c asked m 481 output) (quiet-reply key asked _ _ _ output e)
-    (quiet-if key output (is_method (codes "REFER") m.parsed.start) (with_status_to config c asked m 403 output) (with_status_to config c asked m 481 output) (quiet-reply key asked _ _ _ output e) (quiet-reply key asked _ _ _ output e))
+    quiet-if key output (is_method (codes "OPTIONS") m.parsed.start) (with_response_to config c asked m 200 (allow_lines (further_methods config)) output)
+    (if is_method (codes "REFER") m.parsed.start then with_status_to config c asked m 403 output else with_status_to config c asked m 481 output) (quiet-reply key asked _ _ _ output e)
+    (quiet-if key output (is_method (codes "REFER") m.parsed.start) (with_status_to config c asked m 403 output) (with_status_to config c asked m 481 output) (quiet-reply key asked _ _ _ output e)
+    (quiet-reply key asked _ _ _ output e))
 
 -- ---- an INVITE for which the call does not wait
 
@@ -183,11 +190,13 @@ again-quiet : (key : TKey) (t : AnsweredInvite) (text : Option (List ℕ)) (outp
 again-quiet key t None output = quiet key output
 again-quiet key t (Some text) output = quiet-emit key output _ refl
 
-abandoned-quiet : (key : TKey) (config : CallConfigView) (asked : TKey) (m : MessageView) (at : ℕ) (l : Option AbandonedInvite) (c : Call) (output : StepOutput) → Quiet key output (on_response_abandoned config asked m at l c output).output
+abandoned-quiet : (key : TKey) (config : CallConfigView) (asked : TKey) (m : MessageView) (at : ℕ) (l : Option AbandonedInvite) (c : Call) (output : StepOutput) →
+    Quiet key output (on_response_abandoned config asked m at l c output).output
 abandoned-quiet key config asked m at None c output = quiet key output
 abandoned-quiet key config asked m at (Some l) c output = rest-quiet key config.sip asked m.parsed l output
 
-answered-quiet : (key : TKey) (config : CallConfigView) (asked : TKey) (m : MessageView) (at : ℕ) (t : Option AnsweredInvite) (c : Call) (output : StepOutput) → Quiet key output (on_response_answered config asked m at t c output).output
+answered-quiet : (key : TKey) (config : CallConfigView) (asked : TKey) (m : MessageView) (at : ℕ) (t : Option AnsweredInvite) (c : Call) (output : StepOutput) →
+    Quiet key output (on_response_answered config asked m at t c output).output
 answered-quiet key config asked m at None c output = quiet key output
 answered-quiet key config asked m at (Some t) c output =
     step-if key output (not (is_success (status_of m.parsed.start))) _ _ (quiet key output)
@@ -202,7 +211,8 @@ quiet-expiry key true None at c output = record { rows = refl; labels = ap (λ (
 quiet-expiry key true (Some time) at c output = quiet-emit key output (emit.Arm c.opening.number (due.Expired (next_success c)) (at + time)) refl
 quiet-expiry key false time at c output = record { rows = refl; labels = ap (λ (es : List Emit). labels_of key es) (append-nil output.out) }
 
-agreed-quiet : (key : TKey) (kind : RelayedKind) (config : CallConfigView) (at : ℕ) (side : Side) (request m : MessageView) (c : Call) (output : StepOutput) → Quiet key output (on_accepted_in_flight kind config at side request m c output).output
+agreed-quiet : (key : TKey) (kind : RelayedKind) (config : CallConfigView) (at : ℕ) (side : Side) (request m : MessageView) (c : Call) (output : StepOutput) →
+    Quiet key output (on_accepted_in_flight kind config at side request m c output).output
 agreed-quiet key Prack config at side request m c output = quiet key output
 agreed-quiet key Update config at side request m c output = quiet-expiry key config.timer (expiry_interval_of m.parsed.session) at c output
 
@@ -210,7 +220,8 @@ agreed-quiet key Update config at side request m c output = quiet-expiry key con
 abbrev IsOther : TKey → RelayedTransaction → Type 0
 IsOther key flight = (flight.exchange.key.0 == key.0) ≡ false
 
-relayed-quiet : (key : TKey) (config : CallConfigView) (at : ℕ) (m : MessageView) (code place : ℕ) (o : Option RelayedTransaction) (c : Call) (output : StepOutput) → IfSome o (IsOther key) → Quiet key output (on_response_relayed config at m code place o c output).output
+relayed-quiet : (key : TKey) (config : CallConfigView) (at : ℕ) (m : MessageView) (code place : ℕ) (o : Option RelayedTransaction) (c : Call) (output : StepOutput) → IfSome o (IsOther key) →
+    Quiet key output (on_response_relayed config at m code place o c output).output
 relayed-quiet key config at m code place None c output e = quiet key output
 relayed-quiet key config at m code place (Some flight) c output e =
     let d : Call = without_transaction place c in
@@ -220,11 +231,13 @@ relayed-quiet key config at m code place (Some flight) c output e =
     (step-if key output (is_success code) (on_accepted_in_flight flight.kind config at flight.side flight.exchange.request m d back) (step_result d back)
     (quiet-then key output back _ came (agreed-quiet key flight.kind config at flight.side flight.exchange.request m d back)) came)
 
-in-flight-quiet : (key : TKey) (config : CallConfigView) (at : ℕ) (m : MessageView) (o : Option ℕ) (c : Call) (output : StepOutput) → InFlightHasOtherKeys key c.relayed → Quiet key output (on_response_in_flight config at m o c output).output
+in-flight-quiet : (key : TKey) (config : CallConfigView) (at : ℕ) (m : MessageView) (o : Option ℕ) (c : Call) (output : StepOutput) → InFlightHasOtherKeys key c.relayed →
+    Quiet key output (on_response_in_flight config at m o c output).output
 in-flight-quiet key config at m None c output e = quiet key output
 in-flight-quiet key config at m (Some place) c output e = relayed-quiet key config at m (status_of m.parsed.start) place (slice_get c.relayed place) c output (each_get (IsOther key) c.relayed place e)
 
-timed-out-relayed-quiet : (key : TKey) (config : CallConfigView) (place : ℕ) (o : Option RelayedTransaction) (c : Call) (output : StepOutput) → IfSome o (IsOther key) → Quiet key output (on_timeout_relayed config place o c output).output
+timed-out-relayed-quiet : (key : TKey) (config : CallConfigView) (place : ℕ) (o : Option RelayedTransaction) (c : Call) (output : StepOutput) → IfSome o (IsOther key) →
+    Quiet key output (on_timeout_relayed config place o c output).output
 timed-out-relayed-quiet key config place None c output e = quiet key output
 timed-out-relayed-quiet key config place (Some flight) c output e = quiet-reply key flight.exchange.key _ _ _ output e
 
@@ -232,7 +245,8 @@ timed-out-in-flight-quiet : (key : TKey) (config : CallConfigView) (o : Option �
 timed-out-in-flight-quiet key config None c output e = quiet key output
 timed-out-in-flight-quiet key config (Some place) c output e = timed-out-relayed-quiet key config place (slice_get c.relayed place) c output (each_get (IsOther key) c.relayed place e)
 
-timed-out-at-quiet : (key : TKey) (config : CallConfigView) (branch : List ℕ) (o : Option ℕ) (c : Call) (output : StepOutput) → InFlightHasOtherKeys key c.relayed → Quiet key output (on_other_timeout_at config branch o c output).output
+timed-out-at-quiet : (key : TKey) (config : CallConfigView) (branch : List ℕ) (o : Option ℕ) (c : Call) (output : StepOutput) → InFlightHasOtherKeys key c.relayed →
+    Quiet key output (on_other_timeout_at config branch o c output).output
 timed-out-at-quiet key config branch None c output e = timed-out-in-flight-quiet key config (position (is_in_flight branch) c.relayed) c output e
 timed-out-at-quiet key config branch (Some at) c output e = quiet key output
 
@@ -260,7 +274,8 @@ dismissing-quiet key config c output e =
     let first : StepOutput = with_dismissals config c (filter acks c.relayed) output in
     let all : StepOutput = with_all_dismissals config c output in
     quiet-then key output first (output_after_dismissal config c output) (each-quiet key config c (filter acks c.relayed) output (each_filter (IsOther key) acks c.relayed e))
-    (quiet-then key first all (output_after_dismissal config c output) (each-quiet key config c (filter is_updating c.relayed) first (each_filter (IsOther key) is_updating c.relayed e)) (settled_in-quiet key c.phase config c all))
+    (quiet-then key first all (output_after_dismissal config c output) (each-quiet key config c (filter is_updating c.relayed) first (each_filter (IsOther key) is_updating c.relayed e))
+    (settled_in-quiet key c.phase config c all))
 
 -- ---- PRACK and UPDATE
 
@@ -276,38 +291,46 @@ named-quiet key config x asked m rack (Some answer) c output e =
     let before : StepOutput = with_settled config (Some rack.answer) c output in
     quiet-then key output before _ (quiet-settled key config (Some rack.answer) c output) (asked-quiet key config.sip (codes "PRACK") x.callee.leg.dialogue _ m.parsed before refl)
 
-rack-quiet : (key : TKey) (config : CallConfigView) (x : OfferedAttempt) (asked : TKey) (m : MessageView) (o : Option Rack) (c : Call) (output : StepOutput) → (asked.0 == key.0) ≡ false → Quiet key output (on_rack config x asked m o c output).output
+rack-quiet : (key : TKey) (config : CallConfigView) (x : OfferedAttempt) (asked : TKey) (m : MessageView) (o : Option Rack) (c : Call) (output : StepOutput) → (asked.0 == key.0) ≡ false →
+    Quiet key output (on_rack config x asked m o c output).output
 rack-quiet key config x asked m None c output e = quiet-reply key asked _ _ _ output e
 rack-quiet key config x asked m (Some rack) c output e = named-quiet key config x asked m rack (named_rseq x c rack) c output e
 
-pub prack-quiet : (key : TKey) (side : Side) (config : CallConfigView) (x : OfferedAttempt) (asked : TKey) (m : MessageView) (c : Call) (output : StepOutput) → (asked.0 == key.0) ≡ false → Quiet key output (on_prack_of side config x asked m c output).output
+pub prack-quiet : (key : TKey) (side : Side) (config : CallConfigView) (x : OfferedAttempt) (asked : TKey) (m : MessageView) (c : Call) (output : StepOutput) → (asked.0 == key.0) ≡ false →
+    Quiet key output (on_prack_of side config x asked m c output).output
 prack-quiet key Caller config x asked m c output e = rack-quiet key config x asked m (rack_in m) c output e
 prack-quiet key Callee config x asked m c output e = quiet-reply key asked _ _ _ output e
 
-unless-quiet : (key : TKey) (flying : Option Side) (f : Call → StepOutput → StepResult) (config : CallConfigView) (side : Side) (asked : TKey) (m : MessageView) (c : Call) (output : StepOutput) → (asked.0 == key.0) ≡ false → Quiet key output (f c output).output →
+unless-quiet : (key : TKey) (flying : Option Side) (f : Call → StepOutput → StepResult) (config : CallConfigView) (side : Side) (asked : TKey) (m : MessageView) (c : Call) (output : StepOutput) →
+    (asked.0 == key.0) ≡ false → Quiet key output (f c output).output →
     Quiet key output (unless_updating flying f config side asked m c output).output
 unless-quiet key None f config side asked m c output e q = q
 unless-quiet key (Some other) f config side asked m c output e q =
     step-if key output (is_same_side other side) (on_early_retry config asked m c output) (on_glare config asked m c output) (quiet-reply key asked _ _ _ output e) (quiet-reply key asked _ _ _ output e)
 
-pub update-quiet : (key : TKey) (side : Side) (config : CallConfigView) (x : OfferedAttempt) (asked : TKey) (m : MessageView) (c : Call) (output : StepOutput) → (asked.0 == key.0) ≡ false → Quiet key output (on_update config x side asked m c output).output
+pub update-quiet : (key : TKey) (side : Side) (config : CallConfigView) (x : OfferedAttempt) (asked : TKey) (m : MessageView) (c : Call) (output : StepOutput) → (asked.0 == key.0) ≡ false →
+    Quiet key output (on_update config x side asked m c output).output
 update-quiet key side config x asked m c output e =
     step-if key output (accepts_updates x) (unless_updating (updating_side c.relayed) (on_early_update config x side asked m) config side asked m c output) (on_early_retry config asked m c output)
-    (unless-quiet key (updating_side c.relayed) (on_early_update config x side asked m) config side asked m c output e (asked-quiet key config.sip (codes "UPDATE") (other_leg side x).dialogue (copied_lines config c.opening c.diversions x.attempt.service side (other_leg side x).dialogue.peer m) m.parsed output refl)) (quiet-reply key asked _ _ _ output e)
+    (unless-quiet key (updating_side c.relayed) (on_early_update config x side asked m) config side asked m c output e (asked-quiet key config.sip (codes "UPDATE") (other_leg side x).dialogue
+    (copied_lines config c.opening c.diversions x.attempt.service side (other_leg side x).dialogue.peer m) m.parsed output refl)) (quiet-reply key asked _ _ _ output e)
 
 pub update_at-quiet : (key : TKey) (stage : Stage) (side : Side) (config : CallConfigView) (x : EstablishedLegs) (asked : TKey) (m : MessageView) (c : Call) (output : StepOutput) → (asked.0 == key.0) ≡ false →
     Quiet key output (on_update_at stage config x side asked m c output).output
 update_at-quiet key (Answered waiting success) side config x asked m c output e = quiet-reply key asked _ _ _ output e
 update_at-quiet key (Departing waiting success) side config x asked m c output e = quiet-reply key asked _ _ _ output e
 update_at-quiet key Stable side config x asked m c output e =
-    unless-quiet key (updating_side c.relayed) (on_stable_update config x side asked m) config side asked m c output e (asked-quiet key config.sip (codes "UPDATE") (leg_of (other_side side) x).dialogue (copied_lines config c.opening c.diversions x.service side (leg_of (other_side side) x).dialogue.peer m) m.parsed output refl)
+    unless-quiet key (updating_side c.relayed) (on_stable_update config x side asked m) config side asked m c output e
+    (asked-quiet key config.sip (codes "UPDATE") (leg_of (other_side side) x).dialogue (copied_lines config c.opening c.diversions x.service side (leg_of (other_side side) x).dialogue.peer m) m.parsed output refl)
 update_at-quiet key (Reinviting asking q) side config x asked m c output e = quiet-reply key asked _ _ _ output e
 
 -- requests of a side of an offered call, except BYE
-pub quiet-received : (key : TKey) (side : Side) (config : CallConfigView) (x : OfferedAttempt) (asked : TKey) (m : MessageView) (c : Call) (output : StepOutput) → (asked.0 == key.0) ≡ false → Quiet key output (on_other config x side asked m c output).output
+pub quiet-received : (key : TKey) (side : Side) (config : CallConfigView) (x : OfferedAttempt) (asked : TKey) (m : MessageView) (c : Call) (output : StepOutput) → (asked.0 == key.0) ≡ false →
+    Quiet key output (on_other config x side asked m c output).output
 quiet-received key side config x asked m c output e =
     step-if key output (is_prack m) (on_prack_of side config x asked m c output) _ (prack-quiet key side config x asked m c output e)
-    (step-if key output (is_update m) (on_update config x side asked m c output) (step_result c (with_unlisted_response config c asked m output)) (update-quiet key side config x asked m c output e) (quiet-unlisted key config c asked m output e))
+    (step-if key output (is_update m) (on_update config x side asked m c output) (step_result c (with_unlisted_response config c asked m output)) (update-quiet key side config x asked m c output e)
+    (quiet-unlisted key config c asked m output e))
 
 -- ---- by the branch of a request
 
@@ -321,6 +344,7 @@ at-quiet : (key : TKey) (config : CallConfigView) (at : ℕ) (asked : TKey) (m :
 at-quiet key config at asked m branch None c output e = answered_at-quiet key config at asked m branch (position (is_answered_invite branch) c.answered_invites) c output e
 at-quiet key config at asked m branch (Some place) c output e = abandoned-quiet key config asked m place (slice_get c.abandoned place) c output
 
-pub other-quiet : (key : TKey) (config : CallConfigView) (at : ℕ) (asked : TKey) (m : MessageView) (branch : List ℕ) (c : Call) (output : StepOutput) → InFlightHasOtherKeys key c.relayed → Quiet key output (on_other_response config at asked m branch c output).output
+pub other-quiet : (key : TKey) (config : CallConfigView) (at : ℕ) (asked : TKey) (m : MessageView) (branch : List ℕ) (c : Call) (output : StepOutput) → InFlightHasOtherKeys key c.relayed →
+    Quiet key output (on_other_response config at asked m branch c output).output
 unfolding on_other_response
 other-quiet key config at asked m branch c output e = at-quiet key config at asked m branch (position (is_of_branch branch) c.abandoned) c output e

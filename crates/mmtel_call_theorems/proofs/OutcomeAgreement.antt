@@ -32,7 +32,8 @@ abbrev pub total : CallConfigView → Opening → ℕ
 total config o = config.bound - received_diversions o
 
 -- it is offered: in the moves this target rings
-pub record IsRinging (config : CallConfigView) (first : SnapshotView) (o : Opening) (later : ℕ → SnapshotView) (kept : CallState) (c : Call) (filed : List Row) (x : OfferedAttempt) (reach : ReachedTargetView) : Type 0 where
+pub record IsRinging (config : CallConfigView) (first : SnapshotView) (o : Opening) (later : ℕ → SnapshotView) (kept : CallState) (c : Call) (filed : List Row) (x : OfferedAttempt)
+    (reach : ReachedTargetView) : Type 0 where
   pub phase : c.phase ≡ Offered x
   pub rings : kept.phase ≡ moves.Ringing (account_at reach)
   pub sheet : turns.sheet_of reach ≡ service_sheet x.attempt.service
@@ -46,7 +47,8 @@ pub record IsRinging (config : CallConfigView) (first : SnapshotView) (o : Openi
   pub none : filed ≡ []
 
 -- it was answered
-pub record IsEstablished (config : CallConfigView) (first : SnapshotView) (o : Opening) (later : ℕ → SnapshotView) (kept : CallState) (c : Call) (filed : List Row) (x : EstablishedLegs) (stage : Stage) (moment : ℕ) : Type 0 where
+pub record IsEstablished (config : CallConfigView) (first : SnapshotView) (o : Opening) (later : ℕ → SnapshotView) (kept : CallState) (c : Call) (filed : List Row) (x : EstablishedLegs)
+    (stage : Stage) (moment : ℕ) : Type 0 where
   pub phase : c.phase ≡ Established x stage
   pub over : kept.phase ≡ moves.Over Answered
   pub answered : c.answered ≡ Some moment
@@ -97,7 +99,8 @@ Shows P o before kept old s =
 
 abbrev pub Comes : CallConfigView → SnapshotView → Opening → (ℕ → SnapshotView) → Type 0 → (before : List OutcomeTarget) → CallState → List Row → (old : List Label) → StepResult → (at : ℕ) → Type 0
 Comes config first o later P before kept rows old s at =
-    (n : ℕ) × (filed : List Row) × (s.output.rows ≡ rows ++ filed) × Agrees config first o later (moves.moves n (call_inputs_of config first o later) kept) s.call filed at × Shows P o before (moves.moves n (call_inputs_of config first o later) kept) old s
+    (n : ℕ) × (filed : List Row) × (s.output.rows ≡ rows ++ filed) × Agrees config first o later (moves.moves n (call_inputs_of config first o later) kept) s.call filed at
+    × Shows P o before (moves.moves n (call_inputs_of config first o later) kept) old s
 
 -- the legs of a call that continues or is refused, and the past parts
 pub record IsReady (config : CallConfigView) (first : SnapshotView) (later : ℕ → SnapshotView) (caller : Leg) (c : Call) (kept : CallState) : Type 0 where

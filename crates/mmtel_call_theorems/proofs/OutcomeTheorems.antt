@@ -23,7 +23,8 @@ use Rattle.mmtel_call.specs.declared.calls.Phase.TheVariants.{Established, Offer
 use Rattle.mmtel_call_theorems.specs.Charging.{charging_records_of_parts, last_part, origin_part, parts_of, past_parts, running_meters, running_meters_in}
 use Rattle.mmtel_call_theorems.specs.Endings.{endings_after}
 use Rattle.mmtel_call_theorems.specs.Outcomes.{call_inputs_after, call_inputs_of, outcome_after, result_if_answered, result_in, result_of, snapshot_at_diversion}
-use Rattle.mmtel_call_theorems.specs.Theorems.{BegunPart, ChargingIsExact, DiversionsAreCounted, ReachesItsOutcome, ShowsItsOutcome, charges_due_after, ending_by_cause, part_of_charging_record, part_of_meter, parts_after}
+use Rattle.mmtel_call_theorems.specs.Theorems.{BegunPart, ChargingIsExact, DiversionsAreCounted, ReachesItsOutcome, ShowsItsOutcome}
+use Rattle.mmtel_call_theorems.specs.Theorems.{charges_due_after, ending_by_cause, part_of_charging_record, part_of_meter, parts_after}
 use Rattle.mmtel_call_theorems.specs.Labels.{label_of_result, labels_of_targets}
 use Rattle.mmtel_call_theorems.specs.CallTrace.{TraceStart, TraceStep, call_after, charging_records_after, is_over, opening_in, over_at}
 use Rattle.mmtel_call_theorems.proofs.OutcomeAgreement.{Agrees, Ends, Place, Rings, Talks}
@@ -84,7 +85,8 @@ outcome_of_trace turn_law end_law extend enough_law s received =
 
 -- ---- the result
 
-result-at : (config : CallConfigView) (first : SnapshotView) (o : Opening) (later : ℕ → SnapshotView) (kept : CallState) (c : Call) (filed : List Row) (at : ℕ) → Place config first o later kept c filed at → result_of c ≡ moves.result_in kept.phase
+result-at : (config : CallConfigView) (first : SnapshotView) (o : Opening) (later : ℕ → SnapshotView) (kept : CallState) (c : Call) (filed : List Row) (at : ℕ) →
+    Place config first o later kept c filed at → result_of c ≡ moves.result_in kept.phase
 result-at config first o later kept c filed at (Rings x reach p) = ap (λ phase. result_in phase c.answered) p.phase ∙ ap moves.result_in (sym p.rings)
 result-at config first o later kept c filed at (Talks x stage moment p) = ap (λ phase. result_in phase c.answered) p.phase ∙ ap moves.result_in (sym p.over)
 result-at config first o later kept c filed at (Ends cause p) = ap (λ phase. result_in phase c.answered) p.phase ∙ ap moves.result_in (sym p.over)
@@ -92,7 +94,8 @@ result-at config first o later kept c filed at (Ends cause p) = ap (λ phase. re
 pub reaches_its_outcome : NextStepsAreMoves → EndingsAreMoves → LaterEndingsExtend → MovesGiveTheOutcome → ReachesItsOutcome
 reaches_its_outcome turn_law end_law extend enough_law s received =
     let (kept, t) = outcome_of_trace turn_law end_law extend enough_law s received in
-    result-at s.config s.now (opening_in s) (snapshot_at_diversion s received) kept (call_after s received) (charging_records_after s received) (over_at s received) t.agrees.place ∙ ap (λ (o : precedence.Outcome). o.result) t.outcome
+    result-at s.config s.now (opening_in s) (snapshot_at_diversion s received) kept (call_after s received) (charging_records_after s received) (over_at s received) t.agrees.place
+    ∙ ap (λ (o : precedence.Outcome). o.result) t.outcome
 
 -- ---- what is sent
 
@@ -112,7 +115,8 @@ diversions_are_counted turn_law end_law extend enough_law s received =
 -- ---- charging
 
 -- where the call is not over
-runs-at : (config : CallConfigView) (first : SnapshotView) (o : Opening) (later : ℕ → SnapshotView) (kept : CallState) (c : Call) (filed : List Row) (at : ℕ) → is_over c.phase ≡ false → Place config first o later kept c filed at →
+runs-at : (config : CallConfigView) (first : SnapshotView) (o : Opening) (later : ℕ → SnapshotView) (kept : CallState) (c : Call) (filed : List Row) (at : ℕ) → is_over c.phase ≡ false →
+    Place config first o later kept c filed at →
     (running_meters c ≡ parts_of (call_inputs_of config first o later) o.number kept.targets) × (filed ≡ [])
 runs-at config first o later kept c filed at goes (Rings x reach p) =
     let call = call_inputs_of config first o later in (
@@ -133,7 +137,8 @@ runs-at config first o later kept c filed at goes (Talks x stage moment p) =
 runs-at config first o later kept c filed at goes (Ends cause p) = absurd (let e : true ≡ false = ap is_over (sym p.phase) ∙ goes in cc)
 
 -- once it is over
-filed-at : (config : CallConfigView) (first : SnapshotView) (o : Opening) (later : ℕ → SnapshotView) (kept : CallState) (c : Call) (filed : List Row) (at : ℕ) (cause : Cause) → c.phase ≡ Over cause → Place config first o later kept c filed at →
+filed-at : (config : CallConfigView) (first : SnapshotView) (o : Opening) (later : ℕ → SnapshotView) (kept : CallState) (c : Call) (filed : List Row) (at : ℕ) (cause : Cause) → c.phase ≡ Over cause →
+    Place config first o later kept c filed at →
     (running_meters c ≡ []) × (filed ≡ charging_records_of_parts (record { answered = c.answered; at = at; holds = c.hold.holds; cause = cause }) (call_inputs_of config first o later) o.number kept.targets)
 filed-at config first o later kept c filed at cause over (Rings x reach p) = absurd (let e : Offered x ≡ Over cause = sym p.phase ∙ over in cc)
 filed-at config first o later kept c filed at cause over (Talks x stage moment p) = absurd (let e : Established x stage ≡ Over cause = sym p.phase ∙ over in cc)
@@ -170,7 +175,8 @@ past-begun end [] = refl
 past-begun end (part ∷ parts) = go (Rattle.mmtel_call_services.specs.ChargingRecords.past_answer part.kind end.answered) part ∙ ap (λ l. part_of_meter part ∷ l) (past-begun end parts)
   where
     go : (answered : Option ℕ) (part : MeterView) →
-        part_of_charging_record (Rattle.mmtel_charging.specs.Meters.row_of_meter (Rattle.mmtel_call_services.specs.ChargingRecords.with_answer answered part) end.at end.holds end.cause) ∷ map part_of_charging_record (map (past_charging_record end) parts) ≡ part_of_meter part ∷ map part_of_charging_record (map (past_charging_record end) parts)
+        part_of_charging_record (Rattle.mmtel_charging.specs.Meters.row_of_meter (Rattle.mmtel_call_services.specs.ChargingRecords.with_answer answered part) end.at end.holds end.cause) ∷
+        map part_of_charging_record (map (past_charging_record end) parts) ≡ part_of_meter part ∷ map part_of_charging_record (map (past_charging_record end) parts)
     go None part = refl
     go (Some at) part = refl
 
@@ -179,26 +185,31 @@ unfolding last_charging_record
 last-begun end None = refl
 last-begun end (Some part) = go end.answered
   where
-    go : (answered : Option ℕ) → part_of_charging_record (Rattle.mmtel_charging.specs.Meters.row_of_meter (Rattle.mmtel_call_services.specs.ChargingRecords.with_answer answered part) end.at end.holds end.cause) ∷ [] ≡ part_of_meter part ∷ []
+    go : (answered : Option ℕ) →
+        part_of_charging_record (Rattle.mmtel_charging.specs.Meters.row_of_meter (Rattle.mmtel_call_services.specs.ChargingRecords.with_answer answered part) end.at end.holds end.cause) ∷ []
+        ≡ part_of_meter part ∷ []
     go None = refl
     go (Some at) = refl
 
 rows-begun : (end : Ending) (past : List MeterView) (one last : Option MeterView) → map part_of_charging_record (charging_records end past one last) ≡ map part_of_meter (option_to_list one ++ past ++ option_to_list last)
 rows-begun end past one last =
     map-append part_of_charging_record (map (past_charging_record end) (option_to_list one) ++ map (past_charging_record end) past) (map (last_charging_record end) (option_to_list last))
-    ∙ ap (λ l. l ++ map part_of_charging_record (map (last_charging_record end) (option_to_list last))) (map-append part_of_charging_record (map (past_charging_record end) (option_to_list one)) (map (past_charging_record end) past)
+    ∙ ap (λ l. l ++ map part_of_charging_record (map (last_charging_record end) (option_to_list last)))
+    (map-append part_of_charging_record (map (past_charging_record end) (option_to_list one)) (map (past_charging_record end) past)
     ∙ ap (λ l. l ++ map part_of_charging_record (map (past_charging_record end) past)) (past-begun end (option_to_list one)) ∙ ap (λ l. map part_of_meter (option_to_list one) ++ l) (past-begun end past)
     ∙ sym (map-append part_of_meter (option_to_list one) past))
     ∙ ap (λ l. map part_of_meter (option_to_list one ++ past) ++ l) (last-begun end last)
     ∙ sym (map-append part_of_meter (option_to_list one ++ past) (option_to_list last))
 
-count-runs : (p : BegunPart → Bool) (parts run : List MeterView) (rows : List Row) → run ≡ parts → rows ≡ [] → count_by p (map part_of_meter parts) ≡ count_by p (map part_of_meter run) + count_by p (map part_of_charging_record rows)
+count-runs : (p : BegunPart → Bool) (parts run : List MeterView) (rows : List Row) → run ≡ parts → rows ≡ [] →
+    count_by p (map part_of_meter parts) ≡ count_by p (map part_of_meter run) + count_by p (map part_of_charging_record rows)
 count-runs p parts run rows e f =
     let none : count_by p (map part_of_charging_record rows) ≡ 0 = ap (λ l. count_by p (map part_of_charging_record l)) f in
     let same : count_by p (map part_of_meter run) ≡ count_by p (map part_of_meter parts) = ap (λ l. count_by p (map part_of_meter l)) e in
     omega arith
 
-count-filed : (p : BegunPart → Bool) (parts run : List MeterView) (rows : List Row) → run ≡ [] → map part_of_charging_record rows ≡ map part_of_meter parts → count_by p (map part_of_meter parts) ≡ count_by p (map part_of_meter run) + count_by p (map part_of_charging_record rows)
+count-filed : (p : BegunPart → Bool) (parts run : List MeterView) (rows : List Row) → run ≡ [] → map part_of_charging_record rows ≡ map part_of_meter parts →
+    count_by p (map part_of_meter parts) ≡ count_by p (map part_of_meter run) + count_by p (map part_of_charging_record rows)
 count-filed p parts run rows e f =
     let none : count_by p (map part_of_meter run) ≡ 0 = ap (λ l. count_by p (map part_of_meter l)) e in
     let same : count_by p (map part_of_charging_record rows) ≡ count_by p (map part_of_meter parts) = ap (count_by p) f in
@@ -216,7 +227,8 @@ each-at turn_law end_law extend enough_law s received kept p (Ends cause q) =
     let call = call_inputs_after s received in
     let targets = (outcome_after s received).targets in
     count-filed p (parts_after s received) (running_meters (call_after s received)) (charging_records_after s received) none
-    (ap (map part_of_charging_record) rows ∙ rows-begun (ending_by_cause s received cause) (past_parts call s.arrival.number 0 None targets) (origin_part call s.arrival.number) (last_part call s.arrival.number 0 targets))
+    (ap (map part_of_charging_record) rows
+    ∙ rows-begun (ending_by_cause s received cause) (past_parts call s.arrival.number 0 None targets) (origin_part call s.arrival.number) (last_part call s.arrival.number 0 targets))
 
 pub charging_is_exact : NextStepsAreMoves → EndingsAreMoves → LaterEndingsExtend → MovesGiveTheOutcome → ChargingIsExact
 charging_is_exact turn_law end_law extend enough_law = record {

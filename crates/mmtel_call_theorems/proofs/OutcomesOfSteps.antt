@@ -62,9 +62,11 @@ ringing kept reach = record kept { phase = moves.Ringing (account_at reach); end
 pub is-ringing : (kept : CallState) (reach : ReachedTargetView) → kept.phase ≡ moves.Ringing (account_at reach) → kept.endings ≡ [] → ringing kept reach ≡ kept
 is-ringing kept reach e f = ap (λ p. record kept { phase = p; endings = [] }) (sym e) ∙ ap (λ es. record kept { endings = es }) (sym f)
 
-next-step-came : (law : EndingsAreMoves) (config : CallConfigView) (first : SnapshotView) (o : Opening) (later : ℕ → SnapshotView) (kept : CallState) (reach : ReachedTargetView) (at : ℕ) (how : AttemptEndView) (rows : List Row) (P : Type 0) (old : List Label) (s : StepResult) (moment : ℕ) →
+next-step-came : (law : EndingsAreMoves) (config : CallConfigView) (first : SnapshotView) (o : Opening) (later : ℕ → SnapshotView) (kept : CallState) (reach : ReachedTargetView) (at : ℕ)
+    (how : AttemptEndView) (rows : List Row) (P : Type 0) (old : List Label) (s : StepResult) (moment : ℕ) →
     kept.phase ≡ moves.Ringing (account_at reach) → kept.endings ≡ [] →
-    Comes config first o later P kept.targets (state_after_attempt_step (call_inputs_of config first o later) (account_at reach) at (ringing kept reach) (step_after_attempt (targets.caller_facts (call_inputs_of config first o later) kept.done at) (turns.sheet_of reach) how)) rows old s moment →
+    Comes config first o later P kept.targets (state_after_attempt_step (call_inputs_of config first o later) (account_at reach) at (ringing kept reach)
+    (step_after_attempt (targets.caller_facts (call_inputs_of config first o later) kept.done at) (turns.sheet_of reach) how)) rows old s moment →
     Comes config first o later P kept.targets (with_more_endings kept (ending_at at how ∷ [])) rows old s moment
 next-step-came law config first o later kept reach at how rows P old s moment e f came =
     subst (λ (k : CallState). Comes config first o later P kept.targets (with_more_endings k (ending_at at how ∷ [])) rows old s moment) (is-ringing kept reach e f)
@@ -96,29 +98,37 @@ handed-status (causes.Relayed other) code e = same-code code other e
 handed-status (causes.Unreachable other) code e = same-code code other e
 handed-status cause code e = absurd cc
 
-refused-if : (config : CallConfigView) (first : SnapshotView) (later : ℕ → SnapshotView) (at : ℕ) (caller : Leg) (cause : Cause) (c : Call) (rows : List Row) (P : Type 0) (old : List Label) (kept : CallState) (b : Bool) (one two : StepOutput) →
+refused-if : (config : CallConfigView) (first : SnapshotView) (later : ℕ → SnapshotView) (at : ℕ) (caller : Leg) (cause : Cause) (c : Call) (rows : List Row) (P : Type 0) (old : List Label)
+    (kept : CallState) (b : Bool) (one two : StepOutput) →
     IsReady config first later caller c kept → one.rows ≡ rows → two.rows ≡ rows →
     (b ≡ true → P → labels_of c.opening.key one.out ≡ old ++ final_label (status_of cause)) → (P → labels_of c.opening.key two.out ≡ old ++ final_label (status_of cause)) →
     Comes config first c.opening later P kept.targets (with_phase kept (moves.Over (Final cause))) rows old (if b then call_end at cause caller.meter None c one else call_end at cause caller.meter None c two) at
 refused-if config first later at caller cause c rows P old kept true one two ready e f g h = refused-comes config first later at caller cause c one rows P old kept ready e (g refl)
 refused-if config first later at caller cause c rows P old kept false one two ready e f g h = refused-comes config first later at caller cause c two rows P old kept ready f h
 
-refused-by-comes : (config : CallConfigView) (first : SnapshotView) (later : ℕ → SnapshotView) (at : ℕ) (caller : Leg) (service : Option Service) (m : Option MessageView) (cause : Cause) (c : Call) (output : StepOutput) (rows : List Row) (P : Type 0) (old : List Label) (kept : CallState) →
+refused-by-comes : (config : CallConfigView) (first : SnapshotView) (later : ℕ → SnapshotView) (at : ℕ) (caller : Leg) (service : Option Service) (m : Option MessageView) (cause : Cause) (c : Call)
+    (output : StepOutput) (rows : List Row) (P : Type 0) (old : List Label) (kept : CallState) →
     IsReady config first later caller c kept → output.rows ≡ rows → (P → labels_of c.opening.key output.out ≡ old) →
     Comes config first c.opening later P kept.targets (with_phase kept (moves.Over (Final cause))) rows old (relayed_refusal config at caller service m cause c output) at
 refused-by-comes config first later at caller service None cause c output rows P old kept ready e shown =
-    refused-comes config first later at caller cause c (with_status_to_caller config c (status_of cause) output) rows P old kept ready e (λ p. status-labels config c (status_of cause) output ∙ ap (λ l. l ++ final_label (status_of cause)) (shown p))
+    refused-comes config first later at caller cause c (with_status_to_caller config c (status_of cause) output) rows P old kept ready e
+    (λ p. status-labels config c (status_of cause) output ∙ ap (λ l. l ++ final_label (status_of cause)) (shown p))
 refused-by-comes config first later at caller service (Some m) cause c output rows P old kept ready e shown =
-    refused-if config first later at caller cause c rows P old kept (is_status (status_in m.parsed.start) (relayed_status cause)) (with_relay_to_caller config c service m output) (with_status_to_caller config c (status_of cause) output) ready e e
-    (λ handed p. relayed-shown config c service m output ∙ ap (λ code. labels_of c.opening.key output.out ++ final_label code) (sym (handed-status cause (status_in m.parsed.start) handed)) ∙ ap (λ l. l ++ final_label (status_of cause)) (shown p))
+    refused-if config first later at caller cause c rows P old kept (is_status (status_in m.parsed.start) (relayed_status cause)) (with_relay_to_caller config c service m output)
+    (with_status_to_caller config c (status_of cause) output) ready e e
+    (λ handed p. relayed-shown config c service m output ∙ ap (λ code. labels_of c.opening.key output.out ++ final_label code) (sym (handed-status cause (status_in m.parsed.start) handed))
+    ∙ ap (λ l. l ++ final_label (status_of cause)) (shown p))
     (λ p. status-labels config c (status_of cause) output ∙ ap (λ l. l ++ final_label (status_of cause)) (shown p))
 
 -- by what was decided
-after-comes : (law : NextStepsAreMoves) (config : CallConfigView) (now first : SnapshotView) (later : ℕ → SnapshotView) (caller : Leg) (service : Option Service) (reach : ReachedTargetView) (m : Option MessageView) (after : StepAfterAttemptView)
+after-comes : (law : NextStepsAreMoves) (config : CallConfigView) (now first : SnapshotView) (later : ℕ → SnapshotView) (caller : Leg) (service : Option Service) (reach : ReachedTargetView)
+    (m : Option MessageView) (after : StepAfterAttemptView)
     (c : Call) (output : StepOutput) (rows : List Row) (P : Type 0) (old : List Label) (kept : CallState) →
-    (after ≡ EndAnswered → ⊥) → IsKnown first c.opening → IsReady config first later caller c kept → IsDiverting config first later c kept service reach → output.rows ≡ rows → (P → labels_of c.opening.key output.out ≡ old) →
+    (after ≡ EndAnswered → ⊥) → IsKnown first c.opening → IsReady config first later caller c kept → IsDiverting config first later c kept service reach → output.rows ≡ rows →
+    (P → labels_of c.opening.key output.out ≡ old) →
     SnapshotsFrom config now c.opening later kept (on_end config now caller service m after c output) →
-    Comes config first c.opening later P kept.targets (state_after_attempt_step (call_inputs_of config first c.opening later) (account_at reach) now.at kept after) rows old (on_end config now caller service m after c output) now.at
+    Comes config first c.opening later P kept.targets (state_after_attempt_step (call_inputs_of config first c.opening later) (account_at reach) now.at kept after) rows old
+    (on_end config now caller service m after c output) now.at
 after-comes law config now first later caller service reach m EndAnswered c output rows P old kept not_answered known ready diverts same shown stands = absurd (not_answered refl)
 after-comes law config now first later caller service reach m (EndDivert due) c output rows P old kept not_answered known ready diverts same shown stands =
     divert-comes law c.diversions.remaining config now first later caller P service reach due c output rows old kept known ready diverts refl same shown stands
@@ -128,7 +138,8 @@ after-comes law config now first later caller service reach m (EndRefuse cause) 
 -- ---- while it rings
 
 -- what is known at this step of a call that rings, with this opening
-pub record AtStep (config : CallConfigView) (now first : SnapshotView) (later : ℕ → SnapshotView) (kept : CallState) (c : Call) (filed : List Row) (x : OfferedAttempt) (reach : ReachedTargetView) (s : StepResult) (o : Opening) : Type 0 where
+pub record AtStep (config : CallConfigView) (now first : SnapshotView) (later : ℕ → SnapshotView) (kept : CallState) (c : Call) (filed : List Row) (x : OfferedAttempt) (reach : ReachedTargetView)
+    (s : StepResult) (o : Opening) : Type 0 where
   pub known : IsKnown first o
   pub remaining : c.diversions.remaining + kept.done ≡ total config o
   pub count : c.diversions.count ≡ received_diversions o + kept.done
@@ -155,7 +166,9 @@ ready-by config now first later kept c d filed x reach s step made same =
       past = ap (λ past. past ++ option_to_list x.callee.leg.meter) (same.past ∙ p.past) ∙ ap (λ last. past_parts call number 0 None kept.targets ++ option_to_list last) p.last;
     }
 
-pub next-step-known : (config : CallConfigView) (first : SnapshotView) (o : Opening) (later : ℕ → SnapshotView) (done count at : ℕ) (x : OfferedAttempt) (reach : ReachedTargetView) (how : AttemptEndView) → IsKnown first o →
+pub next-step-known :
+    (config : CallConfigView) (first : SnapshotView) (o : Opening) (later : ℕ → SnapshotView) (done count at : ℕ) (x : OfferedAttempt) (reach : ReachedTargetView) (how : AttemptEndView) →
+    IsKnown first o →
     count ≡ received_diversions o + done → turns.sheet_of reach ≡ service_sheet x.attempt.service →
     step_after_attempt (targets.caller_facts (call_inputs_of config first o later) done at) (turns.sheet_of reach) how ≡ decision_after o at (nat_lt 0 count) x.attempt.service how
 next-step-known config first o later done count at x reach how known counted e =
@@ -163,8 +176,10 @@ next-step-known config first o later done count at x reach how known counted e =
     ∙ ap (λ sheet. step_after_attempt (decisions.caller_facts o at (nat_lt 0 count)) sheet how) e
 
 -- its attempt failed
-went-on : (turn_law : NextStepsAreMoves) (end_law : EndingsAreMoves) (config : CallConfigView) (now first : SnapshotView) (later : ℕ → SnapshotView) (kept : CallState) (c d : Call) (filed rows : List Row) (P : Type 0) (old : List Label) (x : OfferedAttempt) (reach : ReachedTargetView) (how : AttemptEndView) (m : Option MessageView) (output : StepOutput) →
-    AtStep config now first later kept c filed x reach (after_attempt config now x how m d output) d.opening → counted kept → kept.endings ≡ [] → SameCall c d → (how ≡ Answer → ⊥) → output.rows ≡ rows → (P → labels_of d.opening.key output.out ≡ old) →
+went-on : (turn_law : NextStepsAreMoves) (end_law : EndingsAreMoves) (config : CallConfigView) (now first : SnapshotView) (later : ℕ → SnapshotView) (kept : CallState) (c d : Call)
+    (filed rows : List Row) (P : Type 0) (old : List Label) (x : OfferedAttempt) (reach : ReachedTargetView) (how : AttemptEndView) (m : Option MessageView) (output : StepOutput) →
+    AtStep config now first later kept c filed x reach (after_attempt config now x how m d output) d.opening → counted kept → kept.endings ≡ [] → SameCall c d → (how ≡ Answer → ⊥) →
+    output.rows ≡ rows → (P → labels_of d.opening.key output.out ≡ old) →
     Comes config first d.opening later P kept.targets (with_more_endings kept (ending_at now.at how ∷ [])) rows old (after_attempt config now x how m d output) now.at
 went-on turn_law end_law config now first later kept c d filed rows P old x reach how m output step made empty same not_answered none shown =
     let o = d.opening in
@@ -184,7 +199,8 @@ refuses-so : (by_caller : Bool) (c : FactsView) (sheet : Option Sheet) → step_
 refuses-so true c sheet = refl
 refuses-so false c sheet = refl
 
-given-up : (by_caller : Bool) (end_law : EndingsAreMoves) (config : CallConfigView) (now first : SnapshotView) (later : ℕ → SnapshotView) (kept : CallState) (c d : Call) (filed rows : List Row) (P : Type 0) (old : List Label) (x y : OfferedAttempt) (reach : ReachedTargetView) (output : StepOutput) →
+given-up : (by_caller : Bool) (end_law : EndingsAreMoves) (config : CallConfigView) (now first : SnapshotView) (later : ℕ → SnapshotView) (kept : CallState) (c d : Call) (filed rows : List Row)
+    (P : Type 0) (old : List Label) (x y : OfferedAttempt) (reach : ReachedTargetView) (output : StepOutput) →
     let how = faring.given_how by_caller in
     let cause = faring.given_cause by_caller in
     AtStep config now first later kept c filed x reach (offered_call_end now.at cause y d output) d.opening → counted kept → kept.endings ≡ [] → SameCall c d →
@@ -226,8 +242,10 @@ given-up by_caller end_law config now first later kept c d filed rows P old x y 
     ))
 
 -- it continues to ring
-still-came : (config : CallConfigView) (now first : SnapshotView) (later : ℕ → SnapshotView) (kept : CallState) (c : Call) (filed : List Row) (before : StepOutput) (P : Type 0) (x y : OfferedAttempt) (reach : ReachedTargetView) (s : StepResult) (o : Opening) →
-    AtStep config now first later kept c filed x reach s o → counted kept → kept.endings ≡ [] → c.opening ≡ o → faring.StillRings P x c before s y → Comes config first o later P kept.targets (with_more_endings kept []) before.rows (labels_of o.key before.out) s now.at
+still-came : (config : CallConfigView) (now first : SnapshotView) (later : ℕ → SnapshotView) (kept : CallState) (c : Call) (filed : List Row) (before : StepOutput) (P : Type 0) (x y : OfferedAttempt)
+    (reach : ReachedTargetView) (s : StepResult) (o : Opening) →
+    AtStep config now first later kept c filed x reach s o → counted kept → kept.endings ≡ [] → c.opening ≡ o → faring.StillRings P x c before s y →
+    Comes config first o later P kept.targets (with_more_endings kept []) before.rows (labels_of o.key before.out) s now.at
 unfolding moves.moves
 still-came config now first later kept c filed before P x y reach s o step made empty opening r =
     let p = step.rings in (
@@ -264,8 +282,10 @@ still-came config now first later kept c filed before P x y reach s o step made 
     )
 
 -- it was answered
-answered-came : (end_law : EndingsAreMoves) (config : CallConfigView) (now first : SnapshotView) (later : ℕ → SnapshotView) (kept : CallState) (c : Call) (filed : List Row) (before : StepOutput) (P : Type 0) (x : OfferedAttempt) (reach : ReachedTargetView) (y : EstablishedLegs) (stage : Stage) (s : StepResult) (o : Opening) →
-    AtStep config now first later kept c filed x reach s o → counted kept → kept.endings ≡ [] → c.opening ≡ o → faring.WasAnswered P now.at x c before s y stage → Comes config first o later P kept.targets (with_more_endings kept (ending_at now.at Answer ∷ [])) before.rows (labels_of o.key before.out) s now.at
+answered-came : (end_law : EndingsAreMoves) (config : CallConfigView) (now first : SnapshotView) (later : ℕ → SnapshotView) (kept : CallState) (c : Call) (filed : List Row) (before : StepOutput)
+    (P : Type 0) (x : OfferedAttempt) (reach : ReachedTargetView) (y : EstablishedLegs) (stage : Stage) (s : StepResult) (o : Opening) →
+    AtStep config now first later kept c filed x reach s o → counted kept → kept.endings ≡ [] → c.opening ≡ o → faring.WasAnswered P now.at x c before s y stage →
+    Comes config first o later P kept.targets (with_more_endings kept (ending_at now.at Answer ∷ [])) before.rows (labels_of o.key before.out) s now.at
 unfolding moves.moves
 answered-came end_law config now first later kept c filed before P x reach y stage s o step made empty opening r =
     let p = step.rings in
@@ -293,13 +313,16 @@ answered-came end_law config now first later kept c filed before P x reach y sta
     )
 
 -- whatever it does
-pub ringing-came : (turn_law : NextStepsAreMoves) (end_law : EndingsAreMoves) (config : CallConfigView) (now first : SnapshotView) (later : ℕ → SnapshotView) (kept : CallState) (c : Call) (filed : List Row) (before : StepOutput) (P : Type 0) (x : OfferedAttempt) (reach : ReachedTargetView) (end : Option AttemptEndView) (s : StepResult) (o : Opening) →
+pub ringing-came : (turn_law : NextStepsAreMoves) (end_law : EndingsAreMoves) (config : CallConfigView) (now first : SnapshotView) (later : ℕ → SnapshotView) (kept : CallState) (c : Call)
+    (filed : List Row) (before : StepOutput) (P : Type 0) (x : OfferedAttempt) (reach : ReachedTargetView) (end : Option AttemptEndView) (s : StepResult) (o : Opening) →
     AtStep config now first later kept c filed x reach s o → counted kept → kept.endings ≡ [] → c.opening ≡ o → faring.AttemptStep P config now x c before end s →
     Comes config first o later P kept.targets (with_more_endings kept (ends_by now.at end)) before.rows (labels_of o.key before.out) s now.at
 ringing-came turn_law end_law config now first later kept c filed before P x reach end s o step made empty opening (faring.Rings e y r) =
-    subst (λ (end : Option AttemptEndView). Comes config first o later P kept.targets (with_more_endings kept (ends_by now.at end)) before.rows (labels_of o.key before.out) s now.at) (sym e) (still-came config now first later kept c filed before P x y reach s o step made empty opening r)
+    subst (λ (end : Option AttemptEndView). Comes config first o later P kept.targets (with_more_endings kept (ends_by now.at end)) before.rows (labels_of o.key before.out) s now.at) (sym e)
+    (still-came config now first later kept c filed before P x y reach s o step made empty opening r)
 ringing-came turn_law end_law config now first later kept c filed before P x reach end s o step made empty opening (faring.Answers e y stage r) =
-    subst (λ (end : Option AttemptEndView). Comes config first o later P kept.targets (with_more_endings kept (ends_by now.at end)) before.rows (labels_of o.key before.out) s now.at) (sym e) (answered-came end_law config now first later kept c filed before P x reach y stage s o step made empty opening r)
+    subst (λ (end : Option AttemptEndView). Comes config first o later P kept.targets (with_more_endings kept (ends_by now.at end)) before.rows (labels_of o.key before.out) s now.at) (sym e)
+    (answered-came end_law config now first later kept c filed before P x reach y stage s o step made empty opening r)
 ringing-came turn_law end_law config now first later kept c filed before P x reach end s o step made empty opening (faring.GivesUp by_caller e y d output r) =
     let same_opening : d.opening ≡ o = r.same.opening ∙ opening in
     let how = faring.given_how by_caller in
@@ -309,7 +332,8 @@ ringing-came turn_law end_law config now first later kept c filed before P x rea
     subst (λ (end : Option AttemptEndView). Comes config first o later P kept.targets (with_more_endings kept (ends_by now.at end)) before.rows (labels_of o.key before.out) s now.at) (sym e)
     (subst (λ (s : StepResult). Comes config first o later P kept.targets (with_more_endings kept (ending_at now.at how ∷ [])) before.rows (labels_of o.key before.out) s now.at) (sym r.is)
     (subst (λ (o : Opening). Comes config first o later P kept.targets (with_more_endings kept (ending_at now.at how ∷ [])) before.rows (labels_of o.key before.out) given now.at) same_opening
-    (given-up by_caller end_law config now first later kept c d filed before.rows P (labels_of d.opening.key before.out) x y reach output (subst (AtStep config now first later kept c filed x reach given) (sym same_opening) here) made empty r.same r.caller r.callee r.none
+    (given-up by_caller end_law config now first later kept c d filed before.rows P (labels_of d.opening.key before.out) x y reach output
+    (subst (AtStep config now first later kept c filed x reach given) (sym same_opening) here) made empty r.same r.caller r.callee r.none
     (λ q. subst (λ (o : Opening). labels_of o.key output.out ≡ labels_of o.key before.out ++ final_label (status_of cause)) (sym r.same.opening) (r.shown q)))))
 ringing-came turn_law end_law config now first later kept c filed before P x reach end s o step made empty opening (faring.GoesOn how e m d output r) =
     let same_opening : d.opening ≡ o = r.same.opening ∙ opening in
@@ -318,7 +342,8 @@ ringing-came turn_law end_law config now first later kept c filed before P x rea
     subst (λ (end : Option AttemptEndView). Comes config first o later P kept.targets (with_more_endings kept (ends_by now.at end)) before.rows (labels_of o.key before.out) s now.at) (sym e)
     (subst (λ (s : StepResult). Comes config first o later P kept.targets (with_more_endings kept (ending_at now.at how ∷ [])) before.rows (labels_of o.key before.out) s now.at) (sym r.is)
     (subst (λ (o : Opening). Comes config first o later P kept.targets (with_more_endings kept (ending_at now.at how ∷ [])) before.rows (labels_of o.key before.out) gone now.at) same_opening
-    (went-on turn_law end_law config now first later kept c d filed before.rows P (labels_of d.opening.key before.out) x reach how m output (subst (AtStep config now first later kept c filed x reach gone) (sym same_opening) here) made empty r.same r.unanswered r.none
+    (went-on turn_law end_law config now first later kept c d filed before.rows P (labels_of d.opening.key before.out) x reach how m output
+    (subst (AtStep config now first later kept c filed x reach gone) (sym same_opening) here) made empty r.same r.unanswered r.none
     (λ q. subst (λ (o : Opening). labels_of o.key output.out ≡ labels_of o.key before.out) (sym r.same.opening) (r.shown q)))))
 
 -- ---- once it was answered
@@ -327,8 +352,10 @@ answered-cause : (answered : Option ℕ) (moment : ℕ) → answered ≡ Some mo
 answered-cause None moment e = absurd cc
 answered-cause (Some at) moment e = refl
 
-stable-came-at : (config : CallConfigView) (first : SnapshotView) (later : ℕ → SnapshotView) (at : ℕ) (kept : CallState) (c d : Call) (filed rows : List Row) (x y : EstablishedLegs) (stage : Stage) (moment : ℕ) (output : StepOutput) →
-    IsEstablished config first d.opening later kept c filed x stage moment → c.diversions.remaining + kept.done ≡ total config d.opening → c.diversions.count ≡ received_diversions d.opening + kept.done → counted kept → kept.endings ≡ [] → SameCall c d →
+stable-came-at : (config : CallConfigView) (first : SnapshotView) (later : ℕ → SnapshotView) (at : ℕ) (kept : CallState) (c d : Call) (filed rows : List Row) (x y : EstablishedLegs) (stage : Stage)
+    (moment : ℕ) (output : StepOutput) →
+    IsEstablished config first d.opening later kept c filed x stage moment → c.diversions.remaining + kept.done ≡ total config d.opening →
+    c.diversions.count ≡ received_diversions d.opening + kept.done → counted kept → kept.endings ≡ [] → SameCall c d →
     y.caller.meter ≡ x.caller.meter → y.callee.meter ≡ x.callee.meter → output.rows ≡ rows →
     Came config first d.opening later kept rows (established_call_end at y d output) at
 unfolding moves.moves
@@ -358,8 +385,10 @@ stable-came-at config first later at kept c d filed rows x y stage moment output
     )
 
 -- it remains established or both sides leave
-pub stable-came : (config : CallConfigView) (first : SnapshotView) (o : Opening) (later : ℕ → SnapshotView) (at : ℕ) (kept : CallState) (c : Call) (filed rows : List Row) (x : EstablishedLegs) (stage : Stage) (moment : ℕ) (s : StepResult) →
-    IsEstablished config first o later kept c filed x stage moment → c.diversions.remaining + kept.done ≡ total config o → c.diversions.count ≡ received_diversions o + kept.done → counted kept → kept.endings ≡ [] → c.opening ≡ o →
+pub stable-came : (config : CallConfigView) (first : SnapshotView) (o : Opening) (later : ℕ → SnapshotView) (at : ℕ) (kept : CallState) (c : Call) (filed rows : List Row) (x : EstablishedLegs)
+    (stage : Stage) (moment : ℕ) (s : StepResult) →
+    IsEstablished config first o later kept c filed x stage moment → c.diversions.remaining + kept.done ≡ total config o → c.diversions.count ≡ received_diversions o + kept.done → counted kept →
+    kept.endings ≡ [] → c.opening ≡ o →
     answering.ContinuesOrEnds at x c rows s → Came config first o later kept rows s at
 unfolding moves.moves
 stable-came config first o later at kept c filed rows x stage moment s p left count made empty opening (answering.Continues y next r) = (

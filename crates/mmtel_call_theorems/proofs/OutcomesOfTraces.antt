@@ -32,7 +32,8 @@ use Rattle.mmtel_call.specs.declared.calls.Stage.{Stage}
 use Rattle.mmtel_call.specs.declared.calls.OfferedAttempt.{OfferedAttempt}
 use Rattle.mmtel_waiting.specs.declared.hold.HoldState.{HoldState}
 use Rattle.mmtel_call_theorems.specs.Charging.{charging_records_of_parts}
-use Rattle.mmtel_call_theorems.specs.Labels.{HasOtherKey, HaveEmptyOutputs, InFlightHasOtherKeys, Label, emits_while_offered, final_label, is_offered, label_if, label_of_result, labels_of, labels_of_targets, request_uri_at}
+use Rattle.mmtel_call_theorems.specs.Labels.{HasOtherKey, HaveEmptyOutputs, InFlightHasOtherKeys, Label, emits_while_offered, final_label}
+use Rattle.mmtel_call_theorems.specs.Labels.{is_offered, label_if, label_of_result, labels_of, labels_of_targets, request_uri_at}
 use Rattle.mmtel_call_theorems.proofs.Labels.{labels-append, quiet-provisional}
 use Rattle.mmtel_transaction.specs.declared.words.Emit.{Emit}
 use Rattle.mmtel_transaction.specs.declared.words.TKey.{TKey}
@@ -65,7 +66,8 @@ LabelsAgree s received kept = HaveEmptyOutputs s received → labels_of s.arriva
 -- the phase of the call is the one to which this many moves over its endings lead
 abbrev pub StateAgrees : TraceStart → List TraceStep → (ℕ → SnapshotView) → Type 0
 StateAgrees s received later =
-    (m : ℕ) × Agrees s.config s.now (opening_in s) later (moves.moves m (call_in s later) (initial_state (call_in s later) (endings_after s received))) (call_after s received) (charging_records_after s received) (over_at s received)
+    (m : ℕ) × Agrees s.config s.now (opening_in s) later (moves.moves m (call_in s later) (initial_state (call_in s later) (endings_after s received))) (call_after s received)
+    (charging_records_after s received) (over_at s received)
     × LabelsAgree s received (moves.moves m (call_in s later) (initial_state (call_in s later) (endings_after s received)))
 
 pub is-known : (s : TraceStart) → IsKnown s.now (opening_in s)
@@ -80,14 +82,16 @@ pub plus-zero : (n : ℕ) → n + 0 ≡ n
 plus-zero n = omega arith
 
 -- by the cause that refuses it
-begins-came : (law : NextStepsAreMoves) (refusal : Option Cause) (config : CallConfigView) (now : SnapshotView) (o : Opening) (later : ℕ → SnapshotView) (output : StepOutput) (rows : List Row) (old : List Label) → IsKnown now o → output.rows ≡ rows → (Unit {0} → labels_of o.key output.out ≡ old) →
+begins-came : (law : NextStepsAreMoves) (refusal : Option Cause) (config : CallConfigView) (now : SnapshotView) (o : Opening) (later : ℕ → SnapshotView) (output : StepOutput) (rows : List Row)
+    (old : List Label) → IsKnown now o → output.rows ≡ rows → (Unit {0} → labels_of o.key output.out ≡ old) →
     let c = new_call config o in
     let s = unless_refused refusal config now (caller_of now.at c) c output in
     ((j : ℕ) → j < total config o - s.call.diversions.remaining → later j ≡ now) →
     Comes config now o later (Unit {0}) [] (empty_kept (initial_phase refusal (call_inputs_of config now o later))) rows old s now.at
 begins-came law None config now o later output rows old known same shown stands =
     let c = new_call config o in
-    target-comes law c.diversions.remaining config now now later (caller_of now.at c) (Unit {0}) (divert-comes law c.diversions.remaining config now now later (caller_of now.at c) (Unit {0})) None (initial_target o) c output rows old (empty_kept (moves.Over precedence.Pending)) known
+    target-comes law c.diversions.remaining config now now later (caller_of now.at c) (Unit {0}) (divert-comes law c.diversions.remaining config now now later (caller_of now.at c) (Unit {0})) None
+    (initial_target o) c output rows old (empty_kept (moves.Over precedence.Pending)) known
     (record {
       answered = refl;
       remaining = plus-zero (total config o);
@@ -118,7 +122,8 @@ begins-came law (Some cause) config now o later output rows old known same shown
 pub refusal-known : (config : CallConfigView) (now : SnapshotView) (o : Opening) (later : ℕ → SnapshotView) → IsKnown now o → opening_refusal config now.at o ≡ refusal_at_opening (call_inputs_of config now o later)
 refusal-known config now o later known =
     ap (λ sheet. refusal_on_opening o.invite.parsed.wants o.served sheet (Rattle.mmtel_call_services.specs.Decisions.target_facts config o now.at (initial_target o).uri)) known.sheet
-    ∙ ap (λ (k : FactsView). refusal_on_opening o.invite.parsed.wants o.served (option_map (Rattle.mmtel_precedence.specs.Calls.sheet_at now) o.served.origin) k) (of_target-known config now o later now.at (initial_target o).uri known)
+    ∙ ap (λ (k : FactsView). refusal_on_opening o.invite.parsed.wants o.served (option_map (Rattle.mmtel_precedence.specs.Calls.sheet_at now) o.served.origin) k)
+    (of_target-known config now o later now.at (initial_target o).uri known)
 
 -- what is appended to what was there
 pub added-is : {A : Type 0} (before behind after : List A) → after ≡ before ++ behind → items_added before after ≡ behind
@@ -129,8 +134,10 @@ opens-came : (law : NextStepsAreMoves) (s : TraceStart) (later : ℕ → Snapsho
 unfolding call_after_opening call_after snapshot_at_diversion
 opens-came law s later fits =
     let o = opening_in s in
-    subst (λ refusal. Comes s.config s.now o later (Unit {0}) [] (empty_kept (initial_phase refusal (call_in s later))) s.output.rows (labels_of s.arrival.key s.output.out) (first_step s) s.now.at) (refusal-known s.config s.now o later (is-known s))
-    (begins-came law (opening_refusal s.config s.now.at o) s.config s.now o later (with_status_to_caller s.config (new_call s.config o) 100 (after_draw s.output)) s.output.rows (labels_of s.arrival.key s.output.out) (is-known s) refl (λ p. (quiet-provisional s.arrival.key s.arrival.key _ _ _ (after_draw s.output) refl).labels) fits)
+    subst (λ refusal. Comes s.config s.now o later (Unit {0}) [] (empty_kept (initial_phase refusal (call_in s later))) s.output.rows (labels_of s.arrival.key s.output.out) (first_step s) s.now.at)
+    (refusal-known s.config s.now o later (is-known s))
+    (begins-came law (opening_refusal s.config s.now.at o) s.config s.now o later (with_status_to_caller s.config (new_call s.config o) 100 (after_draw s.output)) s.output.rows
+    (labels_of s.arrival.key s.output.out) (is-known s) refl (λ p. (quiet-provisional s.arrival.key s.arrival.key _ _ _ (after_draw s.output) refl).labels) fits)
 
 -- of a step whose output was empty before
 shown-of : (key : TKey) (old new : List Emit) (signs : List Label) → old ≡ [] → labels_of key new ≡ labels_of key old ++ signs → labels_of key (items_added old new) ≡ signs
@@ -196,9 +203,11 @@ targets-more o (target ∷ before) new =
     ap (λ l. label_if target.offer (request_uri_at o target.diversion target.uri) ++ l) (targets-more o before new)
     ∙ sym (append_assoc (label_if target.offer (request_uri_at o target.diversion target.uri)) (labels_of_targets o before) (labels_of_targets o new))
 
-then-ringing : (s : TraceStart) (x : TraceStep) (earlier : List TraceStep) (c : Call) (kept after : CallState) (trial : OfferedAttempt) (reach : ReachedTargetView) (new : List precedence.OutcomeTarget) → c.phase ≡ Offered trial → kept.phase ≡ moves.Ringing (Rattle.mmtel_precedence.specs.Moves.account_at reach) → LabelsAgree s earlier kept →
+then-ringing : (s : TraceStart) (x : TraceStep) (earlier : List TraceStep) (c : Call) (kept after : CallState) (trial : OfferedAttempt) (reach : ReachedTargetView) (new : List precedence.OutcomeTarget) →
+    c.phase ≡ Offered trial → kept.phase ≡ moves.Ringing (Rattle.mmtel_precedence.specs.Moves.account_at reach) → LabelsAgree s earlier kept →
     after.targets ≡ kept.targets ++ new → (HaveEmptyOutputs s earlier → InFlightHasOtherKeys s.arrival.key c.relayed) →
-    (HasOtherKey s.arrival.key x.signal × InFlightHasOtherKeys s.arrival.key c.relayed → labels_of s.arrival.key (next_step s x c).output.out ≡ labels_of s.arrival.key x.output.out ++ (labels_of_targets (opening_in s) new ++ label_of_result (moves.result_in after.phase))) →
+    (HasOtherKey s.arrival.key x.signal × InFlightHasOtherKeys s.arrival.key c.relayed →
+    labels_of s.arrival.key (next_step s x c).output.out ≡ labels_of s.arrival.key x.output.out ++ (labels_of_targets (opening_in s) new ++ label_of_result (moves.result_in after.phase))) →
     Then s x earlier c after
 then-ringing s x earlier c kept after trial reach new offered rings told targets fly shown own =
     let key = s.arrival.key in
@@ -221,10 +230,12 @@ then-still s x earlier c kept offered told own =
     ap (λ b. labels_of s.arrival.key (emits_while_offered s earlier ++ (if b then items_added x.output.out (next_step s x c).output.out else []))) offered
     ∙ ap (labels_of s.arrival.key) (append-nil (emits_while_offered s earlier)) ∙ told own.2
 
-next-ringing : (turn_law : NextStepsAreMoves) (end_law : EndingsAreMoves) (extend : LaterEndingsExtend) (s : TraceStart) (x : TraceStep) (earlier : List TraceStep) (later : ℕ → SnapshotView) (c : Call) (filed : List Row) (before m : ℕ) (trial : OfferedAttempt) (reach : ReachedTargetView) →
+next-ringing : (turn_law : NextStepsAreMoves) (end_law : EndingsAreMoves) (extend : LaterEndingsExtend) (s : TraceStart) (x : TraceStep) (earlier : List TraceStep) (later : ℕ → SnapshotView)
+    (c : Call) (filed : List Row) (before m : ℕ) (trial : OfferedAttempt) (reach : ReachedTargetView) →
     let kept = moves.moves m (call_in s later) (initial_state (call_in s later) (endings_after s earlier)) in
     Agrees s.config s.now (opening_in s) later kept c filed before → IsRinging s.config s.now (opening_in s) later kept c filed trial reach →
-    ((j : ℕ) → kept.done ≤ j → j < total s.config (opening_in s) - (next_step s x c).call.diversions.remaining → later j ≡ x.now) → LabelsAgree s earlier kept → (HaveEmptyOutputs s earlier → InFlightHasOtherKeys s.arrival.key c.relayed) →
+    ((j : ℕ) → kept.done ≤ j → j < total s.config (opening_in s) - (next_step s x c).call.diversions.remaining → later j ≡ x.now) → LabelsAgree s earlier kept →
+    (HaveEmptyOutputs s earlier → InFlightHasOtherKeys s.arrival.key c.relayed) →
     Next s earlier later (ending_by x c) (next_step s x c).call (filed ++ items_added x.output.rows (next_step s x c).output.rows) (at_if_over c.phase before x.now.at) (Then s x earlier c)
 next-ringing turn_law end_law extend s x earlier later c filed before m trial reach agrees p stands told fly =
     let o = opening_in s in
@@ -233,9 +244,11 @@ next-ringing turn_law end_law extend s x earlier later c filed before m trial re
     let new = next_step s x c in
     let P = faring.IsOwn c x.signal in
     let fares : faring.AttemptStep P s.config x.now trial c x.output (end_in c.phase c x.signal) new =
-    subst (λ (c : Call). faring.AttemptStep (faring.IsOwn c x.signal) s.config x.now trial c x.output (end_in c.phase c x.signal) (next_step s x c)) (sym (in-phase c (Offered trial) p.phase)) (faring.attempt-step s.config x.now trial x.signal c x.output) in
+    subst (λ (c : Call). faring.AttemptStep (faring.IsOwn c x.signal) s.config x.now trial c x.output (end_in c.phase c x.signal) (next_step s x c)) (sym (in-phase c (Offered trial) p.phase))
+    (faring.attempt-step s.config x.now trial x.signal c x.output) in
     let came : Comes s.config s.now o later P kept.targets (with_more_endings kept (ending_by x c)) x.output.rows (labels_of o.key x.output.out) new x.now.at =
-    ringing-came turn_law end_law s.config x.now s.now later kept c filed x.output P trial reach (end_in c.phase c x.signal) new o (record { known = is-known s; remaining = agrees.remaining; count = agrees.count; rings = p; snapshots = stands }) agrees.made agrees.empty agrees.opening fares in
+    ringing-came turn_law end_law s.config x.now s.now later kept c filed x.output P trial reach (end_in c.phase c x.signal) new o
+    (record { known = is-known s; remaining = agrees.remaining; count = agrees.count; rings = p; snapshots = stands }) agrees.made agrees.empty agrees.opening fares in
     let (n, more, same, after, (reached, targets, shown)) = came in
     let moment : x.now.at ≡ at_if_over c.phase before x.now.at = ap (λ phase. at_if_over phase before x.now.at) (sym p.phase) in
     next-of extend s earlier later (ending_by x c) m n new.call (filed ++ items_added x.output.rows new.output.rows) (at_if_over c.phase before x.now.at) (Then s x earlier c)
@@ -250,7 +263,8 @@ unfolding moves.moves
 over-still zero call kept result e = refl
 over-still (suc n) call kept result e = ap (λ phase. moves.moves n call (moves.move_in phase call kept)) e ∙ over-still n call kept result e
 
-next-stable : (extend : LaterEndingsExtend) (s : TraceStart) (x : TraceStep) (earlier : List TraceStep) (later : ℕ → SnapshotView) (c : Call) (filed : List Row) (before m : ℕ) (pair : EstablishedLegs) (stage : Stage) (answered : ℕ) →
+next-stable : (extend : LaterEndingsExtend) (s : TraceStart) (x : TraceStep) (earlier : List TraceStep) (later : ℕ → SnapshotView) (c : Call) (filed : List Row) (before m : ℕ) (pair : EstablishedLegs)
+    (stage : Stage) (answered : ℕ) →
     let kept = moves.moves m (call_in s later) (initial_state (call_in s later) (endings_after s earlier)) in
     Agrees s.config s.now (opening_in s) later kept c filed before → IsEstablished s.config s.now (opening_in s) later kept c filed pair stage answered → LabelsAgree s earlier kept →
     Next s earlier later (ending_by x c) (next_step s x c).call (filed ++ items_added x.output.rows (next_step s x c).output.rows) (at_if_over c.phase before x.now.at) (Then s x earlier c)
@@ -293,7 +307,8 @@ over-same config first o later kept c filed at cause rows new agrees p flown u =
         rows =
             ap (λ l. filed ++ l) no_rows ∙ append-nil filed ∙ p.rows
             ∙ ap (λ answered. charging_records_of_parts (record { answered = answered; at = at; holds = c.hold.holds; cause = cause }) (call_inputs_of config first o later) o.number kept.targets) (sym u.same.answered)
-            ∙ ap (λ (hold : HoldState). charging_records_of_parts (record { answered = new.call.answered; at = at; holds = hold.holds; cause = cause }) (call_inputs_of config first o later) o.number kept.targets) (sym (u.hold flown));
+            ∙ ap (λ (hold : HoldState). charging_records_of_parts (record { answered = new.call.answered; at = at; holds = hold.holds; cause = cause }) (call_inputs_of config first o later) o.number kept.targets)
+            (sym (u.hold flown));
       });
     }
 
@@ -320,13 +335,15 @@ next-over extend s x earlier later c filed before m cause agrees p told flown =
     (subst (Then s x earlier c) (sym still) (then-still s x earlier c kept (ap is_offered p.phase) told)))
 
 -- whatever its phase
-next-at : (turn_law : NextStepsAreMoves) (end_law : EndingsAreMoves) (extend : LaterEndingsExtend) (s : TraceStart) (x : TraceStep) (earlier : List TraceStep) (later : ℕ → SnapshotView) (c : Call) (filed : List Row) (before m : ℕ) →
+next-at : (turn_law : NextStepsAreMoves) (end_law : EndingsAreMoves) (extend : LaterEndingsExtend) (s : TraceStart) (x : TraceStep) (earlier : List TraceStep) (later : ℕ → SnapshotView) (c : Call)
+    (filed : List Row) (before m : ℕ) →
     let kept = moves.moves m (call_in s later) (initial_state (call_in s later) (endings_after s earlier)) in
     Agrees s.config s.now (opening_in s) later kept c filed before →
     ((j : ℕ) → kept.done ≤ j → j < total s.config (opening_in s) - (next_step s x c).call.diversions.remaining → later j ≡ x.now) → LabelsAgree s earlier kept →
     (HaveEmptyOutputs s earlier → InFlightHasOtherKeys s.arrival.key c.relayed) → (is_over c.phase ≡ true → c.relayed ≡ []) → Place s.config s.now (opening_in s) later kept c filed before →
     Next s earlier later (ending_by x c) (next_step s x c).call (filed ++ items_added x.output.rows (next_step s x c).output.rows) (at_if_over c.phase before x.now.at) (Then s x earlier c)
-next-at turn_law end_law extend s x earlier later c filed before m agrees stands told fly flown (Rings trial reach p) = next-ringing turn_law end_law extend s x earlier later c filed before m trial reach agrees p stands told fly
+next-at turn_law end_law extend s x earlier later c filed before m agrees stands told fly flown (Rings trial reach p) =
+    next-ringing turn_law end_law extend s x earlier later c filed before m trial reach agrees p stands told fly
 next-at turn_law end_law extend s x earlier later c filed before m agrees stands told fly flown (Talks pair stage answered p) = next-stable extend s x earlier later c filed before m pair stage answered agrees p told
 next-at turn_law end_law extend s x earlier later c filed before m agrees stands told fly flown (Ends cause p) = next-over extend s x earlier later c filed before m cause agrees p told (flown (ap is_over p.phase))
 
@@ -359,12 +376,14 @@ fits-earlier s x earlier later fits j most =
     let leaves = step-leaves s.config x.now x.signal (call_after s earlier) x.output in
     fits j (omega arith) ∙ snapshot-before (diversions_made_after s earlier) j (snapshot_at_diversion s earlier j) x.now most
 
-pub fits-now : (s : TraceStart) (x : TraceStep) (earlier : List TraceStep) (later : ℕ → SnapshotView) (done : ℕ) → Fits s (x ∷ earlier) later → (call_after s earlier).diversions.remaining + done ≡ total s.config (opening_in s) →
+pub fits-now : (s : TraceStart) (x : TraceStep) (earlier : List TraceStep) (later : ℕ → SnapshotView) (done : ℕ) → Fits s (x ∷ earlier) later →
+    (call_after s earlier).diversions.remaining + done ≡ total s.config (opening_in s) →
     (j : ℕ) → done ≤ j → j < total s.config (opening_in s) - (next_step s x (call_after s earlier)).call.diversions.remaining → later j ≡ x.now
 unfolding call_after snapshot_at_diversion
 fits-now s x earlier later done fits e j least most = fits j most ∙ snapshot-now (diversions_made_after s earlier) j (snapshot_at_diversion s earlier j) x.now (omega arith)
 
-pub state_agrees : (turn_law : NextStepsAreMoves) (end_law : EndingsAreMoves) (extend : LaterEndingsExtend) (s : TraceStart) (received : List TraceStep) (later : ℕ → SnapshotView) → Fits s received later → StateAgrees s received later
+pub state_agrees : (turn_law : NextStepsAreMoves) (end_law : EndingsAreMoves) (extend : LaterEndingsExtend) (s : TraceStart) (received : List TraceStep) (later : ℕ → SnapshotView) →
+    Fits s received later → StateAgrees s received later
 unfolding call_after charging_records_after over_at endings_after emits_while_offered
 state_agrees turn_law end_law extend s [] later fits = tied-first turn_law s later fits
 state_agrees turn_law end_law extend s (x ∷ earlier) later fits =

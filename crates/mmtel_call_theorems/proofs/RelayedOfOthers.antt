@@ -19,10 +19,12 @@ abbrev IsOther : TKey → RelayedTransaction → Type 0
 IsOther key flight = (flight.exchange.key.0 == key.0) ≡ false
 
 -- on whatever it receives
-pub flies : (config : CallConfigView) (now : SnapshotView) (received : Signal) (c : Call) (output : StepOutput) (key : TKey) → InFlightHasOtherKeys key c.relayed → HasOtherKey key received → InFlightHasOtherKeys key (step config now received c output).call.relayed
+pub flies : (config : CallConfigView) (now : SnapshotView) (received : Signal) (c : Call) (output : StepOutput) (key : TKey) → InFlightHasOtherKeys key c.relayed → HasOtherKey key received →
+    InFlightHasOtherKeys key (step config now received c output).call.relayed
 flies config now received c output key fly other = by (steps_go_on config now received c output)
   where
-    by : InFlightContinues received c output (step config now received c output) ⊎ AreDismissed config (ReceivedIsOf received) c output (step config now received c output) → InFlightHasOtherKeys key (step config now received c output).call.relayed
+    by : InFlightContinues received c output (step config now received c output) ⊎ AreDismissed config (ReceivedIsOf received) c output (step config now received c output) →
+        InFlightHasOtherKeys key (step config now received c output).call.relayed
     by (inl (dismissal.Same f)) = subst (InFlightHasOtherKeys key) (sym f) fly
     by (inl (dismissal.OneRelayed flight is f)) = subst (InFlightHasOtherKeys key) (sym f) (each_append (IsOther key) c.relayed (flight ∷ []) fly (subst (HasOtherKey key) is.received other, tt))
     by (inl (dismissal.OneAnswered place flight is)) = subst (InFlightHasOtherKeys key) (sym is.gone) (each_without (IsOther key) place c.relayed fly)

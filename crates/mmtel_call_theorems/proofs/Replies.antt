@@ -12,7 +12,8 @@ use Rattle.mmtel_call_services.specs.CallConfig.{CallConfigView}
 use Rattle.mmtel_leg.specs.declared.legs.Released.{Released}
 use Rattle.mmtel_types.specs.declared.sides.Side.{Side}
 use Rattle.mmtel_call_theorems.specs.NoInjection.Emits.{Each}
-use Rattle.mmtel_call_theorems.specs.Replies.{CallIsOf, DetachedCallsKeepTheirOwn, EndsReplyInTheirOwn, InFlightIsOf, IsRepliedIn, OpeningsReplyInTheirOwn, PhaseIsOf, RepliesIn, RestoredCallsKeepTheirOwn, StageIsOf, StepsReplyInTheirOwn}
+use Rattle.mmtel_call_theorems.specs.Replies.{CallIsOf, DetachedCallsKeepTheirOwn, EndsReplyInTheirOwn, InFlightIsOf, IsRepliedIn}
+use Rattle.mmtel_call_theorems.specs.Replies.{OpeningsReplyInTheirOwn, PhaseIsOf, RepliesIn, RestoredCallsKeepTheirOwn, StageIsOf, StepsReplyInTheirOwn}
 use Rattle.mmtel_call_theorems.proofs.NoInjection.Sending.{each_append}
 use Rattle.mmtel_transaction.specs.declared.words.Emit.{Emit}
 pub mod Transitions

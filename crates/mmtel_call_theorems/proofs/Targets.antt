@@ -34,7 +34,8 @@ use Rattle.mmtel_call_services.specs.declared.openings.Opening.{Opening}
 use Rattle.mmtel_call_services.specs.declared.openings.Service.{Service}
 use Rattle.mmtel_call_services.specs.declared.charging_records.Ending.{Ending}
 use Rattle.mmtel_call.specs.Closing.{StepResult, account_in, call_end, meter_for, new_meter}
-use Rattle.mmtel_call.specs.Diverting.{at_target, divert, call_after_diversion, is_diverted, diversion_step, on_next_step, diversion_unless_refused, with_unoffered_meter, diversion_refusal, call_refusal, with_notification_of}
+use Rattle.mmtel_call.specs.Diverting.{at_target, divert, call_after_diversion, is_diverted, diversion_step, on_next_step}
+use Rattle.mmtel_call.specs.Diverting.{diversion_unless_refused, with_unoffered_meter, diversion_refusal, call_refusal, with_notification_of}
 use Rattle.mmtel_call.specs.Sending.{with_diversion_notification, with_relay_to_caller, with_status_to_caller}
 use Rattle.mmtel_types.specs.Causes.{status_of}
 use Rattle.mmtel_call.specs.declared.calls.Call.{Call}
@@ -64,11 +65,13 @@ pub same-number : (n : ℕ) → (n == n) ≡ true
 same-number n = grind (arith, nat_tests)
 
 -- a final response of the server's own
-pub status-labels : (config : CallConfigView) (c : Call) (code : ℕ) (output : StepOutput) → labels_of c.opening.key (with_status_to_caller config c code output).out ≡ labels_of c.opening.key output.out ++ final_label code
+pub status-labels : (config : CallConfigView) (c : Call) (code : ℕ) (output : StepOutput) →
+    labels_of c.opening.key (with_status_to_caller config c code output).out ≡ labels_of c.opening.key output.out ++ final_label code
 status-labels config c code output = shows-reply c.opening.key _ _ _ output (same-number c.opening.key.0)
 
 -- one that was received
-pub relayed-shown : (config : CallConfigView) (c : Call) (service : Option Service) (m : MessageView) (output : StepOutput) → labels_of c.opening.key (with_relay_to_caller config c service m output).out ≡ labels_of c.opening.key output.out ++ final_label (status_in m.parsed.start)
+pub relayed-shown : (config : CallConfigView) (c : Call) (service : Option Service) (m : MessageView) (output : StepOutput) →
+    labels_of c.opening.key (with_relay_to_caller config c service m output).out ≡ labels_of c.opening.key output.out ++ final_label (status_in m.parsed.start)
 relayed-shown config c service m output =
     shows-reply c.opening.key c.opening.invite.parsed.start c.opening.invite.parsed.lines
     (relayed_reply (contact_text config.sip) c.opening.invite.source c.opening.tag (copied_lines config c.opening c.diversions service Callee c.opening.invite.peer m) m.parsed) output (same-number c.opening.key.0)
@@ -79,10 +82,12 @@ destination-uri o peer (Some due) target = refl
 
 -- the INVITE of an attempt
 offer-labels : (config : CallConfigView) (at : ℕ) (service : Option Service) (waiting : Bool) (peer : Peer) (by : Option DueDiversionView) (target : Target) (c : Call) (output : StepOutput) →
-    labels_of c.opening.key (with_attempt config at service waiting (destination_of c.opening peer (cause_of by) target) c output).out ≡ labels_of c.opening.key output.out ++ Invited (request_uri_at c.opening by target.uri) ∷ []
+    labels_of c.opening.key (with_attempt config at service waiting (destination_of c.opening peer (cause_of by) target) c output).out
+    ≡ labels_of c.opening.key output.out ++ Invited (request_uri_at c.opening by target.uri) ∷ []
 offer-labels config at service waiting peer by target c output =
     let destination = destination_of c.opening peer (cause_of by) target in
-    let ask : Emit = emit.Ask destination.peer (invite_of (attempt_dialog destination c.opening.invite.parsed c.opening.restricted output) config.sip (token (after_draw (after_draw output))) (attempt_lines config c.opening c.diversions service destination.peer) waiting c.opening.invite.parsed) in
+    let ask : Emit = emit.Ask destination.peer (invite_of (attempt_dialog destination c.opening.invite.parsed c.opening.restricted output) config.sip (token (after_draw (after_draw output)))
+    (attempt_lines config c.opening c.diversions service destination.peer) waiting c.opening.invite.parsed) in
     let arm : Emit = emit.Arm c.opening.number (due.Cap (next_attempt c)) (at + max_attempt_time) in
     labels-more c.opening.key (output.out ++ ask ∷ []) arm
     ∙ append-nil (labels_of c.opening.key (output.out ++ ask ∷ []))
@@ -90,7 +95,8 @@ offer-labels config at service waiting peer by target c output =
     ∙ ap (λ uri. labels_of c.opening.key output.out ++ Invited uri ∷ []) (destination-uri c.opening peer by target)
 
 -- a target that was reached, and to which the call was not offered
-reached-before : (config : CallConfigView) (first : SnapshotView) (o : Opening) (later : ℕ → SnapshotView) (P : Type 0) (before : List precedence.OutcomeTarget) (target : precedence.OutcomeTarget) (kept : CallState) (rows : List Row) (old : List Label) (s : StepResult) (at : ℕ) → target.offer ≡ NotOffered →
+reached-before : (config : CallConfigView) (first : SnapshotView) (o : Opening) (later : ℕ → SnapshotView) (P : Type 0) (before : List precedence.OutcomeTarget) (target : precedence.OutcomeTarget)
+    (kept : CallState) (rows : List Row) (old : List Label) (s : StepResult) (at : ℕ) → target.offer ≡ NotOffered →
     Comes config first o later P (before ++ target ∷ []) kept rows old s at → Comes config first o later P before kept rows old s at
 reached-before config first o later P before target kept rows old s at none (n, filed, same, agrees, (new, targets, shown)) = (
   n,
@@ -100,7 +106,8 @@ reached-before config first o later P before target kept rows old s at none (n, 
   (
     target ∷ new,
     targets ∙ append_assoc before (target ∷ []) new,
-    λ p. shown p ∙ ap (λ offer. old ++ (label_if offer (request_uri_at o target.diversion target.uri) ++ labels_of_targets o new ++ label_of_result (moves.result_in (moves.moves n (call_inputs_of config first o later) kept).phase))) (sym none),
+    λ p. shown p ∙ ap (λ offer. old
+        ++ (label_if offer (request_uri_at o target.diversion target.uri) ++ labels_of_targets o new ++ label_of_result (moves.result_in (moves.moves n (call_inputs_of config first o later) kept).phase))) (sym none),
   ),
 )
 
@@ -111,7 +118,8 @@ unanswered None cause e = refl
 unanswered (Some at) cause e = absurd cc
 
 -- with this cause, where nothing was filed before in this output
-pub refused-comes : (config : CallConfigView) (first : SnapshotView) (later : ℕ → SnapshotView) (at : ℕ) (caller : Leg) (cause : Cause) (c : Call) (output : StepOutput) (rows : List Row) (P : Type 0) (old : List Label) (kept : CallState) →
+pub refused-comes : (config : CallConfigView) (first : SnapshotView) (later : ℕ → SnapshotView) (at : ℕ) (caller : Leg) (cause : Cause) (c : Call) (output : StepOutput) (rows : List Row) (P : Type 0)
+    (old : List Label) (kept : CallState) →
     IsReady config first later caller c kept → output.rows ≡ rows → (P → labels_of c.opening.key output.out ≡ old ++ final_label (status_of cause)) →
     Comes config first c.opening later P kept.targets (with_phase kept (moves.Over (Final cause))) rows old (call_end at cause caller.meter None c output) at
 unfolding moves.moves
@@ -122,7 +130,8 @@ refused-comes config first later at caller cause c output rows P old kept ready 
     let past = past_parts call number 0 None kept.targets in
     let last = last_part call number 0 kept.targets in
     let filed : charging_records end c.past caller.meter None ≡ charging_records_of_parts end call number kept.targets =
-    ap (λ p. charging_records end p caller.meter None) ready.past ∙ ap (λ f. charging_records end (past ++ option_to_list last) f None) ready.origin ∙ rows-unanswered end past (origin_part call number) last ready.answered in (
+    ap (λ p. charging_records end p caller.meter None) ready.past ∙ ap (λ f. charging_records end (past ++ option_to_list last) f None) ready.origin
+    ∙ rows-unanswered end past (origin_part call number) last ready.answered in (
       0,
       charging_records_of_parts end call number kept.targets,
       ap (λ l. l ++ charging_records end c.past caller.meter None) same ∙ ap (λ l. rows ++ l) filed,
@@ -159,9 +168,11 @@ pub record IsDiverting (config : CallConfigView) (first : SnapshotView) (later :
 abbrev pub DivertComes : ℕ → CallConfigView → SnapshotView → SnapshotView → (ℕ → SnapshotView) → Leg → Type 0 → Type 0
 DivertComes left config now first later caller P =
     (service : Option Service) (reach : ReachedTargetView) (due : DueDiversionView) (c : Call) (output : StepOutput) (rows : List Row) (old : List Label) (kept : CallState) →
-    IsKnown first c.opening → IsReady config first later caller c kept → IsDiverting config first later c kept service reach → c.diversions.remaining ≡ left → output.rows ≡ rows → (P → labels_of c.opening.key output.out ≡ old) →
+    IsKnown first c.opening → IsReady config first later caller c kept → IsDiverting config first later c kept service reach → c.diversions.remaining ≡ left → output.rows ≡ rows →
+    (P → labels_of c.opening.key output.out ≡ old) →
     SnapshotsFrom config now c.opening later kept (divert left config now caller service due c output) →
-    Comes config first c.opening later P kept.targets (moves.state_after_diversion (call_inputs_of config first c.opening later) kept (account_at reach) now.at due) rows old (divert left config now caller service due c output) now.at
+    Comes config first c.opening later P kept.targets (moves.state_after_diversion (call_inputs_of config first c.opening later) kept (account_at reach) now.at due) rows old
+    (divert left config now caller service due c output) now.at
 
 -- ---- at a target
 
@@ -204,7 +215,8 @@ passed-ready config now first later caller c kept by target coming = record {
   origin = coming.origin;
   past =
       ap (λ past. past ++ option_to_list (meter_for Terminating c now.at (service_at config now c.opening (cause_of by) target))) (coming.past NotOffered)
-      ∙ ap (λ last. past_parts (call_inputs_of config first c.opening later) c.opening.number 0 None (kept.targets ++ target_as target.uri by NotOffered ∷ []) ++ option_to_list last) (served-part config now first later caller c kept by target NotOffered coming);
+      ∙ ap (λ last. past_parts (call_inputs_of config first c.opening later) c.opening.number 0 None (kept.targets ++ target_as target.uri by NotOffered ∷ []) ++ option_to_list last)
+      (served-part config now first later caller c kept by target NotOffered coming);
 }
 
 more-length : {A : Type 0} (items : List A) (item : A) (n : ℕ) → length items ≡ n → length (items ++ item ∷ []) ≡ suc n
@@ -275,12 +287,14 @@ next-step-comes left config now first later caller P goes reach by target (StepD
     few same shown stands)
 next-step-comes left config now first later caller P goes reach by target (StepRefuse why) c output rows old kept known coming sheet few same shown stands =
     let passed = with_unoffered_meter now.at (service_at config now c.opening (cause_of by) target) c in
-    reached-before config first c.opening later P kept.targets (target_as target.uri by NotOffered) _ rows old (call_end now.at why caller.meter None passed (with_status_to_caller config passed (status_of why) output)) now.at refl
+    reached-before config first c.opening later P kept.targets (target_as target.uri by NotOffered) _ rows old
+    (call_end now.at why caller.meter None passed (with_status_to_caller config passed (status_of why) output)) now.at refl
     (refused-comes config first later now.at caller why passed (with_status_to_caller config passed (status_of why) output) rows P old (with_target kept target.uri by NotOffered)
     (passed-ready config now first later caller c kept by target coming) same (λ p. status-labels config passed (status_of why) output ∙ ap (λ l. l ++ final_label (status_of why)) (shown p)))
 
 -- one move, and then those
-pub came-after : (config : CallConfigView) (first : SnapshotView) (o : Opening) (later : ℕ → SnapshotView) (P : Type 0) (before : List precedence.OutcomeTarget) (kept : CallState) (rows : List Row) (old : List Label) (s : StepResult) (at : ℕ) →
+pub came-after : (config : CallConfigView) (first : SnapshotView) (o : Opening) (later : ℕ → SnapshotView) (P : Type 0) (before : List precedence.OutcomeTarget) (kept : CallState) (rows : List Row)
+    (old : List Label) (s : StepResult) (at : ℕ) →
     Comes config first o later P before (move_in kept.phase (call_inputs_of config first o later) kept) rows old s at → Comes config first o later P before kept rows old s at
 unfolding moves.moves
 came-after config first o later P before kept rows old s at (n, filed, same, agrees, shown) = (suc n, filed, same, agrees, shown)
@@ -296,7 +310,8 @@ move-known law config now first o later by target kept count known counted numbe
     let call = call_inputs_of config first o later in
     let reach = reached_target config now o (cause_of by) target (service_at config now o (cause_of by) target) (peer_for config o target) in
     law call (reached_target_after call kept.done target.uri by) kept target.uri by
-    ∙ ap (λ (r : ReachedTargetView). state_after_step call (account_at r) r.at kept target.uri by (next_step_at (targets.caller_facts call kept.done r.at) r)) (reach_of-known config now first o later kept.done by target number stands)
+    ∙ ap (λ (r : ReachedTargetView). state_after_step call (account_at r) r.at kept target.uri by (next_step_at (targets.caller_facts call kept.done r.at) r))
+    (reach_of-known config now first o later kept.done by target number stands)
     ∙ ap (λ (k : FactsView). state_after_step call (account_at reach) now.at kept target.uri by (next_step_at k reach)) (sym (of_caller-known config first o later kept.done count now.at known counted))
 
 pub target-comes : (law : NextStepsAreMoves) (left : ℕ) (config : CallConfigView) (now first : SnapshotView) (later : ℕ → SnapshotView) (caller : Leg) → (P : Type 0) → DivertComes left config now first later caller P →
@@ -311,8 +326,10 @@ target-comes law left config now first later caller P goes by target c output ro
     let reach = reached_target config now o (cause_of by) target service peer in
     let s = at_target (divert left config now caller) config now caller (cause_of by) target c output in
     came-after config first o later P kept.targets (with_phase kept (Reaching target.uri by)) rows old s now.at
-    (subst (λ (k : CallState). Comes config first o later P kept.targets k rows old s now.at) (sym (move-known law config now first o later by target (with_phase kept (Reaching target.uri by)) c.diversions.count known coming.count coming.number coming.snapshots))
-    (next-step-comes left config now first later caller P goes reach by target (decision_at config now o (is_diverted c) (cause_of by) target service peer) c output rows old (with_phase kept (Reaching target.uri by)) known
+    (subst (λ (k : CallState). Comes config first o later P kept.targets k rows old s now.at)
+    (sym (move-known law config now first o later by target (with_phase kept (Reaching target.uri by)) c.diversions.count known coming.count coming.number coming.snapshots))
+    (next-step-comes left config now first later caller P goes reach by target (decision_at config now o (is_diverted c) (cause_of by) target service peer) c output rows old
+    (with_phase kept (Reaching target.uri by)) known
     (record {
       answered = coming.answered;
       remaining = coming.remaining;
@@ -346,7 +363,8 @@ notification-quiet config due c output =
     quiet-if c.opening.key output due.forward.notify_caller (with_diversion_notification config c output) output (quiet-provisional c.opening.key c.opening.key _ _ _ output refl) (quiet c.opening.key output)
 
 -- the part of the account that diverts
-diverting-part : (config : CallConfigView) (now first : SnapshotView) (later : ℕ → SnapshotView) (caller : Leg) (c : Call) (kept : CallState) (service : Option Service) (reach : ReachedTargetView) (target : precedence.OutcomeTarget) →
+diverting-part : (config : CallConfigView) (now first : SnapshotView) (later : ℕ → SnapshotView) (caller : Leg) (c : Call) (kept : CallState) (service : Option Service) (reach : ReachedTargetView)
+    (target : precedence.OutcomeTarget) →
     IsReady config first later caller c kept → IsDiverting config first later c kept service reach → snapshot_after (call_inputs_of config first c.opening later) (suc kept.done) ≡ now →
     c.past ++ option_to_list (meter_for Diversion c now.at service) ≡ past_parts (call_inputs_of config first c.opening later) c.opening.number 0 None (kept.targets ++ target ∷ [])
 diverting-part config now first later caller c kept service reach target ready diverts stands =
@@ -363,7 +381,8 @@ diverting-part config now first later caller c kept service reach target ready d
 abbrev pub more : CallState → CallState
 more kept = record kept { done = kept.done + 1 }
 
-coming-by : (left : ℕ) (config : CallConfigView) (now first : SnapshotView) (later : ℕ → SnapshotView) (caller : Leg) (c : Call) (kept : CallState) (service : Option Service) (reach : ReachedTargetView) (due : DueDiversionView) →
+coming-by : (left : ℕ) (config : CallConfigView) (now first : SnapshotView) (later : ℕ → SnapshotView) (caller : Leg) (c : Call) (kept : CallState) (service : Option Service)
+    (reach : ReachedTargetView) (due : DueDiversionView) →
     IsReady config first later caller c kept → IsDiverting config first later c kept service reach → c.diversions.remaining ≡ suc left → later kept.done ≡ now →
     IsComing config now first later caller (call_after_diversion (diversion_target config due) now.at left service due c) (more kept) (Some due) (diversion_target config due)
 coming-by left config now first later caller c kept service reach due ready diverts few stands =
@@ -385,11 +404,13 @@ coming-by left config now first later caller c kept service reach due ready dive
     }
 
 -- where the diversion is made, the state then is the present one
-pub snapshots-next : (left : ℕ) (config : CallConfigView) (now : SnapshotView) (later : ℕ → SnapshotView) (c : Call) (kept : CallState) (s : StepResult) → c.diversions.remaining + kept.done ≡ total config c.opening → c.diversions.remaining ≡ suc left →
+pub snapshots-next : (left : ℕ) (config : CallConfigView) (now : SnapshotView) (later : ℕ → SnapshotView) (c : Call) (kept : CallState) (s : StepResult) →
+    c.diversions.remaining + kept.done ≡ total config c.opening → c.diversions.remaining ≡ suc left →
     s.call.diversions.remaining ≤ left → SnapshotsFrom config now c.opening later kept s → later kept.done ≡ now
 snapshots-next left config now later c kept s e few leaves stands = stands kept.done (omega arith) (omega arith)
 
-pub snapshots-on : (config : CallConfigView) (now : SnapshotView) (later : ℕ → SnapshotView) (c : Call) (kept : CallState) (s : StepResult) → SnapshotsFrom config now c.opening later kept s → SnapshotsFrom config now c.opening later (more kept) s
+pub snapshots-on : (config : CallConfigView) (now : SnapshotView) (later : ℕ → SnapshotView) (c : Call) (kept : CallState) (s : StepResult) → SnapshotsFrom config now c.opening later kept s →
+    SnapshotsFrom config now c.opening later (more kept) s
 snapshots-on config now later c kept s stands j least most = stands j (omega arith) most
 
 pub divert-comes : (law : NextStepsAreMoves) (left : ℕ) (config : CallConfigView) (now first : SnapshotView) (later : ℕ → SnapshotView) (caller : Leg) (P : Type 0) → DivertComes left config now first later caller P
@@ -417,6 +438,7 @@ divert-comes law (suc left) config now first later caller P service reach due c 
     subst (λ (refusal : Option Cause). Comes config first o later P kept.targets (state_unless_refused refusal kept (target_uri config due) due) rows old s now.at)
     (refusal-known config first o later now.at kept.done (suc left) c.diversions.count reach service due known diverts.sheet some ready.count)
     (unless-comes config now first later caller (diversion_refusal (suc left) config now.at service due c) onward (target_uri config due) due c output rows P old kept ready same shown stands
-    (λ lets after. target-comes law left config now first later caller P (divert-comes law left config now first later caller P) (Some due) target next (with_notification_of config due next output) rows old (more kept) known
+    (λ lets after. target-comes law left config now first later caller P (divert-comes law left config now first later caller P) (Some due) target next
+    (with_notification_of config due next output) rows old (more kept) known
     (coming-by left config now first later caller c kept service reach due ready diverts few (snapshots-next left config now later c kept inner ready.remaining few leaves after))
     refl ((notification-quiet config due next output).rows ∙ same) (λ p. (notification-quiet config due next output).labels ∙ shown p) (snapshots-on config now later c kept inner after)))

@@ -24,8 +24,10 @@ use Rattle.mmtel_types.specs.declared.sides.Side.{Side}
 use Rattle.mmtel_types.specs.declared.sides.Side.TheVariants.{Callee}
 use Rattle.mmtel_call_services.specs.CallConfig.{CallConfigView, further_methods}
 use Rattle.mmtel_call.specs.Closing.{StepResult, step_result}
-use Rattle.mmtel_call.specs.RelayedTransactions.{is_in_flight, is_updating, on_accepted_in_flight, on_final_relayed, on_response_in_flight, on_response_relayed, on_timeout_in_flight, on_timeout_relayed, output_after_dismissal, with_all_dismissals, with_dismissal, with_dismissals, with_response_back, with_settled, with_settled_in, without_transaction}
-use Rattle.mmtel_call.specs.OtherRequests.{as_abandoned, is_answered_invite, is_fork, is_stable, is_success, on_other_response, on_other_response_at, on_other_timeout, on_other_timeout_at, on_response_abandoned, on_response_answered, on_response_answered_at, with_retransmitted_ack, without_key}
+use Rattle.mmtel_call.specs.RelayedTransactions.{is_in_flight, is_updating, on_accepted_in_flight, on_final_relayed, on_response_in_flight, on_response_relayed, on_timeout_in_flight, on_timeout_relayed}
+use Rattle.mmtel_call.specs.RelayedTransactions.{output_after_dismissal, with_all_dismissals, with_dismissal, with_dismissals, with_response_back, with_settled, with_settled_in, without_transaction}
+use Rattle.mmtel_call.specs.OtherRequests.{as_abandoned, is_answered_invite, is_fork, is_stable, is_success, on_other_response, on_other_response_at, on_other_timeout}
+use Rattle.mmtel_call.specs.OtherRequests.{on_other_timeout_at, on_response_abandoned, on_response_answered, on_response_answered_at, with_retransmitted_ack, without_key}
 use Rattle.mmtel_call.specs.Requests.{with_refused_request, with_response_to, with_unlisted_response}
 use Rattle.mmtel_call.specs.Sending.{with_status_to}
 use Rattle.mmtel_message.specs.Faults.{is_method}
@@ -64,7 +66,8 @@ refused_request-rows config c key m Unfinished output = refl
 
 pub unlisted-rows : (config : CallConfigView) (c : Call) (key : TKey) (m : MessageView) (output : StepOutput) → (with_unlisted_response config c key m output).rows ≡ output.rows
 unlisted-rows config c key m output =
-    if-rows (is_method (codes "OPTIONS") m.parsed.start) (with_response_to config c key m 200 (allow_lines (further_methods config)) output) (if is_method (codes "REFER") m.parsed.start then with_status_to config c key m 403 output else with_status_to config c key m 481 output) output.rows refl
+    if-rows (is_method (codes "OPTIONS") m.parsed.start) (with_response_to config c key m 200 (allow_lines (further_methods config)) output)
+    (if is_method (codes "REFER") m.parsed.start then with_status_to config c key m 403 output else with_status_to config c key m 481 output) output.rows refl
     (if-rows (is_method (codes "REFER") m.parsed.start) (with_status_to config c key m 403 output) (with_status_to config c key m 481 output) output.rows refl refl)
 
 -- ---- requests in flight are dismissed
@@ -117,9 +120,11 @@ rest-rows sip key m l output =
 pub untouched : (c : Call) (output : StepOutput) → Untouched c output.rows (step_result c output)
 untouched c output = record { phase = refl; same = same_call c; hold = λ e. refl; in_flight = λ e. e; none = refl }
 
-abandoned-untouched : (config : CallConfigView) (key : TKey) (m : MessageView) (at : ℕ) (l : Option AbandonedInvite) (c : Call) (output : StepOutput) → Untouched c output.rows (on_response_abandoned config key m at l c output)
+abandoned-untouched : (config : CallConfigView) (key : TKey) (m : MessageView) (at : ℕ) (l : Option AbandonedInvite) (c : Call) (output : StepOutput) →
+    Untouched c output.rows (on_response_abandoned config key m at l c output)
 abandoned-untouched config key m at None c output = untouched c output
-abandoned-untouched config key m at (Some l) c output = record { phase = refl; same = record { opening = refl; diversions = refl; answered = refl; past = refl }; hold = λ e. refl; in_flight = λ e. e; none = rest-rows config.sip key m.parsed l output }
+abandoned-untouched config key m at (Some l) c output =
+    record { phase = refl; same = record { opening = refl; diversions = refl; answered = refl; past = refl }; hold = λ e. refl; in_flight = λ e. e; none = rest-rows config.sip key m.parsed l output }
 
 acked-rows : (t : AnsweredInvite) (text : Option (List ℕ)) (output : StepOutput) → (with_retransmitted_ack t text output).rows ≡ output.rows
 acked-rows t None output = refl
@@ -129,13 +134,20 @@ step-if : (c : Call) (b : Bool) (one two : StepResult) (rows : List Row) → Unt
 step-if c true one two rows e f = e
 step-if c false one two rows e f = f
 
-answered-untouched : (config : CallConfigView) (key : TKey) (m : MessageView) (at : ℕ) (t : Option AnsweredInvite) (c : Call) (output : StepOutput) → Untouched c output.rows (on_response_answered config key m at t c output)
+answered-untouched : (config : CallConfigView) (key : TKey) (m : MessageView) (at : ℕ) (t : Option AnsweredInvite) (c : Call) (output : StepOutput) →
+    Untouched c output.rows (on_response_answered config key m at t c output)
 answered-untouched config key m at None c output = untouched c output
 answered-untouched config key m at (Some t) c output =
     step-if c (not (is_success (status_of m.parsed.start))) _ _ output.rows (untouched c output)
     (step-if c (is_fork t m) _ _ output.rows
     (record { phase = refl; same = record { opening = refl; diversions = refl; answered = refl; past = refl }; hold = λ e. refl; in_flight = λ e. e; none = rest-rows config.sip key m.parsed (as_abandoned t) output })
-    (record { phase = refl; same = record { opening = refl; diversions = refl; answered = refl; past = refl }; hold = λ e. refl; in_flight = λ e. e; none = if-rows (is_stable c.phase) (with_retransmitted_ack t t.invite.ack output) output output.rows (acked-rows t t.invite.ack output) refl }))
+    (record {
+      phase = refl;
+      same = record { opening = refl; diversions = refl; answered = refl; past = refl };
+      hold = λ e. refl;
+      in_flight = λ e. e;
+      none = if-rows (is_stable c.phase) (with_retransmitted_ack t t.invite.ack output) output output.rows (acked-rows t t.invite.ack output) refl;
+    }))
 
 -- a request in flight gets its final response
 
@@ -154,11 +166,13 @@ gone-none place xs e = rw (take-none place xs e, drop-none (place + 1) xs e) ref
 
 agreed-untouched : (kind : RelayedKind) (config : CallConfigView) (at : ℕ) (side : Side) (request response : MessageView) (place : ℕ) (c : Call) (output : StepOutput) → (c.relayed ≡ [] → ⊥) →
     Untouched c output.rows (on_accepted_in_flight kind config at side request response (without_transaction place c) output)
-agreed-untouched Prack config at side request response place c output some = record { phase = refl; same = record { opening = refl; diversions = refl; answered = refl; past = refl }; hold = λ e. refl; in_flight = gone-none place c.relayed; none = refl }
+agreed-untouched Prack config at side request response place c output some =
+    record { phase = refl; same = record { opening = refl; diversions = refl; answered = refl; past = refl }; hold = λ e. refl; in_flight = gone-none place c.relayed; none = refl }
 agreed-untouched Update config at side request response place c output some =
     record { phase = refl; same = record { opening = refl; diversions = refl; answered = refl; past = refl }; hold = λ e. absurd (some e); in_flight = gone-none place c.relayed; none = refl }
 
-relayed-untouched : (config : CallConfigView) (at : ℕ) (m : MessageView) (code place : ℕ) (o : Option RelayedTransaction) (c : Call) (output : StepOutput) → (c.relayed ≡ [] → o ≡ None) → Untouched c output.rows (on_response_relayed config at m code place o c output)
+relayed-untouched : (config : CallConfigView) (at : ℕ) (m : MessageView) (code place : ℕ) (o : Option RelayedTransaction) (c : Call) (output : StepOutput) → (c.relayed ≡ [] → o ≡ None) →
+    Untouched c output.rows (on_response_relayed config at m code place o c output)
 relayed-untouched config at m code place None c output none = untouched c output
 relayed-untouched config at m code place (Some flight) c output none =
     let gone : Call = without_transaction place c in
@@ -178,7 +192,8 @@ in-flight-untouched config at m (Some place) c output = relayed-untouched config
 
 timed-out-relayed-untouched : (config : CallConfigView) (place : ℕ) (o : Option RelayedTransaction) (c : Call) (output : StepOutput) → Untouched c output.rows (on_timeout_relayed config place o c output)
 timed-out-relayed-untouched config place None c output = untouched c output
-timed-out-relayed-untouched config place (Some flight) c output = record { phase = refl; same = record { opening = refl; diversions = refl; answered = refl; past = refl }; hold = λ e. refl; in_flight = gone-none place c.relayed; none = refl }
+timed-out-relayed-untouched config place (Some flight) c output =
+    record { phase = refl; same = record { opening = refl; diversions = refl; answered = refl; past = refl }; hold = λ e. refl; in_flight = gone-none place c.relayed; none = refl }
 
 timed-out-in-flight-untouched : (config : CallConfigView) (o : Option ℕ) (c : Call) (output : StepOutput) → Untouched c output.rows (on_timeout_in_flight config o c output)
 timed-out-in-flight-untouched config None c output = untouched c output
@@ -186,11 +201,13 @@ timed-out-in-flight-untouched config (Some place) c output = timed-out-relayed-u
 
 -- by the branch
 
-answered_at-untouched : (config : CallConfigView) (at : ℕ) (key : TKey) (m : MessageView) (branch : List ℕ) (o : Option ℕ) (c : Call) (output : StepOutput) → Untouched c output.rows (on_response_answered_at config at key m branch o c output)
+answered_at-untouched : (config : CallConfigView) (at : ℕ) (key : TKey) (m : MessageView) (branch : List ℕ) (o : Option ℕ) (c : Call) (output : StepOutput) →
+    Untouched c output.rows (on_response_answered_at config at key m branch o c output)
 answered_at-untouched config at key m branch None c output = in-flight-untouched config at m (position (is_in_flight branch) c.relayed) c output
 answered_at-untouched config at key m branch (Some place) c output = answered-untouched config key m place (slice_get c.answered_invites place) c output
 
-at-untouched : (config : CallConfigView) (at : ℕ) (key : TKey) (m : MessageView) (branch : List ℕ) (o : Option ℕ) (c : Call) (output : StepOutput) → Untouched c output.rows (on_other_response_at config at key m branch o c output)
+at-untouched : (config : CallConfigView) (at : ℕ) (key : TKey) (m : MessageView) (branch : List ℕ) (o : Option ℕ) (c : Call) (output : StepOutput) →
+    Untouched c output.rows (on_other_response_at config at key m branch o c output)
 at-untouched config at key m branch None c output = answered_at-untouched config at key m branch (position (is_answered_invite branch) c.answered_invites) c output
 at-untouched config at key m branch (Some place) c output = abandoned-untouched config key m place (slice_get c.abandoned place) c output
 

@@ -66,7 +66,8 @@ charging_records_of_parts end call number targets = charging_records end (past_p
 abbrev pub running_meters_in : Phase → (past : List MeterView) → List MeterView
 running_meters_in (Offered x) past = option_to_list x.caller.meter ++ past ++ option_to_list x.callee.leg.meter
 running_meters_in (Established x stage) past = option_to_list x.caller.meter ++ past ++ option_to_list x.callee.meter
-running_meters_in (Detached detached) past = option_to_list (caller_meter_of detached.remaining detached.meter) ++ past ++ option_to_list (target_meter_of detached.remaining detached.meter)
+running_meters_in (Detached detached) past = option_to_list (caller_meter_of detached.remaining detached.meter) ++ past
+    ++ option_to_list (target_meter_of detached.remaining detached.meter)
 running_meters_in (Over cause) past = past
 
 abbrev pub running_meters : Call → List MeterView

@@ -108,9 +108,11 @@ pub record CallsContinue : Type 0 where
   -- one that is established was answered
   pub answered : (s : TraceStart) (received : List TraceStep) → is_established_in (call_after s received).phase ≡ true → is_some (call_after s received).answered ≡ true
   -- and one that was answered is over with the cause `Ended` alone
-  pub cause : (s : TraceStart) (received : List TraceStep) (cause : Cause) → (call_after s received).phase ≡ Over cause → is_some (call_after s received).answered ≡ true → cause ≡ Ended
+  pub cause : (s : TraceStart) (received : List TraceStep) (cause : Cause) → (call_after s received).phase ≡ Over cause →
+      is_some (call_after s received).answered ≡ true → cause ≡ Ended
   -- whatever it receives, a call that is established remains so, or ends; one that is over remains over
-  pub established : (config : CallConfigView) (now : SnapshotView) (received : Signal) (c : Call) (output : StepOutput) → is_established_in c.phase ≡ true → ContinuesOrEnds now.at c output.rows (step config now received c output)
+  pub established : (config : CallConfigView) (now : SnapshotView) (received : Signal) (c : Call) (output : StepOutput) →
+      is_established_in c.phase ≡ true → ContinuesOrEnds now.at c output.rows (step config now received c output)
   pub ended : (config : CallConfigView) (now : SnapshotView) (received : Signal) (c : Call) (output : StepOutput) → is_over c.phase ≡ true → c.relayed ≡ [] →
       StaysOver c output.rows (step config now received c output)
   -- and its PRACKs and UPDATEs all got their final responses

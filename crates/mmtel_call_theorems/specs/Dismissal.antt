@@ -109,7 +109,8 @@ StepsContinue = (config : CallConfigView) (now : SnapshotView) (received : Signa
 
 -- the end of a call whose leg is detached
 abbrev pub EndsDismiss : Type 0
-EndsDismiss = (config : CallConfigView) (at : ℕ) (c : Call) (output : StepOutput) → is_detached c.phase ≡ true → AreDismissed config (λ own. Unit {0}) c output (call_finish config at c output)
+EndsDismiss = (config : CallConfigView) (at : ℕ) (c : Call) (output : StepOutput) → is_detached c.phase ≡ true →
+    AreDismissed config (λ own. Unit {0}) c output (call_finish config at c output)
 
 -- nothing is in flight as a call opens, and once it is over
 pub record NothingIsInFlight : Type 0 where

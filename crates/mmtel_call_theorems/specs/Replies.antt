@@ -76,7 +76,8 @@ pub record RepliesIn (own : ℕ → Bool) (s : StepResult) : Type 0 where
   pub out_in : Each (IsRepliedIn own) s.output.out
 
 abbrev pub StepsReplyInTheirOwn : Type 0
-StepsReplyInTheirOwn = (own : ℕ → Bool) (config : CallConfigView) (now : SnapshotView) (received : Signal) (c : Call) (output : StepOutput) → CallIsOf own c → SignalIsOf own received →
+StepsReplyInTheirOwn = (own : ℕ → Bool) (config : CallConfigView) (now : SnapshotView) (received : Signal) (c : Call) (output : StepOutput) →
+    CallIsOf own c → SignalIsOf own received →
     Each (IsRepliedIn own) output.out → RepliesIn own (step config now received c output)
 
 abbrev pub OpeningsReplyInTheirOwn : Type 0

@@ -20,7 +20,8 @@ use Rattle.mmtel_call.specs.declared.signals.Signal.{Signal}
 use Rattle.mmtel_call_theorems.specs.Charging.{charging_records_of_parts, parts_of, running_meters}
 use Rattle.mmtel_call_theorems.specs.Endings.{answer_moment, endings_after}
 use Rattle.mmtel_call_theorems.specs.Outcomes.{call_inputs_after, initially_remaining, outcome_after, result_of}
-use Rattle.mmtel_call_theorems.specs.Labels.{HasOtherKey, HaveEmptyOutputs, InFlightHasOtherKeys, PhaseHasOtherKey, emits_while_offered, is_offered, label_of_result, labels_of, labels_of_step, labels_of_targets}
+use Rattle.mmtel_call_theorems.specs.Labels.{HasOtherKey, HaveEmptyOutputs, InFlightHasOtherKeys, PhaseHasOtherKey, emits_while_offered}
+use Rattle.mmtel_call_theorems.specs.Labels.{is_offered, label_of_result, labels_of, labels_of_step, labels_of_targets}
 use Rattle.mmtel_call_theorems.specs.CallTrace.{TraceStep, TraceStart, items_added, call_after, first_step, is_over, over_at, charging_records_after, opening_in}
 
 -- ---- the precedence of services
@@ -35,7 +36,8 @@ ReachesItsOutcome = (s : TraceStart) (received : List TraceStep) → result_of (
 -- otherwise one with the status of the cause
 abbrev pub ShowsItsOutcome : Type 0
 ShowsItsOutcome = (s : TraceStart) (received : List TraceStep) → HaveEmptyOutputs s received →
-    labels_of s.arrival.key (emits_while_offered s received) ≡ labels_of_targets (opening_in s) (outcome_after s received).targets ++ label_of_result (outcome_after s received).result
+    labels_of s.arrival.key (emits_while_offered s received)
+    ≡ labels_of_targets (opening_in s) (outcome_after s received).targets ++ label_of_result (outcome_after s received).result
 
 -- the requests whose responses it awaits are other ones than that of this server transaction
 abbrev pub CallHasOtherKeys : (key : TKey) → Call → Type 0
@@ -49,18 +51,22 @@ pub record ShowsNothingLater : Type 0 where
       CallHasOtherKeys key (step config now received c output).call
   -- while it is offered no INVITE is relayed, so everything observed counts
   pub all : (config : CallConfigView) (now : SnapshotView) (received : Signal) (c : Call) (output : StepOutput) (key : TKey) → is_offered c.phase ≡ true →
-      labels_of_step key received (items_added output.out (step config now received c output).output.out) ≡ labels_of key (items_added output.out (step config now received c output).output.out)
+      labels_of_step key received (items_added output.out (step config now received c output).output.out)
+      ≡ labels_of key (items_added output.out (step config now received c output).output.out)
   -- once it is not offered any more, it sends no INVITE to a target, and no final response to the INVITE that opened it: neither on what it receives,
-  pub none : (config : CallConfigView) (now : SnapshotView) (received : Signal) (c : Call) (output : StepOutput) (key : TKey) → is_offered c.phase ≡ false → CallHasOtherKeys key c → HasOtherKey key received →
+  pub none : (config : CallConfigView) (now : SnapshotView) (received : Signal) (c : Call) (output : StepOutput) (key : TKey) →
+      is_offered c.phase ≡ false → CallHasOtherKeys key c → HasOtherKey key received →
       labels_of_step key received (items_added output.out (step config now received c output).output.out) ≡ []
   -- nor where it ends without a leg that was detached from it
-  pub ends : (config : CallConfigView) (at : ℕ) (c : Call) (output : StepOutput) (key : TKey) → InFlightHasOtherKeys key c.relayed → labels_of key (items_added output.out (call_finish config at c output).output.out) ≡ []
+  pub ends : (config : CallConfigView) (at : ℕ) (c : Call) (output : StepOutput) (key : TKey) → InFlightHasOtherKeys key c.relayed →
+      labels_of key (items_added output.out (call_finish config at c output).output.out) ≡ []
 
 -- ---- the bound
 
 -- as many diversions are left as the bound leaves after those that the call came with and those that were made
 abbrev pub DiversionsAreCounted : Type 0
-DiversionsAreCounted = (s : TraceStart) (received : List TraceStep) → (call_after s received).diversions.remaining + diversions_made (outcome_after s received) ≡ initially_remaining s
+DiversionsAreCounted = (s : TraceStart) (received : List TraceStep) →
+    (call_after s received).diversions.remaining + diversions_made (outcome_after s received) ≡ initially_remaining s
 
 -- ---- charging
 
@@ -93,10 +99,12 @@ pub record ChargingIsExact : Type 0 where
   -- it was answered when an attempt was
   pub answered : (s : TraceStart) (received : List TraceStep) → (call_after s received).answered ≡ answer_moment (endings_after s received)
   -- while the call is not over no CDR is filed, and the parts that began run
-  pub runs : (s : TraceStart) (received : List TraceStep) → is_over (call_after s received).phase ≡ false → (running_meters (call_after s received) ≡ parts_after s received) × (charging_records_after s received ≡ [])
+  pub runs : (s : TraceStart) (received : List TraceStep) → is_over (call_after s received).phase ≡ false →
+      (running_meters (call_after s received) ≡ parts_after s received) × (charging_records_after s received ≡ [])
   -- once it is over no part runs, and for each part that began a CDR was filed, in the order begun
   pub filed : (s : TraceStart) (received : List TraceStep) (cause : Cause) → (call_after s received).phase ≡ Over cause →
       (running_meters (call_after s received) ≡ []) × (charging_records_after s received ≡ charges_due_after s received cause)
   -- of each kind of part: as many began as run or were filed
   pub each : (s : TraceStart) (received : List TraceStep) (p : BegunPart → Bool) →
-      count_by p (map part_of_meter (parts_after s received)) ≡ count_by p (map part_of_meter (running_meters (call_after s received))) + count_by p (map part_of_charging_record (charging_records_after s received))
+      count_by p (map part_of_meter (parts_after s received)) ≡ count_by p (map part_of_meter (running_meters (call_after s received)))
+      + count_by p (map part_of_charging_record (charging_records_after s received))

@@ -28,7 +28,8 @@ pub fn no_injection_keeps_own_fields()
 
 /// What is built of clean parts is clean: each request of a dialog, and each response, whatever else is in the request's header fields (RFC 3261 §8.1.1, §8.2.6).
 pub fn building_adds_no_injection()
-    ensures request { (d : Dialogue) (number : ℕ) (method : List ℕ) (given : RequestPartsView) → DialogueHasNoInjection d → HasNoInjection method → RequestPartsHaveNoInjection given →
+    ensures request { (d : Dialogue) (number : ℕ) (method : List ℕ) (given : RequestPartsView) → DialogueHasNoInjection d →
+        HasNoInjection method → RequestPartsHaveNoInjection given →
         MessageHasNoInjection (request_numbered d number method given) }
     ensures response { (start : Start) (ls : List Line) (r : Reply) → LinesHaveNoInjection ls → ReplyHasNoInjection r → MessageHasNoInjection (response start ls r) }
 {}

@@ -1,14 +1,17 @@
 //! Noninterference: what nobody may learn from a call. These are theorems, without code.
 ghost use Rattle.mmtel_call_theorems.specs.Noninterference.EquivalentCalls.{CallsStayEquivalent, OpeningsStay, StepsKeepEquivalence};
 ghost use Rattle.mmtel_call_theorems.specs.Noninterference.PublicParts.{MessagesHaveNothingPrivate, PublicPartsAreIdempotent, PublicPartsDetermineQueries};
-ghost use Rattle.mmtel_call_theorems.specs.Noninterference.Configurations.{CallsStayEquivalentInBoth, EndsLookUpNone, OneIsEquivalent, OpeningsAreEquivalentInBoth, OpeningsSeeLookupsAlone};
+ghost use Rattle.mmtel_call_theorems.specs.Noninterference.Configurations.{CallsStayEquivalentInBoth, EndsLookUpNone, OneIsEquivalent};
+ghost use Rattle.mmtel_call_theorems.specs.Noninterference.Configurations.{OpeningsAreEquivalentInBoth, OpeningsSeeLookupsAlone};
 ghost use Rattle.mmtel_call_theorems.specs.Noninterference.Configurations.{StepsKeepEquivalenceInBoth, StepsSeeLookupsAlone, TracesStayEquivalentInBoth};
 ghost use Rattle.mmtel_call_theorems.specs.Noninterference.Invariant.{CallsKeepTheirInvariant};
 ghost use Rattle.mmtel_call_theorems.specs.Noninterference.Detaching.{DetachingKeepsEquivalence};
 ghost use Rattle.mmtel_call_theorems.specs.Noninterference.Opening.{OpeningsAreEquivalent, OpeningsGiveEquivalentCalls, OpeningsSeePublicParts};
 ghost use Rattle.mmtel_call_theorems.specs.Noninterference.RenamedAccounts.{LookupsAgree, LookupsSkipOtherAccounts, NoneAreNamed};
-ghost use Rattle.mmtel_call_theorems.specs.Noninterference.Transitions.{AcksOnceAnswered, CancelsOnceAnswered, ResponsesAcross, ResponsesToOthers, ResponsesWhileOffered, SuccessToAttempt};
-ghost use Rattle.mmtel_call_theorems.specs.Noninterference.Transitions.{CancelsWhileOffered, DeadlinesOnceAnswered, DeadlinesWhileOffered, Dismissals, EndsOfAttempts, ProvisionalToAttempt};
+ghost use Rattle.mmtel_call_theorems.specs.Noninterference.Transitions.{AcksOnceAnswered, CancelsOnceAnswered, ResponsesAcross};
+ghost use Rattle.mmtel_call_theorems.specs.Noninterference.Transitions.{ResponsesToOthers, ResponsesWhileOffered, SuccessToAttempt};
+ghost use Rattle.mmtel_call_theorems.specs.Noninterference.Transitions.{CancelsWhileOffered, DeadlinesOnceAnswered, DeadlinesWhileOffered};
+ghost use Rattle.mmtel_call_theorems.specs.Noninterference.Transitions.{Dismissals, EndsOfAttempts, ProvisionalToAttempt};
 ghost use Rattle.mmtel_call_theorems.specs.Noninterference.Transitions.{RequestsOnceAnswered, RequestsWhileOffered, TimeoutsOfOthers, TimeoutsOnceAnswered, TimeoutsWhileOffered};
 ghost use Rattle.mmtel_call_theorems.specs.Noninterference.Traces.{TracesStayEquivalent};
 ghost use Rattle.mmtel_call_theorems.specs.Noninterference.StepTable.{StepsSeePublicParts};

@@ -115,7 +115,8 @@ pub result_of_no_text : (exposed after : Option FileStore) (records : List ℕ) 
 result_of_no_text exposed after records h = record { text = None; exposed_text = none-is exposed after records h; is_due = λ keeper. refl }
 
 pub result_of_unread : (exposed : Option FileStore) (records : List ℕ) → ResultOfCheck exposed records Memory
-result_of_unread exposed records = record { text = exposed_read exposed records; exposed_text = exposed_answer-is exposed records; is_due = λ keeper. aborted_untouched keeper (due_of_records (exposed_read exposed records)) }
+result_of_unread exposed records =
+    record { text = exposed_read exposed records; exposed_text = exposed_answer-is exposed records; is_due = λ keeper. aborted_untouched keeper (due_of_records (exposed_read exposed records)) }
 
 -- ---- of `charges`
 

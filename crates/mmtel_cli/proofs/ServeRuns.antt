@@ -182,7 +182,8 @@ serves_link directory token loaded turns start ready new result suited linked op
 module _ (turns : ℕ) (old new : ServingState) where
   -- what else holds for its link
   abbrev Beside : Type 0
-  Beside = ListensStill old.link.calls new.link.calls × ((LostNoMore old.link.output new.link.output ⊎ Rose old.link.delivery_faults new.link.delivery_faults) × StaysOrRises old.link.delivery_faults new.link.delivery_faults)
+  Beside = ListensStill old.link.calls new.link.calls
+      × ((LostNoMore old.link.output new.link.output ⊎ Rose old.link.delivery_faults new.link.delivery_faults) × StaysOrRises old.link.delivery_faults new.link.delivery_faults)
 
   -- whatever server it was made of
   abbrev ServedAs : Report → Type 0

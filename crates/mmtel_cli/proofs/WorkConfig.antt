@@ -19,7 +19,8 @@ is_okay (Err line) = false
 
 -- it computes
 work_reads : is_okay (directory_of work_config) ≡ true
-unfolding directory_of line_of words_of all_params_at headers_at headers_of host_at number_at param_at params_at params_of port_at port_number scheme_of sip_of tel_of text_at token_at uri_of user_at value_at is_same_identity percent_decoded_text user_part host_part leading_run after_run split_once_at closing_quote_from without_trailing value_up_to number_of in_class
+unfolding directory_of line_of words_of all_params_at headers_at headers_of host_at number_at param_at params_at params_of port_at port_number scheme_of sip_of tel_of text_at token_at uri_of user_at
+    value_at is_same_identity percent_decoded_text user_part host_part leading_run after_run split_once_at closing_quote_from without_trailing value_up_to number_of in_class
 work_reads = refl
 
 okay_as : (read : Result Directory ℕ) → is_okay read ≡ true → (directory : Directory) × (read ≡ Ok directory)

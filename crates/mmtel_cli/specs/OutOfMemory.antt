@@ -146,7 +146,8 @@ pub record AbortedLinked (directory : Directory) (token : List ℕ) (turns : ℕ
 pub data AbortedServe (directory : Directory) (token : List ℕ) (turns : ℕ) (old new : Environment) : Type 0 where
   AbortedServeReading : new.keeper ≡ old.keeper → new.link ≡ old.link → AbortedServe directory token turns old new
   AbortedServeOpening : OnlyOpened directory.store old.keeper new.keeper → new.link ≡ old.link → AbortedServe directory token turns old new
-  AbortedServeListening : (loaded : Texts) → IsLoaded directory.store loaded old.keeper new.keeper → IsLinked directory old.link new.link → AbortedServe directory token turns old new
+  AbortedServeListening : (loaded : Texts) → IsLoaded directory.store loaded old.keeper new.keeper → IsLinked directory old.link new.link →
+      AbortedServe directory token turns old new
   AbortedServeServing : AbortedLinked directory token turns old new → AbortedServe directory token turns old new
 
 -- once the configuration was parsed

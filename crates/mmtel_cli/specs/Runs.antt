@@ -256,7 +256,8 @@ pub record HasCalledFiles (status : ℕ) (after : Option FileStore) (none first 
 pub record CallsFilesFor (store : FileStore) (words : List (List ℕ)) (status : ℕ) (after : Option FileStore) : Type 0 where
   pub unparsed : SpellsNone words → after ≡ Some store
   pub serve : (config token : List ℕ) (turns : ℕ) → IsServe config token turns words → HasCalledFiles status after store (with_next_call store) (with_next_call store)
-  pub replay : (args : ReplayArgs) → IsReplay args words → HasCalledFiles status after store (with_next_call store) (files_after_config (with_next_call store) (next_read store args.config))
+  pub replay : (args : ReplayArgs) → IsReplay args words →
+      HasCalledFiles status after store (with_next_call store) (files_after_config (with_next_call store) (next_read store args.config))
   pub check : (records : List ℕ) → IsCheck records words → HasCalledFiles status after store (with_next_call store) (with_next_call store)
   pub charges : (config : List ℕ) → IsCharges config words → HasCalledFiles status after store (with_next_call store) (with_next_call store)
   pub workload : (calls salt : ℕ) → IsWorkload calls salt words → after ≡ Some store

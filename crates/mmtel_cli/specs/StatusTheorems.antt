@@ -58,7 +58,8 @@ ReplaysSucceed =
 -- and where the keeper exposes that it cannot be bound, migrated or loaded, the status is 6, or 8
 abbrev pub ReplaysNeedAKeeper : Type 0
 ReplaysNeedAKeeper =
-    (files : FileStore) (old new : Environment) (calls : KeeperCalls) (words : List (List ℕ)) (args : ReplayArgs) (directory : Directory) (events : List Event) (written : WriteEffect) →
+    (files : FileStore) (old new : Environment) (calls : KeeperCalls) (words : List (List ℕ)) (args : ReplayArgs) (directory : Directory)
+    (events : List Event) (written : WriteEffect) →
     IsReplayable files words args directory events → old.keeper.calls ≡ Some calls → fails_opening calls ≡ true → ProgramRun (Some files) old new words written →
     (written.status ≡ 6) ⊎ (written.status ≡ 8)
 

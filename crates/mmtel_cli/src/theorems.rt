@@ -1,5 +1,6 @@
 //! Theorems about the statuses of the program: each is the contract of a function that does nothing.
-ghost use Rattle.mmtel_cli.specs.StatusTheorems.{ChargesKeep, ChecksAreWritten, EightIsOutOfMemory, FourRose, NoFaultNoFailure, OneIsUsage, ReplaysAreListed, ReplaysNeedAKeeper, ReplaysSucceed, ServesAreServed};
+ghost use Rattle.mmtel_cli.specs.StatusTheorems.{ChargesKeep, ChecksAreWritten, EightIsOutOfMemory, FourRose, NoFaultNoFailure};
+ghost use Rattle.mmtel_cli.specs.StatusTheorems.{OneIsUsage, ReplaysAreListed, ReplaysNeedAKeeper, ReplaysSucceed, ServesAreServed};
 ghost use Rattle.mmtel_cli.specs.StatusTheorems.{RowsAreListed, RowsNeedAKeeper, ServingNeedsAKeeper, ServingNeedsALink, SevenRose, SixRose, StatusesAreThese, ThreeIsRefused};
 ghost use Rattle.mmtel_cli.specs.StatusTheorems.{ZeroIsListed, ZeroKept};
 

@@ -22,6 +22,7 @@ one_showing f h k m n public shown entries =
     ∙ ap (λ (history : List Line). passed_lines f false history n.lines)
     (ap (λ (ls : List Line). cond (carries_history m.start) ls []) entries ∙ ap (λ (x : ParsedMessage). carried_history f false k x.start) public)
 
-pub one_invite : (d : Dialogue) (sip : Addr) (branch : List ℕ) (waiting : Bool) (m n : ParsedMessage) (ls ms : List Line) → public_part m ≡ public_part n → ls ≡ ms → invite_of d sip branch ls waiting m ≡ invite_of d sip branch ms waiting n
+pub one_invite : (d : Dialogue) (sip : Addr) (branch : List ℕ) (waiting : Bool) (m n : ParsedMessage) (ls ms : List Line) → public_part m ≡ public_part n → ls ≡ ms →
+    invite_of d sip branch ls waiting m ≡ invite_of d sip branch ms waiting n
 one_invite d sip branch waiting m n ls ms public lines =
     ap (λ (x : ParsedMessage). invite_of d sip branch ls waiting x) public ∙ ap (λ (xs : List Line). invite_of d sip branch xs waiting n) lines

@@ -59,10 +59,12 @@ routes_of : (d : Dialogue) (number : ℕ) (method : List ℕ) (given : RequestPa
 routes_of d number method given none =
     let content : List Line = content_lines method given.sip given.shown given.body in
     over (routing_lines d.routes given.sip given.hops given.branch) (dialog_lines d number method ++ content)
-    ∙ (rw (in_routing d.routes given.sip given.hops given.branch, over (dialog_lines d number method) content, in_dialog d number method, in_content method given.sip given.shown given.body none) (append-nil (map route_line d.routes)))
+    ∙ (rw (in_routing d.routes given.sip given.hops given.branch, over (dialog_lines d number method) content, in_dialog d number method, in_content method given.sip given.shown given.body none)
+    (append-nil (map route_line d.routes)))
 
 -- two requests of one dialog have the same Route values
-pub one_route : (d e : Dialogue) (number : ℕ) (method other : List ℕ) (one two : RequestPartsView) → d.routes ≡ e.routes → routed one.shown ≡ [] → routed two.shown ≡ [] → line_texts (codes "Route") (request_numbered d number method one).lines ≡ line_texts (codes "Route") (request_numbered e number other two).lines
+pub one_route : (d e : Dialogue) (number : ℕ) (method other : List ℕ) (one two : RequestPartsView) → d.routes ≡ e.routes → routed one.shown ≡ [] → routed two.shown ≡ [] →
+    line_texts (codes "Route") (request_numbered d number method one).lines ≡ line_texts (codes "Route") (request_numbered e number other two).lines
 one_route d e number method other one two same none also =
     ap (map (λ (l : Line). l.1)) (routes_of d number method one none ∙ (ap (map route_line) same ∙ sym (routes_of e number other two also)))
 

@@ -20,7 +20,9 @@ none_has name (l ∷ ls) e =
       | inr n ↦ rw n (none_has name ls (rw n at e))
     ]
 
-pub rests : (start : Start) (ls ms : List Line) (r : Reply) → lines_named (codes "Via") ls ≡ lines_named (codes "Via") ms → lines_named (codes "From") ls ≡ lines_named (codes "From") ms → lines_named (codes "To") ls ≡ lines_named (codes "To") ms → lines_named (codes "Call-ID") ls ≡ lines_named (codes "Call-ID") ms → lines_named (codes "CSeq") ls ≡ lines_named (codes "CSeq") ms → lines_named (codes "Record-Route") ls ≡ lines_named (codes "Record-Route") ms → response start ls r ≡ response start ms r
+pub rests : (start : Start) (ls ms : List Line) (r : Reply) → lines_named (codes "Via") ls ≡ lines_named (codes "Via") ms → lines_named (codes "From") ls ≡ lines_named (codes "From") ms →
+    lines_named (codes "To") ls ≡ lines_named (codes "To") ms → lines_named (codes "Call-ID") ls ≡ lines_named (codes "Call-ID") ms → lines_named (codes "CSeq") ls ≡ lines_named (codes "CSeq") ms →
+    lines_named (codes "Record-Route") ls ≡ lines_named (codes "Record-Route") ms → response start ls r ≡ response start ms r
 unfolding response copied_lines via_lines party_lines call_lines added_lines route_lines
 rests start ls ms r via from to call_id cseq ways = rw (via, from, to, call_id, cseq, ways) refl
 

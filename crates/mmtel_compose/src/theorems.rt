@@ -72,8 +72,10 @@ pub fn relayed_responses_have_fields()
 
 /// A response depends on its request's lines of six names, and on those of Record-Route only where it makes a dialog.
 pub fn responses_rest_on_six_names()
-    ensures same { (start : Start) (ls ms : List Line) (r : Reply) → lines_named (codes "Via") ls ≡ lines_named (codes "Via") ms → lines_named (codes "From") ls ≡ lines_named (codes "From") ms →
-        lines_named (codes "To") ls ≡ lines_named (codes "To") ms → lines_named (codes "Call-ID") ls ≡ lines_named (codes "Call-ID") ms → lines_named (codes "CSeq") ls ≡ lines_named (codes "CSeq") ms →
+    ensures same { (start : Start) (ls ms : List Line) (r : Reply) → lines_named (codes "Via") ls ≡ lines_named (codes "Via") ms →
+        lines_named (codes "From") ls ≡ lines_named (codes "From") ms →
+        lines_named (codes "To") ls ≡ lines_named (codes "To") ms → lines_named (codes "Call-ID") ls ≡ lines_named (codes "Call-ID") ms →
+        lines_named (codes "CSeq") ls ≡ lines_named (codes "CSeq") ms →
         lines_named (codes "Record-Route") ls ≡ lines_named (codes "Record-Route") ms → response start ls r ≡ response start ms r }
 {}
 

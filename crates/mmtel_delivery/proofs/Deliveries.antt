@@ -1,5 +1,6 @@
 -- What was passed, and what was passed in addition, is what is passed of both.
-use Rattle.std.proofs.Common.{◌≡◌, Bool, true, false, inl, inr, ◌<◌, ◌+◌, ◌-◌, ℕ, List, [], ◌∷◌, ◌++◌, length, take, drop, map, refl, sym, ap, ◌∙◌, subst, Option, Some, None, Result, Ok, Err, append_assoc, append-nil, arith, get_or, add-one, drop-cons}
+use Rattle.std.proofs.Common.{◌≡◌, Bool, true, false, inl, inr, ◌<◌, ◌+◌, ◌-◌, ℕ, List, [], ◌∷◌, ◌++◌, length, take, drop, map, refl, sym, ap}
+use Rattle.std.proofs.Common.{◌∙◌, subst, Option, Some, None, Result, Ok, Err, append_assoc, append-nil, arith, get_or, add-one, drop-cons}
 use Rattle.std.proofs.lemmas.List.{map-append, take-append-drop}
 use Rattle.std.proofs.lemmas.Option.{none-some}
 use Rattle.std.proofs.Math.Seq.{take-add}

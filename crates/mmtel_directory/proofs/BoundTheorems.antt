@@ -16,7 +16,8 @@ use Rattle.mmtel_directory.specs.declared.config_lines.LineKind.TheVariants as k
 use Rattle.mmtel_directory.specs.declared.directories.Directory.{Directory}
 use Rattle.mmtel_directory.specs.declared.directories.DirectoryFault.{DirectoryFault}
 use Rattle.mmtel_directory.specs.Lines.{lines_of, is_comment, number_from, and_then, lines_by}
-use Rattle.mmtel_directory.specs.Directory.{ip_of, addr_of, is_host, trust_of, peer_of, readable, identities_of, is_country, extension_of, is_store_name, route_words, account_words, kind_and_rest, line_of_words, line_of_kind, line_of}
+use Rattle.mmtel_directory.specs.Directory.{ip_of, addr_of, is_host, trust_of, peer_of, readable, identities_of, is_country, extension_of}
+use Rattle.mmtel_directory.specs.Directory.{is_store_name, route_words, account_words, kind_and_rest, line_of_words, line_of_kind, line_of}
 use Rattle.mmtel_directory.specs.Directory.{bound_in, may_follow, next_config_line, first_of, first_value, directory_by, directory_from, directory_of, default_bound, sip_in, home_in, ReadsDirectory}
 use Rattle.mmtel_directory.proofs.DraftTheorems.{one_more}
 

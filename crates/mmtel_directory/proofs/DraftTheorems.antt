@@ -112,12 +112,14 @@ Goes number said texts = directory_of_lines number (draft_of said) texts ≡ dir
 
 -- the next line, which may follow or not
 over_line : (number : ℕ) (said : List Line) (l : Line) (texts : List (List ℕ)) (test : Bool) → may_follow said l ≡ test → ((more : List Line) → Goes (number + 1) more texts) →
-    and_then number (cond test (Some (with_line (draft_of said) l)) None) (λ next. directory_of_lines (number + 1) next texts) ≡ directory_from (number + 1 + length texts) (and_then number (cond test (Some l) None) (λ next. lines_by next_config_line (number + 1) (said ++ next ∷ []) texts))
+    and_then number (cond test (Some (with_line (draft_of said) l)) None) (λ next. directory_of_lines (number + 1) next texts)
+    ≡ directory_from (number + 1 + length texts) (and_then number (cond test (Some l) None) (λ next. lines_by next_config_line (number + 1) (said ++ next ∷ []) texts))
 over_line number said l texts true ok all = ap (λ (d : Draft). directory_of_lines (number + 1) d texts) (with_line_is said l ok) ∙ all (said ++ l ∷ [])
 over_line number said l texts false bad all = refl
 
 over_form : (number : ℕ) (said : List Line) (read : Option Line) (texts : List (List ℕ)) → ((more : List Line) → Goes (number + 1) more texts) →
-    and_then number (read >>= λ l. cond (accepts (draft_of said) l) (Some (with_line (draft_of said) l)) None) (λ next. directory_of_lines (number + 1) next texts) ≡ directory_from (number + 1 + length texts) (and_then number (read >>= λ l. cond (may_follow said l) (Some l) None) (λ next. lines_by next_config_line (number + 1) (said ++ next ∷ []) texts))
+    and_then number (read >>= λ l. cond (accepts (draft_of said) l) (Some (with_line (draft_of said) l)) None) (λ next. directory_of_lines (number + 1) next texts)
+    ≡ directory_from (number + 1 + length texts) (and_then number (read >>= λ l. cond (may_follow said l) (Some l) None) (λ next. lines_by next_config_line (number + 1) (said ++ next ∷ []) texts))
 over_form number said None texts all = refl
 over_form number said (Some l) texts all = rw (accepts_is said l) (over_line number said l texts (may_follow said l) refl all)
 
@@ -140,5 +142,6 @@ pub fault_is_result : (text : List ℕ) (e : DirectoryFault) (after : Draft) →
 fault_is_result text (fault.BadLine n) after is = sym (lines_give_directory text) ∙ is
 fault_is_result text fault.NoMemory after is = tt
 
-pub draft_is_result : (text : List ℕ) (last : ℕ) (after : Draft) (r : Result Directory DirectoryFault) → Reads (Ok last) empty_draft (lines_of text) after → ReadsDirectory r (directory_of_draft last after) → ReadsDirectory r (directory_of text)
+pub draft_is_result : (text : List ℕ) (last : ℕ) (after : Draft) (r : Result Directory DirectoryFault) → Reads (Ok last) empty_draft (lines_of text) after →
+    ReadsDirectory r (directory_of_draft last after) → ReadsDirectory r (directory_of text)
 draft_is_result text last after r is answer = subst (λ (due : Result Directory ℕ). ReadsDirectory r due) (sym is ∙ lines_give_directory text) answer

@@ -18,16 +18,19 @@ use Rattle.mmtel_trust.specs.Peers.{route_of}
 use Rattle.mmtel_types.specs.declared.numbers.Account.{Account}
 use Rattle.mmtel_types.specs.declared.numbers.Peer.{Peer}
 use Rattle.mmtel_types.specs.declared.sides.Side.TheVariants.{Callee}
-use Rattle.mmtel_focus.specs.Responses.{after_ack_retransmission, after_own_ack, with_invite_cancel, with_failure_ack, invite_after_due_cancel, after_invite_end, after_end, is_ack_pending, is_success, on_any_response, on_response_to, on_due, on_failure}
+use Rattle.mmtel_focus.specs.Responses.{after_ack_retransmission, after_own_ack, with_invite_cancel, with_failure_ack, invite_after_due_cancel}
+use Rattle.mmtel_focus.specs.Responses.{after_invite_end, after_end, is_ack_pending, is_success, on_any_response, on_response_to, on_due, on_failure}
 use Rattle.mmtel_focus.specs.Responses.{after_connect, after_missing_ack, after_ringing_limit, has_outstanding_number, on_outstanding_response, on_provisional, on_success, on_timeout, to_tag_of}
 use Rattle.mmtel_focus.specs.Joining.{after_adoption, after_failure_notify, after_invite, after_invite_if_peer, after_join, after_refer}
 use Rattle.mmtel_focus.specs.Referrals.{referral_in}
-use Rattle.mmtel_focus.specs.Requests.{after_accepted_refer, acknowledges, after_reinvite, invite_in_flight, participant_after_request, is_invite_outstanding, on_ack, after_response, on_bye, on_checked_request, on_request_in_order, on_invite, on_referral, on_request, after_refusal}
+use Rattle.mmtel_focus.specs.Requests.{after_accepted_refer, acknowledges, after_reinvite, invite_in_flight, participant_after_request, is_invite_outstanding}
+use Rattle.mmtel_focus.specs.Requests.{on_ack, after_response, on_bye, on_checked_request, on_request_in_order, on_invite, on_referral, on_request, after_refusal}
 use Rattle.mmtel_focus.specs.Requests.{after_trying, request_check}
 use Rattle.mmtel_focus.specs.Conferences.{Accepted, Conference, Invite, Outstanding, ParticipantState, StepResult, with_output}
 use Rattle.mmtel_focus.specs.ParticipantSignals as of_seat
 use Rattle.mmtel_focus.specs.ParticipantSignals.{ParticipantSignal}
-use Rattle.mmtel_focus.specs.Participants.{after_close, after_close_with, after_dismissal, after_leave, after_notify, after_notify_referrer, after_notify_to, at_participant, at_place, by_participant, is_connected, is_creator, is_full, leg_of, place_of, with_participant}
+use Rattle.mmtel_focus.specs.Participants.{after_close, after_close_with, after_dismissal, after_leave, after_notify, after_notify_referrer, after_notify_to}
+use Rattle.mmtel_focus.specs.Participants.{at_participant, at_place, by_participant, is_connected, is_creator, is_full, leg_of, place_of, with_participant}
 use Rattle.mmtel_focus.specs.ConferenceConfig.{ConferenceConfigView}
 use Rattle.mmtel_focus.specs.Table.{conference_without_at, conference_without_in, conference_without_seat, step_of_participant, without_participant}
 use Rattle.mmtel_focus.specs.Texts.{own_status, status_line}
@@ -104,7 +107,8 @@ module _ (config : ConferenceConfigView) (now : ℕ) where
   referral_keeps key m referral.Missing place seat s = refl
   referral_keeps key m referral.OtherMethod place seat s = refl
   referral_keeps key m (referral.Invite u) place seat s =
-      after_refer_keeps seat.number u (after_trying config seat.number (after_accepted_refer config key m place seat s)) ∙ after_notify_to_keeps true (own_status 100) seat.number (after_accepted_refer config key m place seat s)
+      after_refer_keeps seat.number u (after_trying config seat.number (after_accepted_refer config key m place seat s))
+      ∙ after_notify_to_keeps true (own_status 100) seat.number (after_accepted_refer config key m place seat s)
   referral_keeps key m (referral.Replace r) place seat s = refl
 
   received_keeps : (key : TKey) (m : MessageView) (place : ℕ) (seat : ParticipantState) (s : StepResult) → Keeps s (on_request_in_order config now key m place seat s)
@@ -145,7 +149,8 @@ module _ (config : ConferenceConfigView) (now : ℕ) where
   success_keeps : (m : MessageView) (place : ℕ) (seat : ParticipantState) (s : StepResult) → Keeps s (on_success config now m place seat s)
   success_keeps m place seat s =
       let stood : StepResult = after_connect now (remote_of Callee m.parsed.lines) place seat s in
-      after_notify_referrer_keeps false (own_status 200) seat.by (at_participant (after_own_ack config (to_tag_of m)) place stood) ∙ at_participant_keeps (after_own_ack config (to_tag_of m)) (λ place seat t. refl) place stood
+      after_notify_referrer_keeps false (own_status 200) seat.by (at_participant (after_own_ack config (to_tag_of m)) place stood)
+      ∙ at_participant_keeps (after_own_ack config (to_tag_of m)) (λ place seat t. refl) place stood
 
   failure_keeps : (key : TKey) (m : MessageView) (place : ℕ) (seat : ParticipantState) (s : StepResult) → Keeps s (on_failure config now key m place seat s)
   failure_keeps key m place seat s =

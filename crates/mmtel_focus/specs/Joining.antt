@@ -68,7 +68,8 @@ new_participant now room leg account = record {
 -- a leg joins a conference
 unfoldable pub after_join : ConferenceConfigView → (now : ℕ) → Released → Option Account → TKey → MessageView → StepResult → StepResult
 after_join config now leg account key m s =
-    with_output (with_accepted_invite config now s.conference.number (next_number s.conference.last_seat) (next_number s.conference.last_number) key m (released_leg leg).dialogue.local_tag s.effects.output)
+    with_output (with_accepted_invite config now s.conference.number (next_number s.conference.last_seat)
+    (next_number s.conference.last_number) key m (released_leg leg).dialogue.local_tag s.effects.output)
     (record s { conference = with_new_participant (new_participant now s.conference leg account) s.conference })
 
 abbrev pub new_conference : RoomNo → Conference
@@ -86,11 +87,13 @@ invited_participant room by account d branch = participant_of_invite (next_in ro
 -- in this dialog, for which two tokens were drawn
 abbrev pub after_invite_in : ConferenceConfigView → (now by : ℕ) → Option Account → Dialogue → StepResult → StepResult
 after_invite_in config now by account d s =
-    with_output (with_invite_sent config now s.conference.number (next_number s.conference.last_seat) (next_number s.conference.last_number) d (after_draw (after_draw s.effects.output)))
+    with_output (with_invite_sent config now s.conference.number (next_number s.conference.last_seat)
+    (next_number s.conference.last_number) d (after_draw (after_draw s.effects.output)))
     (record s { conference = with_new_participant (invited_participant s.conference by account d (token (after_draw (after_draw s.effects.output)))) s.conference })
 
 abbrev pub after_invite : ConferenceConfigView → (now by : ℕ) → Peer → Uri → StepResult → StepResult
-after_invite config now by peer u s = after_invite_in config now by (account_of config.accounts u) (invitation_dialog config s.conference.number peer (uri_text (target_of u)) s.effects.output) s
+after_invite config now by peer u s = after_invite_in config now by (account_of config.accounts u)
+    (invitation_dialog config s.conference.number peer (uri_text (target_of u)) s.effects.output) s
 
 -- the participant that sent the REFER is notified where no route leads to the URI, and else where the conference is full
 abbrev pub after_failure_notify : ConferenceConfigView → (by code : ℕ) → StepResult → StepResult
@@ -116,13 +119,15 @@ adopted_participant now room leg account by branch = record {
   by = Some by;
   account = account;
   pending_ack = None;
-  invite = Some (Outstanding (next_number room.last_number) (sent_invite (leg_after_invite (released_leg leg)).dialogue (next_number (released_leg leg).dialogue.local_cseq) branch));
+  invite = Some (Outstanding (next_number room.last_number)
+      (sent_invite (leg_after_invite (released_leg leg)).dialogue (next_number (released_leg leg).dialogue.local_cseq) branch));
   party = party_of (meter_of room.number now account) (released_after_reinvite leg);
 }
 
 unfoldable pub after_adoption : ConferenceConfigView → (now : ℕ) → Released → Option Account → (by : ℕ) → StepResult → StepResult
 after_adoption config now leg account by s =
-    with_output (with_own_request config.sip (codes "INVITE") (released_leg leg).dialogue (contact_and_sdp_lines config.sip s.conference.number) (offer_text config.mixer) s.effects.output)
+    with_output (with_own_request config.sip (codes "INVITE") (released_leg leg).dialogue
+    (contact_and_sdp_lines config.sip s.conference.number) (offer_text config.mixer) s.effects.output)
     (record s { conference = with_new_participant (adopted_participant now s.conference leg account by (token s.effects.output)) s.conference })
 
 -- both legs are of the same side of their calls

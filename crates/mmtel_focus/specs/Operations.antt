@@ -16,7 +16,8 @@ use Rattle.mmtel_types.specs.declared.addrs.Addr.{Addr}
 use Rattle.mmtel_types.specs.declared.numbers.Account.{Account}
 use Rattle.mmtel_focus.specs.Conferences.{Effects, StepResult, no_effects}
 use Rattle.mmtel_focus.specs.ConferenceConfig.{ConferenceConfigView}
-use Rattle.mmtel_focus.specs.Table.{ConferenceStep, Table, TableStep, conferences_after_close, conferences_after_leave, empty_table, next_room_number, step_of_adoption, step_of_join, step_of_notify, step_of_opening, step_of_signal, with_abandoned}
+use Rattle.mmtel_focus.specs.Table.{ConferenceStep, Table, TableStep, conferences_after_close, conferences_after_leave, empty_table, next_room_number}
+use Rattle.mmtel_focus.specs.Table.{step_of_adoption, step_of_join, step_of_notify, step_of_opening, step_of_signal, with_abandoned}
 use Rattle.mmtel_focus.specs.declared.signals.Joining.{Joining}
 use Rattle.mmtel_focus.specs.declared.signals.Joining.TheVariants as joining
 use Rattle.mmtel_focus.specs.declared.signals.RoomSignal.{RoomSignal}

@@ -4,8 +4,10 @@ use Rattle.std.specs.Prelude.{ℕ, Bool, true, if◌then◌else◌, Option, Some
 use Rattle.mmtel_focus.specs.Conferences.{Conference, ParticipantState, StepResult, with_output}
 use Rattle.mmtel_focus.specs.ConferenceConfig.{ConferenceConfigView}
 use Rattle.mmtel_participants.specs.Participants.{effects_of_dismissal, effects_of_leave, has_no_free_seat, is_creator, participant_after_notify, place_of, with_notify_to_party}
-pub use Rattle.mmtel_participants.specs.Participants.{dialogue_of, effects_of_dismissal, effects_of_leave, ended_dialogs, has_seat_number, is_connected, is_creator, is_party_connected, participant_after_bye, with_row_of_meter}
-pub use Rattle.mmtel_participants.specs.Participants.{abandoned_in_dialog, abandoned_of_invite, abandoned_of_party, leg_after_notify, leg_of, meter_for, meter_of, party_after_notify, place_of, tag_of, with_notify, with_notify_to_party}
+pub use Rattle.mmtel_participants.specs.Participants.{dialogue_of, effects_of_dismissal, effects_of_leave, ended_dialogs, has_seat_number}
+pub use Rattle.mmtel_participants.specs.Participants.{is_connected, is_creator, is_party_connected, participant_after_bye, with_row_of_meter}
+pub use Rattle.mmtel_participants.specs.Participants.{abandoned_in_dialog, abandoned_of_invite, abandoned_of_party, leg_after_notify, leg_of}
+pub use Rattle.mmtel_participants.specs.Participants.{meter_for, meter_of, party_after_notify, place_of, tag_of, with_notify, with_notify_to_party}
 pub use Rattle.mmtel_participants.specs.Participants.{participant_after_notify, with_leg}
 
 -- ---- the participants of a conference
@@ -37,7 +39,9 @@ without_participant_at place s = record s { conference = record s.conference { p
 -- ---- NOTIFY, to the participant that sent the REFER; none once it has left
 
 abbrev pub after_notify : ConferenceConfigView → (goes_on : Bool) → (line : List ℕ) → (place : ℕ) → ParticipantState → StepResult → StepResult
-after_notify config goes_on line place seat s = with_output (with_notify_to_party config s.conference.number goes_on line seat.party s.effects.output) (with_participant place (participant_after_notify seat) s)
+after_notify config goes_on line place seat s =
+    with_output (with_notify_to_party config s.conference.number goes_on line seat.party s.effects.output)
+    (with_participant place (participant_after_notify seat) s)
 
 -- the participant of this number
 abbrev pub after_notify_to : ConferenceConfigView → (goes_on : Bool) → (line : List ℕ) → (number : ℕ) → StepResult → StepResult

@@ -19,7 +19,8 @@ use Rattle.mmtel_focus.specs.Texts.{contact_value, own_status}
 use Rattle.mmtel_focus.specs.declared.referrals.Referral.{Referral}
 use Rattle.mmtel_focus.specs.declared.referrals.Referral.TheVariants as referral
 use Rattle.mmtel_participants.specs.DialogRequests.{invite_in_flight, number_of, participant_after_request, request_check, with_pending_ack}
-pub use Rattle.mmtel_participants.specs.DialogRequests.{invite_in_flight, invite_in_flight_by, leg_after_request, number_of, participant_after_request, request_check, with_pending_ack}
+pub use Rattle.mmtel_participants.specs.DialogRequests.{invite_in_flight, invite_in_flight_by, leg_after_request, number_of}
+pub use Rattle.mmtel_participants.specs.DialogRequests.{participant_after_request, request_check, with_pending_ack}
 pub use Rattle.mmtel_participants.specs.Invites.{is_invite_outstanding}
 pub use Rattle.mmtel_sip_rules.specs.Requests.{is_number, is_same_number}
 
@@ -54,7 +55,8 @@ on_bye config now key m place seat s = after_close_with config now seat.number (
 
 -- 202 names the conference (RFC 3515 §2.2)
 abbrev pub after_accepted_refer : ConferenceConfigView → TKey → MessageView → (place : ℕ) → ParticipantState → StepResult → StepResult
-after_accepted_refer config key m place seat s = with_output (with_contact_response (contact_value config.sip s.conference.number) key m (tag_of seat) 202 [] [] [] s.effects.output) s
+after_accepted_refer config key m place seat s =
+    with_output (with_contact_response (contact_value config.sip s.conference.number) key m (tag_of seat) 202 [] [] [] s.effects.output) s
 
 -- a party is to be invited: the participant is notified that this is tried, and then of a failure that is known at once
 abbrev pub after_trying : ConferenceConfigView → (number : ℕ) → StepResult → StepResult
@@ -64,7 +66,8 @@ after_trying config number s = after_notify_to config true (own_status 100) numb
 abbrev pub on_referral : ConferenceConfigView → (now : ℕ) → TKey → MessageView → Referral → (place : ℕ) → ParticipantState → StepResult → StepResult
 on_referral config now key m referral.Missing place seat s = after_refusal config key m 400 place seat s
 on_referral config now key m referral.OtherMethod place seat s = after_refusal config key m 403 place seat s
-on_referral config now key m (referral.Invite u) place seat s = after_refer config now seat.number u (after_trying config seat.number (after_accepted_refer config key m place seat s))
+on_referral config now key m (referral.Invite u) place seat s =
+    after_refer config now seat.number u (after_trying config seat.number (after_accepted_refer config key m place seat s))
 on_referral config now key m (referral.Replace r) place seat s = after_accepted_refer config key m place seat s
 
 -- ---- a request that was accepted
@@ -87,7 +90,8 @@ after_out_of_order config key m Unfinished place seat s = after_response config 
 
 abbrev pub on_checked_request : ConferenceConfigView → (now : ℕ) → TKey → MessageView → Result (Unit {0}) DialogueFault → (place : ℕ) → ParticipantState → StepResult → StepResult
 on_checked_request config now key m (Err fault) place seat s = after_out_of_order config key m fault place seat s
-on_checked_request config now key m (Ok received) place seat s = at_participant (on_request_in_order config now key m) place (with_participant place (participant_after_request m seat) s)
+on_checked_request config now key m (Ok received) place seat s =
+    at_participant (on_request_in_order config now key m) place (with_participant place (participant_after_request m seat) s)
 
 -- a party that is invited and has not answered has no dialog
 unfoldable pub on_request : ConferenceConfigView → (now : ℕ) → TKey → MessageView → (place : ℕ) → ParticipantState → StepResult → StepResult

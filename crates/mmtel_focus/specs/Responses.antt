@@ -18,8 +18,10 @@ use Rattle.mmtel_focus.specs.Requests.{is_invite_outstanding}
 use Rattle.mmtel_focus.specs.Participants.{after_close_with, after_dismissal, after_notify_referrer, at_participant, dialogue_of, is_connected, with_participant}
 use Rattle.mmtel_focus.specs.ConferenceConfig.{ConferenceConfigView}
 use Rattle.mmtel_focus.specs.Texts.{own_status, status_line}
-use Rattle.mmtel_participants.specs.Invites.{accepted_invite, connected_participant, has_outstanding_number, invite_after_due_cancel, invite_with_provisional, is_ack_pending, with_failure_ack, with_invite_cancel}
-pub use Rattle.mmtel_participants.specs.Invites.{accepted_invite, connected_participant, connected_party, has_outstanding_number, invite_after_due_cancel, invite_with_provisional, is_ack_pending, with_failure_ack, with_invite_cancel}
+use Rattle.mmtel_participants.specs.Invites.{accepted_invite, connected_participant, has_outstanding_number, invite_after_due_cancel}
+use Rattle.mmtel_participants.specs.Invites.{invite_with_provisional, is_ack_pending, with_failure_ack, with_invite_cancel}
+pub use Rattle.mmtel_participants.specs.Invites.{accepted_invite, connected_participant, connected_party, has_outstanding_number}
+pub use Rattle.mmtel_participants.specs.Invites.{invite_after_due_cancel, invite_with_provisional, is_ack_pending, with_failure_ack, with_invite_cancel}
 pub use Rattle.mmtel_sip_rules.specs.Statuses.{is_provisional, is_success}
 
 -- ---- a provisional response
@@ -34,7 +36,8 @@ participants_with_connected room now remote place None seats = seats
 participants_with_connected room now remote place (Some seat) seats = slice_set seats place (connected_participant room now remote seat)
 
 abbrev pub after_connect : (now : ℕ) → Remote → (place : ℕ) → ParticipantState → StepResult → StepResult
-after_connect now remote place seat s = record s { conference = record s.conference { participants = participants_with_connected s.conference.number now remote place (Some seat) s.conference.participants } }
+after_connect now remote place seat s =
+    record s { conference = record s.conference { participants = participants_with_connected s.conference.number now remote place (Some seat) s.conference.participants } }
 
 abbrev pub after_own_ack : ConferenceConfigView → (tag : List ℕ) → (place : ℕ) → ParticipantState → StepResult → StepResult
 after_own_ack config tag place seat s =

@@ -120,7 +120,8 @@ step_by_number config now room seat received live effects = step_result_in (step
 
 -- the participant whose INVITE has this branch receives the signal
 abbrev pub step_by_branch : ConferenceConfigView → (now : ℕ) → (branch : List ℕ) → ParticipantSignal → List Conference → Effects → ConferenceStep
-step_by_branch config now branch received live effects = step_result_in (step_of_first config now (participant_has_branch branch) received) (position (conference_has_branch branch) live) live effects
+step_by_branch config now branch received live effects = step_result_in (step_of_first config now (participant_has_branch branch) received)
+    (position (conference_has_branch branch) live) live effects
 
 -- ---- abandoned INVITEs
 
@@ -135,20 +136,24 @@ with_abandoned abandoned s = record { live = s.live; abandoned = abandoned; effe
 
 -- what remains of one is the last of the list
 abbrev pub with_rest_of_abandoned : (place : ℕ) → AfterResponse → List Conference → List AbandonedInvite → Effects → TableStep
-with_rest_of_abandoned place rest live abandoned effects = record { live = live; abandoned = without_at place abandoned ++ option_to_list rest.remaining; effects = record effects { output = rest.output } }
+with_rest_of_abandoned place rest live abandoned effects =
+    record { live = live; abandoned = without_at place abandoned ++ option_to_list rest.remaining; effects = record effects { output = rest.output } }
 
 abbrev pub step_of_abandoned_response : Addr → TKey → MessageView → (place : ℕ) → Option AbandonedInvite → List Conference → List AbandonedInvite → Effects → TableStep
 step_of_abandoned_response sip key m place None live abandoned effects = with_abandoned abandoned (unchanged_step live effects)
 step_of_abandoned_response sip key m place (Some l) live abandoned effects = with_rest_of_abandoned place (on_response sip key m.parsed l effects.output) live abandoned effects
 
-abbrev pub step_of_response_at : ConferenceConfigView → (now : ℕ) → TKey → MessageView → (branch : List ℕ) → (place : Option ℕ) → List Conference → List AbandonedInvite → Effects → TableStep
+abbrev pub step_of_response_at : ConferenceConfigView → (now : ℕ) → TKey → MessageView → (branch : List ℕ) → (place : Option ℕ) →
+    List Conference → List AbandonedInvite → Effects → TableStep
 step_of_response_at config now key m branch None live abandoned effects = with_abandoned abandoned (step_by_branch config now branch (of_seat.Answer key m) live effects)
-step_of_response_at config now key m branch (Some place) live abandoned effects = step_of_abandoned_response config.sip key m place (slice_get abandoned place) live abandoned effects
+step_of_response_at config now key m branch (Some place) live abandoned effects =
+    step_of_abandoned_response config.sip key m place (slice_get abandoned place) live abandoned effects
 
 -- a response: to an abandoned INVITE, or to one to a participant
 abbrev pub step_of_response : ConferenceConfigView → (now : ℕ) → TKey → MessageView → (branch : Option (List ℕ)) → List Conference → List AbandonedInvite → Effects → TableStep
 step_of_response config now key m None live abandoned effects = with_abandoned abandoned (unchanged_step live effects)
-step_of_response config now key m (Some branch) live abandoned effects = step_of_response_at config now key m branch (position (is_of_branch branch) abandoned) live abandoned effects
+step_of_response config now key m (Some branch) live abandoned effects =
+    step_of_response_at config now key m branch (position (is_of_branch branch) abandoned) live abandoned effects
 
 -- a timeout ends an abandoned one
 abbrev pub step_of_timeout_at : ConferenceConfigView → (now : ℕ) → (branch : List ℕ) → (place : Option ℕ) → List Conference → List AbandonedInvite → Effects → TableStep
@@ -162,7 +167,8 @@ step_of_timeout config now (Some branch) live abandoned effects = step_of_timeou
 -- ---- any signal
 
 unfoldable pub step_of_signal : ConferenceConfigView → (now : ℕ) → RoomSignal → List Conference → List AbandonedInvite → Effects → TableStep
-step_of_signal config now (signal.Request room seat key request) live abandoned effects = with_abandoned abandoned (step_by_number config now room.0 seat (of_seat.Request key request) live effects)
+step_of_signal config now (signal.Request room seat key request) live abandoned effects =
+    with_abandoned abandoned (step_by_number config now room.0 seat (of_seat.Request key request) live effects)
 step_of_signal config now (signal.Ack room seat ack) live abandoned effects = with_abandoned abandoned (step_by_number config now room.0 seat (of_seat.Ack ack) live effects)
 step_of_signal config now (signal.Answer key response) live abandoned effects = step_of_response config now key response (awaited_request_branch response) live abandoned effects
 step_of_signal config now (signal.Silent branch method) live abandoned effects = step_of_timeout config now (timed_out_branch branch method) live abandoned effects

@@ -16,7 +16,8 @@ use Rattle.mmtel_sdp.specs.Sdp.{sdp_of}
 use Rattle.mmtel_sdp.specs.declared.values.Mixer.{Mixer}
 use Rattle.mmtel_sdp.specs.declared.values.SdpView.{SdpView}
 use Rattle.mmtel_types.specs.declared.addrs.Addr.{Addr}
-pub use Rattle.mmtel_participants.specs.Texts.{conference_from, conference_uri, contact_and_sdp_lines, contact_line, contact_value, notify_lines, sdp_lines, sipfrag, subscription_state}
+pub use Rattle.mmtel_participants.specs.Texts.{conference_from, conference_uri, contact_and_sdp_lines, contact_line}
+pub use Rattle.mmtel_participants.specs.Texts.{contact_value, notify_lines, sdp_lines, sipfrag, subscription_state}
 
 -- ---- the conference that a URI names
 

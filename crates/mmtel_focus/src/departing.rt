@@ -2,7 +2,8 @@
 ghost use Rattle.std.specs.Prelude.{◌≡◌, ◌≤◌, ◌<◌, [], IfOk, OnErr, OnOk, length, map, remove, slice_get, vec_capacity};
 ghost use Rattle.mmtel_focus.specs.Queries.{ended_leg, ended_legs, participants_in};
 ghost use Rattle.mmtel_focus.specs.Participants.{place_of};
-ghost use Rattle.mmtel_focus.specs.Table.{conference_without_at, conference_without_seat, conferences_after_close, conferences_after_leave, row_by, row_in, row_of_leave, row_of_participant};
+ghost use Rattle.mmtel_focus.specs.Table.{conference_without_at, conference_without_seat, conferences_after_close};
+ghost use Rattle.mmtel_focus.specs.Table.{conferences_after_leave, row_by, row_in, row_of_leave, row_of_participant};
 
 use crate::conferences::Conference;
 use crate::live::LiveConferences;

@@ -5,7 +5,8 @@ ghost use Rattle.mmtel_focus.specs.Borrowed.{signal_of_borrowed};
 ghost use Rattle.mmtel_focus.specs.Conferences.{in_step, Conference};
 ghost use Rattle.mmtel_focus.specs.Participants.{at_participant, at_place};
 ghost use Rattle.mmtel_output.specs.ResponseMatching.{awaited_request_branch, timed_out_branch};
-ghost use Rattle.mmtel_focus.specs.Table.{conference_has_branch, step_by_branch, step_by_number, step_of_abandoned_response, step_of_first, step_of_participant, step_of_response, step_of_response_at};
+ghost use Rattle.mmtel_focus.specs.Table.{conference_has_branch, step_by_branch, step_by_number, step_of_abandoned_response};
+ghost use Rattle.mmtel_focus.specs.Table.{step_of_first, step_of_participant, step_of_response, step_of_response_at};
 ghost use Rattle.mmtel_focus.specs.Table.{is_abandoned_key, participant_has_branch, step_of_signal, step_of_timeout, step_of_timeout_at, step_result_at, step_result_in, without};
 
 use crate::conferences::Conference;
@@ -223,12 +224,15 @@ fn receive_response_to(
     effects: &mut Effects,
 ) -> Result<(), NoMemory>
     ensures live { OnOk result (live.new ≡ record live.old {
-      items = (step_of_response_at step.now.config step.now.at key response.now branch.now (position (is_of_branch branch.now) abandoned.old) live.old.items abandoned.old effects.old).live;
+      items = (step_of_response_at step.now.config step.now.at key response.now branch.now
+          (position (is_of_branch branch.now) abandoned.old) live.old.items abandoned.old effects.old).live;
     }) }
     ensures abandoned { OnOk result (abandoned.new
-        ≡ (step_of_response_at step.now.config step.now.at key response.now branch.now (position (is_of_branch branch.now) abandoned.old) live.old.items abandoned.old effects.old).abandoned) }
+        ≡ (step_of_response_at step.now.config step.now.at key response.now branch.now
+        (position (is_of_branch branch.now) abandoned.old) live.old.items abandoned.old effects.old).abandoned) }
     ensures effects { OnOk result (effects.new
-        ≡ (step_of_response_at step.now.config step.now.at key response.now branch.now (position (is_of_branch branch.now) abandoned.old) live.old.items abandoned.old effects.old).effects) }
+        ≡ (step_of_response_at step.now.config step.now.at key response.now branch.now
+        (position (is_of_branch branch.now) abandoned.old) live.old.items abandoned.old effects.old).effects) }
 {
     match abandoned_at(abandoned.items(), branch) {
         Some(place) => receive_abandoned_at(

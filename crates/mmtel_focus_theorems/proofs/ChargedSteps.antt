@@ -12,7 +12,9 @@ use Rattle.mmtel_leg.specs.Legs.{Leg, with_dialogue}
 use Rattle.mmtel_types.specs.declared.numbers.RoomNo.{RoomNo}
 use Rattle.mmtel_types.specs.declared.numbers.Account.{Account}
 use Rattle.mmtel_focus.specs.Conferences.{StepResult, with_output}
-use Rattle.mmtel_focus.specs.Participants.{after_close, after_close_with, after_dismissal, after_leave, after_notify, after_notify_referrer, after_notify_to, at_participant, at_place, by_participant, dialogue_of, effects_of_dismissal, effects_of_leave, is_connected, is_creator, leg_of, meter_of, participant_after_bye, participant_after_notify, party_after_notify, place_of, with_leg, with_notify_to_party, with_participant, with_row_of_meter, without_participant_at}
+use Rattle.mmtel_focus.specs.Participants.{after_close, after_close_with, after_dismissal, after_leave, after_notify, after_notify_referrer, after_notify_to, at_participant, at_place}
+use Rattle.mmtel_focus.specs.Participants.{by_participant, dialogue_of, effects_of_dismissal, effects_of_leave, is_connected, is_creator, leg_of, meter_of, participant_after_bye}
+use Rattle.mmtel_focus.specs.Participants.{participant_after_notify, party_after_notify, place_of, with_leg, with_notify_to_party, with_participant, with_row_of_meter, without_participant_at}
 use Rattle.mmtel_focus.specs.ConferenceConfig.{ConferenceConfigView}
 use Rattle.mmtel_participants.specs.declared.effects.Effects.{Effects}
 use Rattle.mmtel_participants.specs.declared.participants.Party.{Party}
@@ -77,7 +79,8 @@ goes_on at s t e = record { rows = e.rows; filed = e.filed; booked = e.booked; e
 
 -- ---- nothing is entered in the ledger
 
-pub same : (at : ℕ) (s t : StepResult) → t.effects.output.rows ≡ s.effects.output.rows → running_meters_of t.conference ≡ running_meters_of s.conference → t.effects.closes ≡ s.effects.closes → ArePlain t.conference.participants → Books at s t
+pub same : (at : ℕ) (s t : StepResult) → t.effects.output.rows ≡ s.effects.output.rows → running_meters_of t.conference ≡ running_meters_of s.conference → t.effects.closes ≡ s.effects.closes →
+    ArePlain t.conference.participants → Books at s t
 same at s t e f g p = record { rows = []; filed = e ∙ sym (append-nil s.effects.output.rows); booked = booked_same at (running_meters_of s.conference) (running_meters_of t.conference) f; still = g; plain = p }
 
 pub stays : (at : ℕ) (s : StepResult) → ArePlain s.conference.participants → Books at s s
@@ -122,7 +125,8 @@ ends_if at false s t u e f = f
 abbrev pub KeepsBooks : (at : ℕ) → (row : (place : ℕ) → ParticipantState → StepResult → StepResult) → Type 0
 KeepsBooks at row = (place : ℕ) (seat : ParticipantState) (s : StepResult) → slice_get s.conference.participants place ≡ Some seat → ArePlain s.conference.participants → Books at s (row place seat s)
 
-pub books_at_seat : (at : ℕ) (row : (place : ℕ) → ParticipantState → StepResult → StepResult) → KeepsBooks at row → (place : ℕ) (s : StepResult) → ArePlain s.conference.participants → Books at s (at_participant row place s)
+pub books_at_seat : (at : ℕ) (row : (place : ℕ) → ParticipantState → StepResult → StepResult) → KeepsBooks at row → (place : ℕ) (s : StepResult) → ArePlain s.conference.participants →
+    Books at s (at_participant row place s)
 books_at_seat at row k place s p = by (slice_get s.conference.participants place) refl
   where
     by : (o : Option ParticipantState) → slice_get s.conference.participants place ≡ o → Books at s (by_participant (row place) o s)
@@ -150,17 +154,21 @@ ends_at_place at row k (Some place) s p = ends_at_seat at row k place s p
 
 -- ---- a participant is changed
 
-pub with_participant_runs : (seats : List ParticipantState) (place : ℕ) (seat other : ParticipantState) → slice_get seats place ≡ Some seat → meters_of other ≡ meters_of seat → running_meters_in (slice_set seats place other) ≡ running_meters_in seats
+pub with_participant_runs : (seats : List ParticipantState) (place : ℕ) (seat other : ParticipantState) → slice_get seats place ≡ Some seat → meters_of other ≡ meters_of seat →
+    running_meters_in (slice_set seats place other) ≡ running_meters_in seats
 with_participant_runs seats place seat other e f =
     let x = stands seats place seat e in
-    ap running_meters_in (x.put other) ∙ flat_among meters_of x.front other x.back ∙ ap (λ m. running_meters_in x.front ++ (m ++ running_meters_in x.back)) f ∙ sym (flat_among meters_of x.front seat x.back) ∙ sym (ap running_meters_in x.whole)
+    ap running_meters_in (x.put other) ∙ flat_among meters_of x.front other x.back ∙ ap (λ m. running_meters_in x.front ++ (m ++ running_meters_in x.back)) f
+    ∙ sym (flat_among meters_of x.front seat x.back) ∙ sym (ap running_meters_in x.whole)
 
-pub with_participant_books : (at : ℕ) (place : ℕ) (seat other : ParticipantState) (s : StepResult) → slice_get s.conference.participants place ≡ Some seat → meters_of other ≡ meters_of seat → IsPlain other.party → ArePlain s.conference.participants → Books at s (with_participant place other s)
+pub with_participant_books : (at : ℕ) (place : ℕ) (seat other : ParticipantState) (s : StepResult) → slice_get s.conference.participants place ≡ Some seat → meters_of other ≡ meters_of seat →
+    IsPlain other.party → ArePlain s.conference.participants → Books at s (with_participant place other s)
 with_participant_books at place seat other s e f g p =
     same at s (with_participant place other s) refl (with_participant_runs s.conference.participants place seat other e f) refl (plain_put s.conference.participants place seat other e g p)
 
 -- its meter begins
-pub begun_books : (at : ℕ) (place : ℕ) (seat other : ParticipantState) (s : StepResult) (meter : Option MeterView) → slice_get s.conference.participants place ≡ Some seat → meters_of seat ≡ [] → meters_of other ≡ option_to_list meter → IfSome meter (IsStarted at) → IsPlain other.party → ArePlain s.conference.participants → Books at s (with_participant place other s)
+pub begun_books : (at : ℕ) (place : ℕ) (seat other : ParticipantState) (s : StepResult) (meter : Option MeterView) → slice_get s.conference.participants place ≡ Some seat → meters_of seat ≡ [] →
+    meters_of other ≡ option_to_list meter → IfSome meter (IsStarted at) → IsPlain other.party → ArePlain s.conference.participants → Books at s (with_participant place other s)
 begun_books at place seat other s meter e f g is h p =
     let x = stands s.conference.participants place seat e in
     let before : running_meters_of s.conference ≡ running_meters_in x.front ++ running_meters_in x.back =
@@ -170,7 +178,8 @@ begun_books at place seat other s meter e f g is h p =
     record {
       rows = [];
       filed = sym (append-nil s.effects.output.rows);
-      booked = subst (λ y. IsBooked at y (running_meters_of (with_participant place other s).conference) []) (sym before) (subst (λ y. IsBooked at (running_meters_in x.front ++ running_meters_in x.back) y []) (sym after) (booked_begun at (running_meters_in x.front) (running_meters_in x.back) meter is));
+      booked = subst (λ y. IsBooked at y (running_meters_of (with_participant place other s).conference) []) (sym before)
+          (subst (λ y. IsBooked at (running_meters_in x.front ++ running_meters_in x.back) y []) (sym after) (booked_begun at (running_meters_in x.front) (running_meters_in x.back) meter is));
       still = refl;
       plain = plain_put s.conference.participants place seat other e h p;
     }
@@ -183,7 +192,8 @@ filed_rows at (Some meter) output = refl
 
 -- with these effects
 gone_books : (at : ℕ) (place : ℕ) (seat : ParticipantState) (s : StepResult) (e : Effects) → slice_get s.conference.participants place ≡ Some seat →
-    e.output.rows ≡ s.effects.output.rows ++ rows_of_closed at (leg_of seat.party).meter → e.closes ≡ s.effects.closes → ArePlain s.conference.participants → Books at s (record (without_participant_at place s) { effects = e })
+    e.output.rows ≡ s.effects.output.rows ++ rows_of_closed at (leg_of seat.party).meter → e.closes ≡ s.effects.closes → ArePlain s.conference.participants →
+    Books at s (record (without_participant_at place s) { effects = e })
 gone_books at place seat s e is filed still p =
     let x = stands s.conference.participants place seat is in
     let meter : Option MeterView = (leg_of seat.party).meter in
@@ -193,7 +203,8 @@ gone_books at place seat s e is filed still p =
       rows = rows_of_closed at meter;
       filed = filed;
       booked = subst (λ y. IsBooked at y (running_meters_in (remove s.conference.participants place)) (rows_of_closed at meter)) (sym before)
-          (subst (λ y. IsBooked at (among (running_meters_in x.front) meter (running_meters_in x.back)) y (rows_of_closed at meter)) (sym after) (booked_closed at (running_meters_in x.front) (running_meters_in x.back) meter));
+          (subst (λ y. IsBooked at (among (running_meters_in x.front) meter (running_meters_in x.back)) y (rows_of_closed at meter)) (sym after)
+          (booked_closed at (running_meters_in x.front) (running_meters_in x.back) meter));
       still = still;
       plain = plain_removed s.conference.participants place seat is p;
     }
@@ -211,8 +222,10 @@ pub same_meter : (party : Party) (leg : Leg) → leg.meter ≡ (leg_of party).me
 same_meter party leg e = ap option_to_list (same_leg_meter party leg e)
 
 -- as another participant, with the same party
-pub after_dismissal_as : (at : ℕ) (config : ConferenceConfigView) (place : ℕ) (seat other : ParticipantState) (s : StepResult) → slice_get s.conference.participants place ≡ Some seat → other.party ≡ seat.party → ArePlain s.conference.participants → Books at s (after_dismissal config at place other s)
-after_dismissal_as at config place seat other s is e p = gone_books at place seat s (effects_of_dismissal config at other s.effects) is (rows_by (is_connected other) ∙ ap (λ x. s.effects.output.rows ++ rows_of_closed at (leg_of x).meter) e) (closes_by (is_connected other)) p
+pub after_dismissal_as : (at : ℕ) (config : ConferenceConfigView) (place : ℕ) (seat other : ParticipantState) (s : StepResult) → slice_get s.conference.participants place ≡ Some seat →
+    other.party ≡ seat.party → ArePlain s.conference.participants → Books at s (after_dismissal config at place other s)
+after_dismissal_as at config place seat other s is e p = gone_books at place seat s (effects_of_dismissal config at other s.effects) is
+    (rows_by (is_connected other) ∙ ap (λ x. s.effects.output.rows ++ rows_of_closed at (leg_of x).meter) e) (closes_by (is_connected other)) p
   where
     leg : Leg
     leg = with_dialogue (leg_of other.party) (after_request (dialogue_of other) (codes "BYE"))
@@ -236,16 +249,19 @@ after_dismissal_books at config place seat s is p = after_dismissal_as at config
 
 -- ---- a conference closes
 
-pub after_close_books : (at : ℕ) (config : ConferenceConfigView) (seats : List ParticipantState) (s : StepResult) → s.conference.participants ≡ seats → ArePlain s.conference.participants → Ends at s (after_close config at seats s)
+pub after_close_books : (at : ℕ) (config : ConferenceConfigView) (seats : List ParticipantState) (s : StepResult) → s.conference.participants ≡ seats → ArePlain s.conference.participants →
+    Ends at s (after_close config at seats s)
 unfolding after_close
-after_close_books at config [] s e p = record { rows = []; filed = sym (append-nil s.effects.output.rows); booked = booked_same at (running_meters_of s.conference) (running_meters_of s.conference) refl; ends = inr e; plain = p }
+after_close_books at config [] s e p =
+    record { rows = []; filed = sym (append-nil s.effects.output.rows); booked = booked_same at (running_meters_of s.conference) (running_meters_of s.conference) refl; ends = inr e; plain = p }
 after_close_books at config (seat ∷ seats) s e p =
     let next : StepResult = after_dismissal config at 0 seat s in
     let first = after_dismissal_books at config 0 seat s (subst (λ x. slice_get x 0 ≡ Some seat) (sym e) refl) p in
     ends_then at s next (after_close config at seats next) first (after_close_books at config seats next (ap (λ x. remove x 0) e) first.plain)
 
 pub after_close_with_books : (at : ℕ) (config : ConferenceConfigView) (number : ℕ) (s : StepResult) → ArePlain s.conference.participants → Ends at s (after_close_with config at number s)
-after_close_with_books at config number s p = ends_if at (is_creator number) s (after_close config at s.conference.participants s) s (after_close_books at config s.conference.participants s refl p) (goes_on at s s (stays at s p))
+after_close_with_books at config number s p =
+    ends_if at (is_creator number) s (after_close config at s.conference.participants s) s (after_close_books at config s.conference.participants s refl p) (goes_on at s s (stays at s p))
 
 -- ---- NOTIFY
 
@@ -271,7 +287,8 @@ pub record IsQuiet (s t : StepResult) : Type 0 where
   pub still : t.effects.closes ≡ s.effects.closes
   pub plain : ArePlain t.conference.participants
 
-after_notify_quiet : (config : ConferenceConfigView) (on : Bool) (line : List ℕ) (place : ℕ) (seat : ParticipantState) (s : StepResult) → slice_get s.conference.participants place ≡ Some seat → ArePlain s.conference.participants → IsQuiet s (after_notify config on line place seat s)
+after_notify_quiet : (config : ConferenceConfigView) (on : Bool) (line : List ℕ) (place : ℕ) (seat : ParticipantState) (s : StepResult) → slice_get s.conference.participants place ≡ Some seat →
+    ArePlain s.conference.participants → IsQuiet s (after_notify config on line place seat s)
 after_notify_quiet config on line place seat s e p = record {
   filed = notified_rows config s.conference.number on line seat.party s.effects.output;
   runs_on = with_participant_runs s.conference.participants place seat (participant_after_notify seat) e (ap option_to_list (after_notify_meters seat.party));
@@ -279,7 +296,8 @@ after_notify_quiet config on line place seat s e p = record {
   plain = plain_put s.conference.participants place seat (participant_after_notify seat) e (after_notify_plain seat.party (plain_there s.conference.participants place seat e p)) p;
 }
 
-participant_after_notify_quiet : (config : ConferenceConfigView) (on : Bool) (line : List ℕ) (place : ℕ) (s : StepResult) → ArePlain s.conference.participants → IsQuiet s (at_participant (after_notify config on line) place s)
+participant_after_notify_quiet : (config : ConferenceConfigView) (on : Bool) (line : List ℕ) (place : ℕ) (s : StepResult) → ArePlain s.conference.participants →
+    IsQuiet s (at_participant (after_notify config on line) place s)
 participant_after_notify_quiet config on line place s p = by (slice_get s.conference.participants place) refl
   where
     by : (o : Option ParticipantState) → slice_get s.conference.participants place ≡ o → IsQuiet s (by_participant (after_notify config on line place) o s)
@@ -298,7 +316,8 @@ after_notify_to_books at config on line number s p =
     let quiet = after_notify_to_quiet config on line number s p in
     same at s (after_notify_to config on line number s) quiet.filed quiet.runs_on quiet.still quiet.plain
 
-pub after_notify_referrer_books : (at : ℕ) (config : ConferenceConfigView) (on : Bool) (line : List ℕ) (by : Option ℕ) (s : StepResult) → ArePlain s.conference.participants → Books at s (after_notify_referrer config on line by s)
+pub after_notify_referrer_books : (at : ℕ) (config : ConferenceConfigView) (on : Bool) (line : List ℕ) (by : Option ℕ) (s : StepResult) → ArePlain s.conference.participants →
+    Books at s (after_notify_referrer config on line by s)
 after_notify_referrer_books at config on line None s p = stays at s p
 after_notify_referrer_books at config on line (Some number) s p = after_notify_to_books at config on line number s p
 
@@ -309,7 +328,8 @@ meter_begins at room None = tt
 meter_begins at room (Some account) = record { kind = refl; began = refl; answered = refl }
 
 -- it is the last of the list; an invited party has no meter yet
-pub taken_books : (at : ℕ) (s t : StepResult) (seat : ParticipantState) (meter : Option MeterView) → t.conference.participants ≡ s.conference.participants ++ seat ∷ [] → meters_of seat ≡ option_to_list meter → IfSome meter (IsStarted at) →
+pub taken_books : (at : ℕ) (s t : StepResult) (seat : ParticipantState) (meter : Option MeterView) → t.conference.participants ≡ s.conference.participants ++ seat ∷ [] →
+    meters_of seat ≡ option_to_list meter → IfSome meter (IsStarted at) →
     t.effects.output.rows ≡ s.effects.output.rows → t.effects.closes ≡ s.effects.closes → IsPlain seat.party → ArePlain s.conference.participants → Books at s t
 taken_books at s t seat meter e f is filed still g p = record {
   rows = [];
@@ -317,7 +337,8 @@ taken_books at s t seat meter e f is filed still g p = record {
   booked =
       let after : running_meters_of t.conference ≡ among (running_meters_of s.conference) meter [] =
       ap running_meters_in e ∙ flat_among meters_of s.conference.participants seat [] ∙ ap (λ m. running_meters_of s.conference ++ (m ++ [])) f in
-      subst (λ x. IsBooked at x (running_meters_of t.conference) []) (append-nil (running_meters_of s.conference)) (subst (λ x. IsBooked at (running_meters_of s.conference ++ []) x []) (sym after) (booked_begun at (running_meters_of s.conference) [] meter is));
+      subst (λ x. IsBooked at x (running_meters_of t.conference) []) (append-nil (running_meters_of s.conference))
+      (subst (λ x. IsBooked at (running_meters_of s.conference ++ []) x []) (sym after) (booked_begun at (running_meters_of s.conference) [] meter is));
   still = still;
   plain = subst ArePlain (sym e) (plain_joined s.conference.participants (seat ∷ []) p (g, tt));
 }

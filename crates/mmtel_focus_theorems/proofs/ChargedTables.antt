@@ -24,7 +24,8 @@ use Rattle.mmtel_trust.specs.ParsedMessage.{ParsedMessage}
 use Rattle.mmtel_types.specs.declared.addrs.Addr.{Addr}
 use Rattle.mmtel_types.specs.declared.numbers.Account.{Account}
 use Rattle.mmtel_types.specs.declared.sides.Side.TheVariants.{Callee}
-use Rattle.mmtel_focus.specs.Operations.{Adoption, JoinRequest, TableOp, Opens, Joins, Adopts, Notifies, Receives, Leaves, Closes, Drops, step_on_adopt, table_after_op, step_on_receive, step_on_join, step_on_open, table_after, with_opened_conference}
+use Rattle.mmtel_focus.specs.Operations.{Adoption, JoinRequest, TableOp, Opens, Joins, Adopts, Notifies, Receives, Leaves, Closes, Drops, step_on_adopt}
+use Rattle.mmtel_focus.specs.Operations.{table_after_op, step_on_receive, step_on_join, step_on_open, table_after, with_opened_conference}
 use Rattle.mmtel_focus.specs.Joining.{adopted_participant, after_adoption, after_join, new_conference, new_participant, party_of, released_after_reinvite}
 use Rattle.mmtel_focus.specs.Queries.{ended_leg, ended_legs, participants_in}
 use Rattle.mmtel_focus.specs.Conferences.{Conference, StepResult, no_effects}
@@ -35,7 +36,11 @@ use Rattle.mmtel_focus.specs.Participants as seats
 use Rattle.mmtel_focus.specs.Participants.{after_notify_to, has_seat_number, is_connected, leg_of, meter_of}
 use Rattle.mmtel_focus.specs.ConferenceConfig.{ConferenceConfigView}
 use Rattle.mmtel_focus.specs.Table as table
-use Rattle.mmtel_focus.specs.Table.{ConferenceStep, Table, TableStep, access, conference_at, conference_has_branch, conference_of, conference_without_at, conference_without_in, conference_without_seat, conferences_after_close, conferences_after_leave, conferences_with, conferences_without, conferences_without_seat, conferences_without_seat_at, is_abandoned_key, is_provisional, next_room_number, open_result_at, open_result_by, open_result_in, participant_has_branch, place_of, row_by, row_in, row_in_conference, row_of_leave, row_of_participant, step_by_branch, step_by_number, step_if_access, step_of_abandoned_response, step_of_adoption, step_of_join, step_of_notify, step_of_opening, step_of_participant, step_of_response, step_of_response_at, step_of_signal, step_of_timeout, step_of_timeout_at, step_result_at, step_result_by, step_result_in, unchanged_step, with_rest_of_abandoned, without, without_at}
+use Rattle.mmtel_focus.specs.Table.{ConferenceStep, Table, TableStep, access, conference_at, conference_has_branch, conference_of, conference_without_at, conference_without_in, conference_without_seat}
+use Rattle.mmtel_focus.specs.Table.{conferences_after_close, conferences_after_leave, conferences_with, conferences_without, conferences_without_seat, conferences_without_seat_at, is_abandoned_key, is_provisional}
+use Rattle.mmtel_focus.specs.Table.{next_room_number, open_result_at, open_result_by, open_result_in, participant_has_branch, place_of, row_by, row_in, row_in_conference, row_of_leave, row_of_participant}
+use Rattle.mmtel_focus.specs.Table.{step_by_branch, step_by_number, step_if_access, step_of_abandoned_response, step_of_adoption, step_of_join, step_of_notify, step_of_opening, step_of_participant, step_of_response}
+use Rattle.mmtel_focus.specs.Table.{step_of_response_at, step_of_signal, step_of_timeout, step_of_timeout_at, step_result_at, step_result_by, step_result_in, unchanged_step, with_rest_of_abandoned, without, without_at}
 use Rattle.mmtel_output.specs.ResponseMatching.{awaited_request_branch, timed_out_branch}
 use Rattle.mmtel_focus.specs.Texts.{own_status}
 use Rattle.mmtel_focus.specs.declared.faults.RoomFault.{RoomFault}
@@ -108,7 +113,8 @@ unchanged_step_books at live before after e p = record { rows = []; filed = e �
 abbrev begin : Conference → Effects → StepResult
 begin room effects = record { conference = room; effects = effects }
 
-step_result_by_books : (at : ℕ) (place : ℕ) (room : Conference) (s : StepResult) (live : List Conference) (effects : Effects) → slice_get live place ≡ Some room → effects.closes ≡ false → AllPlain live → Ends at (begin room effects) s → Goes at live effects (step_result_by place s live)
+step_result_by_books : (at : ℕ) (place : ℕ) (room : Conference) (s : StepResult) (live : List Conference) (effects : Effects) → slice_get live place ≡ Some room → effects.closes ≡ false →
+    AllPlain live → Ends at (begin room effects) s → Goes at live effects (step_result_by place s live)
 step_result_by_books at place room s live effects e open_still p f = record { rows = f.rows; filed = f.filed; booked = by s.effects.closes refl; plain = plain_by s.effects.closes }
   where
     x : Round live place room
@@ -118,7 +124,8 @@ step_result_by_books at place room s live effects e open_still p f = record { ro
     stays : IsBooked at (running_meters live) (running_meters (slice_set live place s.conference)) f.rows
     stays =
         subst (λ y. IsBooked at y (running_meters (slice_set live place s.conference)) f.rows) (sym x.runs_in)
-        (subst (λ y. IsBooked at (running_meters x.front ++ (running_meters_of room ++ running_meters x.back)) y f.rows) (sym (x.put_runs s.conference)) (booked_within at (running_meters x.front) (running_meters x.back) (running_meters_of room) (running_meters_of s.conference) f.rows f.booked))
+        (subst (λ y. IsBooked at (running_meters x.front ++ (running_meters_of room ++ running_meters x.back)) y f.rows) (sym (x.put_runs s.conference))
+        (booked_within at (running_meters x.front) (running_meters x.back) (running_meters_of room) (running_meters_of s.conference) f.rows f.booked))
 
     -- it closes without participants
     goes : s.conference.participants ≡ [] → IsBooked at (running_meters live) (running_meters (remove (slice_set live place s.conference) place)) f.rows
@@ -141,7 +148,8 @@ step_result_by_books at place room s live effects e open_still p f = record { ro
     plain_by false = x.put_plain s.conference f.plain
 
 -- a step in which no conference closes
-open_result_by_books : (at : ℕ) (place : ℕ) (room : Conference) (s : StepResult) (live : List Conference) (effects : Effects) → slice_get live place ≡ Some room → AllPlain live → Books at (begin room effects) s → Goes at live effects (open_result_by place s live)
+open_result_by_books : (at : ℕ) (place : ℕ) (room : Conference) (s : StepResult) (live : List Conference) (effects : Effects) → slice_get live place ≡ Some room → AllPlain live →
+    Books at (begin room effects) s → Goes at live effects (open_result_by place s live)
 open_result_by_books at place room s live effects e p f =
     let x = round live place room e p in
     record {
@@ -149,14 +157,16 @@ open_result_by_books at place room s live effects e p f =
       filed = f.filed;
       booked =
           subst (λ y. IsBooked at y (running_meters (slice_set live place s.conference)) f.rows) (sym x.runs_in)
-          (subst (λ y. IsBooked at (running_meters x.front ++ (running_meters_of room ++ running_meters x.back)) y f.rows) (sym (x.put_runs s.conference)) (booked_within at (running_meters x.front) (running_meters x.back) (running_meters_of room) (running_meters_of s.conference) f.rows f.booked));
+          (subst (λ y. IsBooked at (running_meters x.front ++ (running_meters_of room ++ running_meters x.back)) y f.rows) (sym (x.put_runs s.conference))
+          (booked_within at (running_meters x.front) (running_meters x.back) (running_meters_of room) (running_meters_of s.conference) f.rows f.booked));
       plain = x.put_plain s.conference f.plain;
     }
 
 abbrev KeepsConferencesBooked : (at : ℕ) → (row : StepResult → StepResult) → Type 0
 KeepsConferencesBooked at row = (s : StepResult) → ArePlain s.conference.participants → Books at s (row s)
 
-open_result_at_books : (at : ℕ) (row : StepResult → StepResult) (place : ℕ) (live : List Conference) (effects : Effects) → KeepsConferencesBooked at row → AllPlain live → Goes at live effects (open_result_at row place (slice_get live place) live effects)
+open_result_at_books : (at : ℕ) (row : StepResult → StepResult) (place : ℕ) (live : List Conference) (effects : Effects) → KeepsConferencesBooked at row → AllPlain live →
+    Goes at live effects (open_result_at row place (slice_get live place) live effects)
 open_result_at_books at row place live effects k p = by (slice_get live place) refl
   where
     by : (o : Option Conference) → slice_get live place ≡ o → Goes at live effects (open_result_at row place o live effects)
@@ -167,14 +177,16 @@ open_result_at_books at row place live effects k p = by (slice_get live place) r
 abbrev EndsConferencesBooked : (at : ℕ) → (row : StepResult → StepResult) → Type 0
 EndsConferencesBooked at row = (s : StepResult) → ArePlain s.conference.participants → Ends at s (row s)
 
-step_result_at_books : (at : ℕ) (row : StepResult → StepResult) (place : ℕ) (live : List Conference) (effects : Effects) → effects.closes ≡ false → EndsConferencesBooked at row → AllPlain live → Goes at live effects (step_result_at row place (slice_get live place) live effects)
+step_result_at_books : (at : ℕ) (row : StepResult → StepResult) (place : ℕ) (live : List Conference) (effects : Effects) → effects.closes ≡ false → EndsConferencesBooked at row → AllPlain live →
+    Goes at live effects (step_result_at row place (slice_get live place) live effects)
 step_result_at_books at row place live effects f k p = by (slice_get live place) refl
   where
     by : (o : Option Conference) → slice_get live place ≡ o → Goes at live effects (step_result_at row place o live effects)
     by None e = unchanged_step_books at live effects effects refl p
     by (Some room) e = step_result_by_books at place room (row (begin room effects)) live effects e f p (k (begin room effects) (round live place room e p).room_plain)
 
-step_result_in_books : (at : ℕ) (row : StepResult → StepResult) (o : Option ℕ) (live : List Conference) (effects : Effects) → effects.closes ≡ false → EndsConferencesBooked at row → AllPlain live → Goes at live effects (step_result_in row o live effects)
+step_result_in_books : (at : ℕ) (row : StepResult → StepResult) (o : Option ℕ) (live : List Conference) (effects : Effects) → effects.closes ≡ false → EndsConferencesBooked at row → AllPlain live →
+    Goes at live effects (step_result_in row o live effects)
 step_result_in_books at row None live effects f k p = unchanged_step_books at live effects effects refl p
 step_result_in_books at row (Some place) live effects f k p = step_result_at_books at row place live effects f k p
 
@@ -184,7 +196,8 @@ step_of_participant_books : (at : ℕ) (config : ConferenceConfigView) (received
 unfolding step_of_participant
 step_of_participant_books at config (of_seat.Request key request) place seat s e p = request_books at config key request place seat s e p
 step_of_participant_books at config (of_seat.Ack ack) place seat s e p = goes_on at s (step_of_participant config at (of_seat.Ack ack) place seat s) (ack_books at ack place seat s e p)
-step_of_participant_books at config (of_seat.Answer key response) place seat s e p = goes_on at s (step_of_participant config at (of_seat.Answer key response) place seat s) (answer_books at config key response place seat s e p)
+step_of_participant_books at config (of_seat.Answer key response) place seat s e p =
+    goes_on at s (step_of_participant config at (of_seat.Answer key response) place seat s) (answer_books at config key response place seat s e p)
 step_of_participant_books at config of_seat.Silent place seat s e p = goes_on at s (step_of_participant config at of_seat.Silent place seat s) (silence_books at config place seat s e p)
 step_of_participant_books at config (of_seat.Due what) place seat s e p = due_books at config what place seat s e p
 
@@ -198,7 +211,8 @@ rest_if true one two output e f = e
 rest_if false one two output e f = f
 
 late_rows : (sip : Addr) (l : AbandonedInvite) (output : StepOutput) → (after_due_cancel sip l output).output.rows ≡ output.rows
-late_rows sip l output = rest_if l.invite.cancelled (record { remaining = Some l; output = output }) (record { remaining = Some (with_invite l (record l.invite { cancelled = true })); output = with_cancel sip l.invite output }) output refl refl
+late_rows sip l output = rest_if l.invite.cancelled (record { remaining = Some l; output = output })
+    (record { remaining = Some (with_invite l (record l.invite { cancelled = true })); output = with_cancel sip l.invite output }) output refl refl
 
 success_rows : (sip : Addr) (l : AbandonedInvite) (remote : Remote) (o : Option Dialogue) (output : StepOutput) → (on_success_in sip l remote o output).output.rows ≡ output.rows
 success_rows sip l remote None output = refl
@@ -210,12 +224,14 @@ response_rows sip key m l output =
     let last : AfterResponse = record { remaining = None; output = with_final_ack sip key l.invite m output } in
     rest_if (nat_lt (status_of m.start) 200) (after_due_cancel sip (after_provisional key m l) output) (if nat_lt (status_of m.start) 300 then on_success sip known (remote_of Callee m.lines) output else last) output
     (late_rows sip (after_provisional key m l) output)
-    (rest_if (nat_lt (status_of m.start) 300) (on_success sip known (remote_of Callee m.lines) output) last output (success_rows sip known (remote_of Callee m.lines) (ended_dialog known (remote_of Callee m.lines).tag) output) refl)
+    (rest_if (nat_lt (status_of m.start) 300) (on_success sip known (remote_of Callee m.lines) output) last output
+    (success_rows sip known (remote_of Callee m.lines) (ended_dialog known (remote_of Callee m.lines).tag) output) refl)
 
 abbrev GoesBeside : (at : ℕ) → List Conference → Effects → TableStep → Type 0
 GoesBeside at live before moved = Moves at live before moved.live moved.effects
 
-abandoned_books : (at : ℕ) (sip : Addr) (key : TKey) (m : MessageView) (place : ℕ) (o : Option AbandonedInvite) (live : List Conference) (abandoned : List AbandonedInvite) (effects : Effects) → AllPlain live → GoesBeside at live effects (step_of_abandoned_response sip key m place o live abandoned effects)
+abandoned_books : (at : ℕ) (sip : Addr) (key : TKey) (m : MessageView) (place : ℕ) (o : Option AbandonedInvite) (live : List Conference) (abandoned : List AbandonedInvite) (effects : Effects) →
+    AllPlain live → GoesBeside at live effects (step_of_abandoned_response sip key m place o live abandoned effects)
 abandoned_books at sip key m place None live abandoned effects p = unchanged_step_books at live effects effects refl p
 abandoned_books at sip key m place (Some l) live abandoned effects p = record {
   rows = [];
@@ -226,25 +242,32 @@ abandoned_books at sip key m place (Some l) live abandoned effects p = record {
 
 -- ---- signals
 
-step_by_branch_books : (at : ℕ) (config : ConferenceConfigView) (branch : List ℕ) (received : ParticipantSignal) (live : List Conference) (effects : Effects) → effects.closes ≡ false → AllPlain live → Goes at live effects (step_by_branch config at branch received live effects)
+step_by_branch_books : (at : ℕ) (config : ConferenceConfigView) (branch : List ℕ) (received : ParticipantSignal) (live : List Conference) (effects : Effects) → effects.closes ≡ false → AllPlain live →
+    Goes at live effects (step_by_branch config at branch received live effects)
 step_by_branch_books at config branch received live effects f p =
-    step_result_in_books at (table.step_of_first config at (participant_has_branch branch) received) (position (conference_has_branch branch) live) live effects f (step_books at config (participant_has_branch branch) received) p
+    step_result_in_books at (table.step_of_first config at (participant_has_branch branch) received) (position (conference_has_branch branch) live) live effects f
+    (step_books at config (participant_has_branch branch) received) p
 
-step_by_number_books : (at : ℕ) (config : ConferenceConfigView) (room seat : ℕ) (received : ParticipantSignal) (live : List Conference) (effects : Effects) → effects.closes ≡ false → AllPlain live → Goes at live effects (step_by_number config at room seat received live effects)
+step_by_number_books : (at : ℕ) (config : ConferenceConfigView) (room seat : ℕ) (received : ParticipantSignal) (live : List Conference) (effects : Effects) → effects.closes ≡ false → AllPlain live →
+    Goes at live effects (step_by_number config at room seat received live effects)
 step_by_number_books at config room seat received live effects f p =
     step_result_in_books at (table.step_of_first config at (has_seat_number seat) received) (place_of room live) live effects f (step_books at config (has_seat_number seat) received) p
 
-step_of_response_at_books : (at : ℕ) (config : ConferenceConfigView) (key : TKey) (m : MessageView) (branch : List ℕ) (o : Option ℕ) (live : List Conference) (abandoned : List AbandonedInvite) (effects : Effects) → effects.closes ≡ false → AllPlain live →
+step_of_response_at_books :
+    (at : ℕ) (config : ConferenceConfigView) (key : TKey) (m : MessageView) (branch : List ℕ) (o : Option ℕ) (live : List Conference) (abandoned : List AbandonedInvite) (effects : Effects) →
+    effects.closes ≡ false → AllPlain live →
     GoesBeside at live effects (step_of_response_at config at key m branch o live abandoned effects)
 step_of_response_at_books at config key m branch None live abandoned effects f p = step_by_branch_books at config branch (of_seat.Answer key m) live effects f p
 step_of_response_at_books at config key m branch (Some place) live abandoned effects f p = abandoned_books at config.sip key m place (slice_get abandoned place) live abandoned effects p
 
-step_of_response_books : (at : ℕ) (config : ConferenceConfigView) (key : TKey) (m : MessageView) (o : Option (List ℕ)) (live : List Conference) (abandoned : List AbandonedInvite) (effects : Effects) → effects.closes ≡ false → AllPlain live →
+step_of_response_books : (at : ℕ) (config : ConferenceConfigView) (key : TKey) (m : MessageView) (o : Option (List ℕ)) (live : List Conference) (abandoned : List AbandonedInvite) (effects : Effects) →
+    effects.closes ≡ false → AllPlain live →
     GoesBeside at live effects (step_of_response config at key m o live abandoned effects)
 step_of_response_books at config key m None live abandoned effects f p = unchanged_step_books at live effects effects refl p
 step_of_response_books at config key m (Some branch) live abandoned effects f p = step_of_response_at_books at config key m branch (position (is_of_branch branch) abandoned) live abandoned effects f p
 
-step_of_timeout_at_books : (at : ℕ) (config : ConferenceConfigView) (branch : List ℕ) (o : Option ℕ) (live : List Conference) (abandoned : List AbandonedInvite) (effects : Effects) → effects.closes ≡ false → AllPlain live →
+step_of_timeout_at_books : (at : ℕ) (config : ConferenceConfigView) (branch : List ℕ) (o : Option ℕ) (live : List Conference) (abandoned : List AbandonedInvite) (effects : Effects) →
+    effects.closes ≡ false → AllPlain live →
     GoesBeside at live effects (step_of_timeout_at config at branch o live abandoned effects)
 step_of_timeout_at_books at config branch None live abandoned effects f p = step_by_branch_books at config branch of_seat.Silent live effects f p
 step_of_timeout_at_books at config branch (Some place) live abandoned effects f p = unchanged_step_books at live effects effects refl p
@@ -254,7 +277,8 @@ step_of_timeout_books : (at : ℕ) (config : ConferenceConfigView) (o : Option (
 step_of_timeout_books at config None live abandoned effects f p = unchanged_step_books at live effects effects refl p
 step_of_timeout_books at config (Some branch) live abandoned effects f p = step_of_timeout_at_books at config branch (position (is_of_branch branch) abandoned) live abandoned effects f p
 
-signal_books : (at : ℕ) (config : ConferenceConfigView) (x : RoomSignal) (live : List Conference) (abandoned : List AbandonedInvite) (effects : Effects) → effects.closes ≡ false → AllPlain live → GoesBeside at live effects (step_of_signal config at x live abandoned effects)
+signal_books : (at : ℕ) (config : ConferenceConfigView) (x : RoomSignal) (live : List Conference) (abandoned : List AbandonedInvite) (effects : Effects) → effects.closes ≡ false → AllPlain live →
+    GoesBeside at live effects (step_of_signal config at x live abandoned effects)
 unfolding step_of_signal
 signal_books at config (signal.Request room seat key request) live abandoned effects f p = step_by_number_books at config room.0 seat (of_seat.Request key request) live effects f p
 signal_books at config (signal.Ack room seat ack) live abandoned effects f p = step_by_number_books at config room.0 seat (of_seat.Ack ack) live effects f p
@@ -273,19 +297,23 @@ party_plain : (meter : Option MeterView) (leg : Released) → IsPlain (party_of 
 party_plain meter (released.Caller leg) = tt
 party_plain meter (released.Callee leg) = tt
 
-after_join_books : (at : ℕ) (config : ConferenceConfigView) (leg : Released) (account : Option Account) (key : TKey) (m : MessageView) (s : StepResult) → ArePlain s.conference.participants → Books at s (after_join config at leg account key m s)
+after_join_books : (at : ℕ) (config : ConferenceConfigView) (leg : Released) (account : Option Account) (key : TKey) (m : MessageView) (s : StepResult) → ArePlain s.conference.participants →
+    Books at s (after_join config at leg account key m s)
 unfolding after_join
 after_join_books at config leg account key m s p =
     taken_books at s (after_join config at leg account key m s) (new_participant at s.conference leg account) (meter_of s.conference.number at account) refl
     (party_meters (meter_of s.conference.number at account) leg) (meter_begins at s.conference.number account) refl refl (party_plain (meter_of s.conference.number at account) leg) p
 
-after_adoption_books : (at : ℕ) (config : ConferenceConfigView) (leg : Released) (account : Option Account) (by : ℕ) (s : StepResult) → ArePlain s.conference.participants → Books at s (after_adoption config at leg account by s)
+after_adoption_books : (at : ℕ) (config : ConferenceConfigView) (leg : Released) (account : Option Account) (by : ℕ) (s : StepResult) → ArePlain s.conference.participants →
+    Books at s (after_adoption config at leg account by s)
 unfolding after_adoption
 after_adoption_books at config leg account by s p =
     taken_books at s (after_adoption config at leg account by s) (adopted_participant at s.conference leg account by (token s.effects.output)) (meter_of s.conference.number at account) refl
-    (party_meters (meter_of s.conference.number at account) (released_after_reinvite leg)) (meter_begins at s.conference.number account) refl refl (party_plain (meter_of s.conference.number at account) (released_after_reinvite leg)) p
+    (party_meters (meter_of s.conference.number at account) (released_after_reinvite leg)) (meter_begins at s.conference.number account) refl refl
+    (party_plain (meter_of s.conference.number at account) (released_after_reinvite leg)) p
 
-step_if_access_books : (at : ℕ) (row : StepResult → StepResult) (r : Result ℕ RoomFault) (live : List Conference) (effects : Effects) → KeepsConferencesBooked at row → AllPlain live → Goes at live effects (step_if_access row r live effects)
+step_if_access_books : (at : ℕ) (row : StepResult → StepResult) (r : Result ℕ RoomFault) (live : List Conference) (effects : Effects) → KeepsConferencesBooked at row → AllPlain live →
+    Goes at live effects (step_if_access row r live effects)
 step_if_access_books at row (Ok place) live effects k p = open_result_at_books at row place live effects k p
 step_if_access_books at row (Err fault) live effects k p = unchanged_step_books at live effects effects refl p
 
@@ -329,7 +357,8 @@ pub record IsSilentStep (live : List Conference) (before : Effects) (s : Confere
   pub runs_on : running_meters s.live ≡ running_meters live
   pub plain : AllPlain s.live
 
-quiet_by : (place : ℕ) (room : Conference) (s : StepResult) (live : List Conference) (effects : Effects) → slice_get live place ≡ Some room → AllPlain live → IsQuiet (begin room effects) s → IsSilentStep live effects (open_result_by place s live)
+quiet_by : (place : ℕ) (room : Conference) (s : StepResult) (live : List Conference) (effects : Effects) → slice_get live place ≡ Some room → AllPlain live → IsQuiet (begin room effects) s →
+    IsSilentStep live effects (open_result_by place s live)
 quiet_by place room s live effects e p f =
     let x = round live place room e p in
     record { filed = f.filed; runs_on = x.put_runs s.conference ∙ ap (λ y. running_meters x.front ++ (y ++ running_meters x.back)) f.runs_on ∙ sym x.runs_in; plain = x.put_plain s.conference f.plain }
@@ -337,7 +366,8 @@ quiet_by place room s live effects e p f =
 abbrev telling : ConferenceConfigView → (seat code : ℕ) → StepResult → StepResult
 telling config seat code s = after_notify_to config (is_provisional code) (own_status code) seat s
 
-telling_at : (config : ConferenceConfigView) (seat code : ℕ) (place : ℕ) (live : List Conference) (effects : Effects) → AllPlain live → IsSilentStep live effects (open_result_at (telling config seat code) place (slice_get live place) live effects)
+telling_at : (config : ConferenceConfigView) (seat code : ℕ) (place : ℕ) (live : List Conference) (effects : Effects) → AllPlain live →
+    IsSilentStep live effects (open_result_at (telling config seat code) place (slice_get live place) live effects)
 telling_at config seat code place live effects p = by (slice_get live place) refl
   where
     by : (o : Option Conference) → slice_get live place ≡ o → IsSilentStep live effects (open_result_at (telling config seat code) place o live effects)
@@ -346,7 +376,8 @@ telling_at config seat code place live effects p = by (slice_get live place) ref
         quiet_by place room (telling config seat code (begin room effects)) live effects e p
         (after_notify_to_quiet config (is_provisional code) (own_status code) seat (begin room effects) (round live place room e p).room_plain)
 
-telling_in : (config : ConferenceConfigView) (seat code : ℕ) (o : Option ℕ) (live : List Conference) (effects : Effects) → AllPlain live → IsSilentStep live effects (open_result_in (telling config seat code) o live effects)
+telling_in : (config : ConferenceConfigView) (seat code : ℕ) (o : Option ℕ) (live : List Conference) (effects : Effects) → AllPlain live →
+    IsSilentStep live effects (open_result_in (telling config seat code) o live effects)
 telling_in config seat code None live effects p = record { filed = refl; runs_on = refl; plain = p }
 telling_in config seat code (Some place) live effects p = telling_at config seat code place live effects p
 
@@ -385,7 +416,8 @@ record HandsBackIn (room : Conference) (after : Conference) (answer : (at : ℕ)
 in_none : (room : Conference) → ArePlain room.participants → HandsBackIn room room (λ at. None)
 in_none room p = record { front = running_meters_of room; meter = None; back = []; was = sym (append-nil (running_meters_of room)); is = sym (append-nil (running_meters_of room)); row = λ at. refl; plain = p }
 
-gives_seat : (place : ℕ) (seat : ParticipantState) (room : Conference) → slice_get room.participants place ≡ Some seat → ArePlain room.participants → HandsBackIn room (conference_without_at place (Some seat) room) (λ at. row_of_participant at (Some seat))
+gives_seat : (place : ℕ) (seat : ParticipantState) (room : Conference) → slice_get room.participants place ≡ Some seat → ArePlain room.participants →
+    HandsBackIn room (conference_without_at place (Some seat) room) (λ at. row_of_participant at (Some seat))
 gives_seat place seat room e p = by (is_connected seat)
   where
     by : (b : Bool) → HandsBackIn room (if b then record room { participants = remove room.participants place } else room) (λ at. if b then row_by at (leg_of seat.party).meter else None)
@@ -402,7 +434,8 @@ gives_seat place seat room e p = by (is_connected seat)
         }
     by false = in_none room p
 
-gives_at : (place : ℕ) (room : Conference) → ArePlain room.participants → HandsBackIn room (conference_without_at place (slice_get room.participants place) room) (λ at. row_of_participant at (slice_get room.participants place))
+gives_at : (place : ℕ) (room : Conference) → ArePlain room.participants →
+    HandsBackIn room (conference_without_at place (slice_get room.participants place) room) (λ at. row_of_participant at (slice_get room.participants place))
 gives_at place room p = by (slice_get room.participants place) refl
   where
     by : (o : Option ParticipantState) → slice_get room.participants place ≡ o → HandsBackIn room (conference_without_at place o room) (λ at. row_of_participant at o)
@@ -414,7 +447,8 @@ gives_in None room p = in_none room p
 gives_in (Some place) room p = gives_at place room p
 
 -- among the other conferences
-gives_room : (seat place : ℕ) (room : Conference) (live : List Conference) → slice_get live place ≡ Some room → AllPlain live → HandsBack live (slice_set live place (conference_without_seat seat room)) (λ at. row_in_conference at seat (Some room))
+gives_room : (seat place : ℕ) (room : Conference) (live : List Conference) → slice_get live place ≡ Some room → AllPlain live →
+    HandsBack live (slice_set live place (conference_without_seat seat room)) (λ at. row_in_conference at seat (Some room))
 gives_room seat place room live e p =
     let x = round live place room e p in
     let g = gives_in (seats.place_of seat room.participants) room x.room_plain in
@@ -503,7 +537,8 @@ booked_op config (Notifies room seat code tokens) table p =
     let quiet = step_of_notify_quiet config room seat code table.live (no_effects tokens) p in
     (record { filed = ap (λ x. table.rows ++ x) quiet.filed ∙ append-nil table.rows; runs_on = quiet.runs_on }, quiet.plain)
 booked_op config (Receives x) table p =
-    let moves = signal_books x.at config x.signal table.live table.abandoned (no_effects x.tokens) refl p in (moved_charged x.at table (table_after_op config (Receives x) table) x.tokens (step_on_receive config x table).effects refl moves, moves.plain)
+    let moves = signal_books x.at config x.signal table.live table.abandoned (no_effects x.tokens) refl p in
+    (moved_charged x.at table (table_after_op config (Receives x) table) x.tokens (step_on_receive config x table).effects refl moves, moves.plain)
 booked_op config (Leaves room seat) table p =
     let g = gives room seat table.live p in (record { front = g.front; meter = g.meter; back = g.back; filed = refl; old = g.was; new = g.is; row = g.row }, g.plain)
 booked_op config (Closes room) table p =

@@ -31,10 +31,13 @@ use Rattle.mmtel_types.specs.declared.numbers.Account.{Account}
 use Rattle.mmtel_types.specs.declared.numbers.Peer.{Peer}
 use Rattle.mmtel_types.specs.declared.numbers.RoomNo.{RoomNo}
 use Rattle.mmtel_types.specs.declared.sides.Side.TheVariants.{Callee}
-use Rattle.mmtel_focus.specs.Responses.{accepted_invite, after_ack_retransmission, after_end, after_invite_end, after_missing_ack, after_own_ack, after_ringing_limit, connected_participant, connected_party, has_outstanding_number, invite_after_due_cancel, invite_with_provisional, is_ack_pending, is_success, on_any_response, on_cap, on_due, on_failure, on_no_ack, on_outstanding_response, on_provisional, on_response_to, on_retransmission, on_success, on_timeout, to_tag_of, with_failure_ack, with_invite_cancel}
+use Rattle.mmtel_focus.specs.Responses.{accepted_invite, after_ack_retransmission, after_end, after_invite_end, after_missing_ack, after_own_ack, after_ringing_limit, connected_participant}
+use Rattle.mmtel_focus.specs.Responses.{connected_party, has_outstanding_number, invite_after_due_cancel, invite_with_provisional, is_ack_pending, is_success, on_any_response, on_cap, on_due, on_failure}
+use Rattle.mmtel_focus.specs.Responses.{on_no_ack, on_outstanding_response, on_provisional, on_response_to, on_retransmission, on_success, on_timeout, to_tag_of, with_failure_ack, with_invite_cancel}
 use Rattle.mmtel_focus.specs.Joining.{after_failure_notify, after_invite, after_invite_if_peer, after_invite_in, after_refer, invitation_dialog, invited_participant}
 use Rattle.mmtel_focus.specs.Referrals.{referral_in, target_of}
-use Rattle.mmtel_focus.specs.Requests.{acknowledges, after_accepted_refer, after_out_of_order, after_refusal, after_reinvite, after_response, after_trying, invite_in_flight, is_invite_outstanding, on_ack, on_bye, on_checked_request, on_invite, on_referral, on_request, on_request_in_order, participant_after_request, with_next_number, with_pending_ack}
+use Rattle.mmtel_focus.specs.Requests.{acknowledges, after_accepted_refer, after_out_of_order, after_refusal, after_reinvite, after_response, after_trying, invite_in_flight, is_invite_outstanding}
+use Rattle.mmtel_focus.specs.Requests.{on_ack, on_bye, on_checked_request, on_invite, on_referral, on_request, on_request_in_order, participant_after_request, with_next_number, with_pending_ack}
 use Rattle.mmtel_focus.specs.Requests as requests
 use Rattle.mmtel_focus.specs.Conferences.{StepResult, with_output}
 use Rattle.mmtel_focus.specs.Participants.{after_dismissal, after_leave, at_participant, dialogue_of, is_connected, is_full, leg_of, meter_of, tag_of, with_leg, with_participant}
@@ -47,7 +50,9 @@ use Rattle.mmtel_participants.specs.declared.participants.Invite.TheVariants.{Ac
 use Rattle.mmtel_participants.specs.declared.participants.Party.{Party}
 use Rattle.mmtel_participants.specs.declared.participants.Party.TheVariants.{DialedIn, DialedOut, Invited}
 use Rattle.mmtel_participants.specs.declared.participants.ParticipantState.{ParticipantState}
-use Rattle.mmtel_focus_theorems.proofs.ChargedSteps.{ArePlain, Books, EndsBooks, IsPlain, KeepsBooks, after_close_with_books, after_dismissal_books, after_leave_books, after_notify_referrer_books, after_notify_to_books, begun_books, books_at_seat, books_if, books_then, ends_at_seat, ends_if, ends_then, goes_on, meter_begins, plain_there, same, same_meter, says, stays, taken_books, with_participant_books}
+use Rattle.mmtel_focus_theorems.proofs.ChargedSteps.{ArePlain, Books, EndsBooks, IsPlain, KeepsBooks, after_close_with_books, after_dismissal_books, after_leave_books}
+use Rattle.mmtel_focus_theorems.proofs.ChargedSteps.{after_notify_referrer_books, after_notify_to_books, begun_books, books_at_seat, books_if, books_then, ends_at_seat}
+use Rattle.mmtel_focus_theorems.proofs.ChargedSteps.{ends_if, ends_then, goes_on, meter_begins, plain_there, same, same_meter, says, stays, taken_books, with_participant_books}
 
 -- ---- responses
 
@@ -70,7 +75,8 @@ agreed_books at config key m place seat s e p =
 
 invite_books : (at : ℕ) (config : ConferenceConfigView) (key : TKey) (m : MessageView) → KeepsBooks at (on_invite config at key m)
 invite_books at config key m place seat s e p =
-    books_if at (offers_audio m.parsed.body) s (after_reinvite config at key m place seat s) (after_refusal config key m 488 place seat s) (agreed_books at config key m place seat s e p) (after_refusal_books at config key m 488 place seat s e p)
+    books_if at (offers_audio m.parsed.body) s (after_reinvite config at key m place seat s) (after_refusal config key m 488 place seat s) (agreed_books at config key m place seat s e p)
+    (after_refusal_books at config key m 488 place seat s e p)
 
 -- ---- BYE
 
@@ -87,7 +93,8 @@ bye_books at config key m place seat s e p =
 after_accepted_refer_books : (at : ℕ) (config : ConferenceConfigView) (key : TKey) (m : MessageView) → KeepsBooks at (after_accepted_refer config key m)
 after_accepted_refer_books at config key m place seat s e p = says at s (with_contact_response (contact_value config.sip s.conference.number) key m (tag_of seat) 202 [] [] [] s.effects.output) refl p
 
-after_invite_books : (at : ℕ) (config : ConferenceConfigView) (by : ℕ) (account : Option Account) (d : Dialogue) (s : StepResult) → ArePlain s.conference.participants → Books at s (after_invite_in config at by account d s)
+after_invite_books : (at : ℕ) (config : ConferenceConfigView) (by : ℕ) (account : Option Account) (d : Dialogue) (s : StepResult) → ArePlain s.conference.participants →
+    Books at s (after_invite_in config at by account d s)
 after_invite_books at config by account d s p =
     taken_books at s (after_invite_in config at by account d s) (invited_participant s.conference by account d (token (after_draw (after_draw s.effects.output)))) None refl refl tt refl refl refl p
 
@@ -95,7 +102,8 @@ at_peer_books : (at : ℕ) (config : ConferenceConfigView) (by : ℕ) (o : Optio
 at_peer_books at config by None u s p = after_notify_to_books at config false (own_status 404) by s p
 at_peer_books at config by (Some peer) u s p =
     books_if at (is_full s.conference) s (after_failure_notify config by 503 s) (after_invite config at by peer u s)
-    (after_notify_to_books at config false (own_status 503) by s p) (after_invite_books at config by (account_of config.accounts u) (invitation_dialog config s.conference.number peer (uri_text (target_of u)) s.effects.output) s p)
+    (after_notify_to_books at config false (own_status 503) by s p)
+    (after_invite_books at config by (account_of config.accounts u) (invitation_dialog config s.conference.number peer (uri_text (target_of u)) s.effects.output) s p)
 
 after_refer_books : (at : ℕ) (config : ConferenceConfigView) (by : ℕ) (o : Option Uri) (s : StepResult) → ArePlain s.conference.participants → Books at s (after_refer config at by o s)
 unfolding after_refer
@@ -152,7 +160,8 @@ receiving_books at config key m (Err fault) place seat s e p = fault_books at co
 receiving_books at config key m (Ok received) place seat s e p =
     let leg : Leg = requests.leg_after_request m (leg_of seat.party) in
     let next : StepResult = with_participant place (participant_after_request m seat) s in
-    let first = with_participant_books at place seat (participant_after_request m seat) s e (same_meter seat.party leg refl) (with_leg_plain seat.party leg refl (plain_there s.conference.participants place seat e p)) p in
+    let first = with_participant_books at place seat (participant_after_request m seat) s e (same_meter seat.party leg refl)
+    (with_leg_plain seat.party leg refl (plain_there s.conference.participants place seat e p)) p in
     ends_then at s next (on_checked_request config at key m (Ok received) place seat s) first (ends_at_seat at (on_request_in_order config at key m) (received_books at config key m) place next first.plain)
 
 pub request_books : (at : ℕ) (config : ConferenceConfigView) (key : TKey) (m : MessageView) → EndsBooks at (on_request config at key m)
@@ -170,13 +179,15 @@ ack_books at m place seat s e p =
 -- ---- a response
 
 -- an invited party is connected, and any other one is unchanged
-connected_participant_books : (at : ℕ) (room : RoomNo) (remote : Remote) (place : ℕ) (seat other : ParticipantState) (s : StepResult) (party : Party) → slice_get s.conference.participants place ≡ Some seat → seat.party ≡ party → other.party ≡ connected_party room at seat.account remote party → IsPlain party →
+connected_participant_books : (at : ℕ) (room : RoomNo) (remote : Remote) (place : ℕ) (seat other : ParticipantState) (s : StepResult) (party : Party) →
+    slice_get s.conference.participants place ≡ Some seat → seat.party ≡ party → other.party ≡ connected_party room at seat.account remote party → IsPlain party →
     ArePlain s.conference.participants → Books at s (with_participant place other s)
 connected_participant_books at room remote place seat other s (Invited leg) e f g q p =
     begun_books at place seat other s (meter_of room at seat.account) e
     (ap (λ x. option_to_list (leg_of x).meter) f ∙ ap option_to_list q) (ap (λ x. option_to_list (leg_of x).meter) g) (meter_begins at room seat.account) (subst IsPlain (sym g) tt) p
 connected_participant_books at room remote place seat other s (DialedIn leg) e f g q p = with_participant_books at place seat other s e (ap (λ x. option_to_list (leg_of x).meter) (g ∙ sym f)) (subst IsPlain (sym g) tt) p
-connected_participant_books at room remote place seat other s (DialedOut leg) e f g q p = with_participant_books at place seat other s e (ap (λ x. option_to_list (leg_of x).meter) (g ∙ sym f)) (subst IsPlain (sym g) tt) p
+connected_participant_books at room remote place seat other s (DialedOut leg) e f g q p =
+    with_participant_books at place seat other s e (ap (λ x. option_to_list (leg_of x).meter) (g ∙ sym f)) (subst IsPlain (sym g) tt) p
 
 after_own_ack_books : (at : ℕ) (config : ConferenceConfigView) (tag : List ℕ) → KeepsBooks at (after_own_ack config tag)
 after_own_ack_books at config tag place seat s e p =
@@ -193,7 +204,8 @@ success_books at config m place seat s e p =
     let told : StepResult = at_participant (after_own_ack config (to_tag_of m)) place next in
     let first = connected_participant_books at s.conference.number remote place seat other s seat.party e refl refl (plain_there s.conference.participants place seat e p) p in
     let second = books_at_seat at (after_own_ack config (to_tag_of m)) (after_own_ack_books at config (to_tag_of m)) place next first.plain in
-    books_then at s next (on_success config at m place seat s) first (books_then at next told (on_success config at m place seat s) second (after_notify_referrer_books at config false (own_status 200) seat.by told second.plain))
+    books_then at s next (on_success config at m place seat s) first
+    (books_then at next told (on_success config at m place seat s) second (after_notify_referrer_books at config false (own_status 200) seat.by told second.plain))
 
 -- it ends without a 2xx
 without_books : (at : ℕ) (config : ConferenceConfigView) (line : List ℕ) → KeepsBooks at (after_end config at line)
@@ -203,7 +215,8 @@ without_books at config line place seat s e p =
     books_then at s next (after_end config at line place seat s) first (after_notify_referrer_books at config false line seat.by next first.plain)
 
 -- of a participant that is as before, except for its INVITE
-then_without : (at : ℕ) (config : ConferenceConfigView) (line : List ℕ) (place : ℕ) (seat : ParticipantState) (invite : Option Invite) (s : StepResult) → slice_get s.conference.participants place ≡ Some seat → ArePlain s.conference.participants →
+then_without : (at : ℕ) (config : ConferenceConfigView) (line : List ℕ) (place : ℕ) (seat : ParticipantState) (invite : Option Invite) (s : StepResult) →
+    slice_get s.conference.participants place ≡ Some seat → ArePlain s.conference.participants →
     Books at s (at_participant (after_end config at line) place (with_participant place (record seat { invite = invite }) s))
 then_without at config line place seat invite s e p =
     let next : StepResult = with_participant place (record seat { invite = invite }) s in
@@ -228,7 +241,8 @@ response_books : (at : ℕ) (config : ConferenceConfigView) (key : TKey) (m : Me
 response_books at config key m place seat s e p =
     books_if at (nat_lt (status_of m.parsed.start) 200) s (on_provisional key place seat s) (if nat_lt (status_of m.parsed.start) 300 then on_success config at m place seat s else on_failure config at key m place seat s)
     (provisional_books at key place seat s e p)
-    (books_if at (nat_lt (status_of m.parsed.start) 300) s (on_success config at m place seat s) (on_failure config at key m place seat s) (success_books at config m place seat s e p) (failure_books at config key m place seat s e p))
+    (books_if at (nat_lt (status_of m.parsed.start) 300) s (on_success config at m place seat s) (on_failure config at key m place seat s) (success_books at config m place seat s e p)
+    (failure_books at config key m place seat s e p))
 
 repeat_books : (at : ℕ) (m : MessageView) (tag ack : List ℕ) → KeepsBooks at (on_retransmission m tag ack)
 repeat_books at m tag ack place seat s e p =

@@ -56,7 +56,8 @@ module _ (heads : Heads) (config : ConferenceConfigView) (keys : TKey → Bool) 
   Alike = λ one other. EquivalentOutputs T one other
 
   -- where the effect of each thing is seen as that of its public part, the effects of two things with the same public part are seen as the same
-  like : {A : Type 0} (f : A → StepOutput → StepOutput) (v pv w pw : A) → ((x y : StepOutput) → EquivalentOutputs T x y → EquivalentOutputs T (f pv x) (f v y)) → ((x y : StepOutput) → EquivalentOutputs T x y → EquivalentOutputs T (f pw x) (f w y)) →
+  like : {A : Type 0} (f : A → StepOutput → StepOutput) (v pv w pw : A) → ((x y : StepOutput) → EquivalentOutputs T x y → EquivalentOutputs T (f pv x) (f v y)) →
+      ((x y : StepOutput) → EquivalentOutputs T x y → EquivalentOutputs T (f pw x) (f w y)) →
       pv ≡ pw → (x y : StepOutput) → EquivalentOutputs T x y → EquivalentOutputs T (f v x) (f w y)
   like f v pv w pw one two e x y a =
       outputs-then T (f v x) (f pv x) (f w y) (outputs-back T (f pv x) (f v x) (one x x (same_output T x)))
@@ -72,7 +73,8 @@ module _ (heads : Heads) (config : ConferenceConfigView) (keys : TKey → Bool) 
 
   pub with_ack-like : (d e : Dialogue) (x y : StepOutput) → public_dialog known d ≡ public_dialog known e → EquivalentOutputs T x y → EquivalentOutputs T (with_ack config.sip d x) (with_ack config.sip e y)
   with_ack-like d e x y same a =
-      like (λ (z : Dialogue) (k : StepOutput). with_ack config.sip z k) d (public_dialog known d) e (public_dialog known e) (λ u v b. acked-equivalent heads T config.sip d u v b) (λ u v b. acked-equivalent heads T config.sip e u v b) same x y a
+      like (λ (z : Dialogue) (k : StepOutput). with_ack config.sip z k) d (public_dialog known d) e (public_dialog known e) (λ u v b. acked-equivalent heads T config.sip d u v b)
+      (λ u v b. acked-equivalent heads T config.sip e u v b) same x y a
 
   -- ---- CANCEL
 
@@ -81,15 +83,18 @@ module _ (heads : Heads) (config : ConferenceConfigView) (keys : TKey → Bool) 
       let b : Bool = i.provisional in
       by b i.cancelled
     where
-      by : (b c : Bool) → EquivalentOutputs T (with_due_cancel config.sip (record (public_sent_invite known i) { provisional = b; cancelled = c }) x) (with_due_cancel config.sip (record i { provisional = b; cancelled = c }) y)
+      by : (b c : Bool) → EquivalentOutputs T (with_due_cancel config.sip (record (public_sent_invite known i) { provisional = b; cancelled = c }) x)
+          (with_due_cancel config.sip (record i { provisional = b; cancelled = c }) y)
       by true true = a
       by true false = cancel-equivalent heads T config.sip (record i { provisional = true; cancelled = false }) x y a
       by false true = a
       by false false = a
 
-  pub with_due_cancel-like : (i j : SentInvite) (x y : StepOutput) → public_sent_invite known i ≡ public_sent_invite known j → EquivalentOutputs T x y → EquivalentOutputs T (with_due_cancel config.sip i x) (with_due_cancel config.sip j y)
+  pub with_due_cancel-like : (i j : SentInvite) (x y : StepOutput) → public_sent_invite known i ≡ public_sent_invite known j → EquivalentOutputs T x y →
+      EquivalentOutputs T (with_due_cancel config.sip i x) (with_due_cancel config.sip j y)
   with_due_cancel-like i j x y same a =
-      like (λ (z : SentInvite) (k : StepOutput). with_due_cancel config.sip z k) i (public_sent_invite known i) j (public_sent_invite known j) (λ u v b. with_due_cancel-equivalent i u v b) (λ u v b. with_due_cancel-equivalent j u v b) same x y a
+      like (λ (z : SentInvite) (k : StepOutput). with_due_cancel config.sip z k) i (public_sent_invite known i) j (public_sent_invite known j) (λ u v b. with_due_cancel-equivalent i u v b)
+      (λ u v b. with_due_cancel-equivalent j u v b) same x y a
 
   -- ---- responses
 
@@ -97,7 +102,8 @@ module _ (heads : Heads) (config : ConferenceConfigView) (keys : TKey → Bool) 
       EquivalentOutputs T (with_contact_response contact key (public_message m) tag code [] named body x) (with_contact_response contact key m.message tag code [] named body y)
   answered-equivalent contact key m tag code named body x y asked a =
       emitted-equivalent T (emit.Reply key (own_response contact (public_message m) tag code [] named body)) (emit.Reply key (own_response contact m.message tag code [] named body)) x y
-      (reply-observed heads T key m.message.parsed.trusted (private_fields m.role m.message.parsed) m.message.parsed (own_reply contact m.message.source tag code [] named body) [] [] asked.request (asked.trusted ∙ sym asked.known) (λ name own. refl) (λ name own. refl) refl (λ e. refl)) a
+      (reply-observed heads T key m.message.parsed.trusted (private_fields m.role m.message.parsed) m.message.parsed (own_reply contact m.message.source tag code [] named body) [] [] asked.request
+      (asked.trusted ∙ sym asked.known) (λ name own. refl) (λ name own. refl) refl (λ e. refl)) a
 
   pub answered-like : (contact : List ℕ) (key : TKey) (p : MessagePair) (tag : List ℕ) (code : ℕ) (named : List Line) (body : List ℕ) (x y : StepOutput) → AreRequests T key p → EquivalentOutputs T x y →
       EquivalentOutputs T (with_contact_response contact key p.one.message tag code [] named body x) (with_contact_response contact key p.other.message tag code [] named body y)
@@ -110,16 +116,19 @@ module _ (heads : Heads) (config : ConferenceConfigView) (keys : TKey → Bool) 
   abbrev Both : Type 0
   Both = SentInvite × MessageView
 
-  pub final-like : (key : TKey) (p : MessagePair) (i j : SentInvite) (x y : StepOutput) → IsResponseOf T key i.dialogue.peer p.one.role p.one.message → IsResponseOf T key j.dialogue.peer p.other.role p.other.message → public_message p.one ≡ public_message p.other → public_sent_invite known i ≡ public_sent_invite known j →
+  pub final-like : (key : TKey) (p : MessagePair) (i j : SentInvite) (x y : StepOutput) → IsResponseOf T key i.dialogue.peer p.one.role p.one.message →
+      IsResponseOf T key j.dialogue.peer p.other.role p.other.message → public_message p.one ≡ public_message p.other → public_sent_invite known i ≡ public_sent_invite known j →
       EquivalentOutputs T x y → EquivalentOutputs T (with_final_ack config.sip key i p.one.message.parsed x) (with_final_ack config.sip key j p.other.message.parsed y)
   final-like key p i j x y f g said same a =
-      like (λ (z : Both) (k : StepOutput). with_final_ack config.sip key z.0 z.1.parsed k) (i, p.one.message) (public_sent_invite known i, public_message p.one) (j, p.other.message) (public_sent_invite known j, public_message p.other)
+      like (λ (z : Both) (k : StepOutput). with_final_ack config.sip key z.0 z.1.parsed k) (i, p.one.message) (public_sent_invite known i, public_message p.one) (j, p.other.message)
+      (public_sent_invite known j, public_message p.other)
       (λ u v b. acked-final heads (as_calls config) keys key i p.one.role p.one.message u v f b) (λ u v b. acked-final heads (as_calls config) keys key j p.other.role p.other.message u v g b)
       (ap (λ (z : SentInvite). (z, public_message p.one)) same ∙ ap (λ (m : MessageView). (public_sent_invite known j, m)) said) x y a
 
   -- ---- a 2xx that creates a dialog
 
-  pub with_remote-like : (p : MessagePair) (key : TKey) (d e : Dialogue) → IsResponseOf T key d.peer p.one.role p.one.message → IsResponseOf T key e.peer p.other.role p.other.message → public_message p.one ≡ public_message p.other → public_dialog known d ≡ public_dialog known e →
+  pub with_remote-like : (p : MessagePair) (key : TKey) (d e : Dialogue) → IsResponseOf T key d.peer p.one.role p.one.message → IsResponseOf T key e.peer p.other.role p.other.message →
+      public_message p.one ≡ public_message p.other → public_dialog known d ≡ public_dialog known e →
       public_dialog known (with_remote d (remote_of Callee p.one.message.parsed.lines)) ≡ public_dialog known (with_remote e (remote_of Callee p.other.message.parsed.lines))
   with_remote-like p key d e f g said same =
       sym (met_equivalent heads (as_calls config) keys d p.one.role p.one.message f.nothing_private)
@@ -129,17 +138,21 @@ module _ (heads : Heads) (config : ConferenceConfigView) (keys : TKey → Bool) 
 
   -- ---- a response to an abandoned INVITE
 
-  pub left-like : (key : TKey) (p : MessagePair) (l m : AbandonedInvite) (x y : StepOutput) → IsResponseOf T key l.invite.dialogue.peer p.one.role p.one.message → IsResponseOf T key m.invite.dialogue.peer p.other.role p.other.message → public_message p.one ≡ public_message p.other →
+  pub left-like : (key : TKey) (p : MessagePair) (l m : AbandonedInvite) (x y : StepOutput) → IsResponseOf T key l.invite.dialogue.peer p.one.role p.one.message →
+      IsResponseOf T key m.invite.dialogue.peer p.other.role p.other.message → public_message p.one ≡ public_message p.other →
       public_abandoned known l ≡ public_abandoned known m → EquivalentOutputs T x y → RestsEquivalent T (on_response config.sip key p.one.message.parsed l x) (on_response config.sip key p.other.message.parsed m y)
   left-like key p l m x y f g said same a =
-      let one : RestsEquivalent T (on_response config.sip key (public_message p.one).parsed (public_abandoned known l) x) (on_response config.sip key p.one.message.parsed l x) = response-equivalent heads (as_calls config) keys key l p.one.role p.one.message x x f (same_output T x) in
-      let two : RestsEquivalent T (on_response config.sip key (public_message p.other).parsed (public_abandoned known m) x) (on_response config.sip key p.other.message.parsed m y) = response-equivalent heads (as_calls config) keys key m p.other.role p.other.message x y g a in
+      let one : RestsEquivalent T (on_response config.sip key (public_message p.one).parsed (public_abandoned known l) x) (on_response config.sip key p.one.message.parsed l x) =
+      response-equivalent heads (as_calls config) keys key l p.one.role p.one.message x x f (same_output T x) in
+      let two : RestsEquivalent T (on_response config.sip key (public_message p.other).parsed (public_abandoned known m) x) (on_response config.sip key p.other.message.parsed m y) =
+      response-equivalent heads (as_calls config) keys key m p.other.role p.other.message x y g a in
       let same_said : RestsEquivalent T (on_response config.sip key (public_message p.one).parsed (public_abandoned known l) x) (on_response config.sip key p.other.message.parsed m y) =
       subst (λ (s : MessageView). RestsEquivalent T (on_response config.sip key s.parsed (public_abandoned known l) x) (on_response config.sip key p.other.message.parsed m y)) (sym said)
       (subst (λ (z : AbandonedInvite). RestsEquivalent T (on_response config.sip key (public_message p.other).parsed z x) (on_response config.sip key p.other.message.parsed m y)) (sym same) two) in
       record {
         remaining = sym one.remaining ∙ same_said.remaining;
-        output = outputs-then T (on_response config.sip key p.one.message.parsed l x).output (on_response config.sip key (public_message p.one).parsed (public_abandoned known l) x).output (on_response config.sip key p.other.message.parsed m y).output
+        output = outputs-then T (on_response config.sip key p.one.message.parsed l x).output (on_response config.sip key (public_message p.one).parsed (public_abandoned known l) x).output
+            (on_response config.sip key p.other.message.parsed m y).output
             (outputs-back T (on_response config.sip key (public_message p.one).parsed (public_abandoned known l) x).output (on_response config.sip key p.one.message.parsed l x).output one.output) same_said.output;
       }
 

@@ -24,7 +24,8 @@ use Rattle.mmtel_participants.specs.declared.participants.Invite.TheVariants.{Ac
 use Rattle.mmtel_participants.specs.declared.participants.Party.{Party}
 use Rattle.mmtel_participants.specs.declared.participants.Party.TheVariants.{DialedIn, DialedOut, Invited}
 use Rattle.mmtel_participants.specs.declared.participants.ParticipantState.{ParticipantState}
-use Rattle.mmtel_focus.specs.Participants.{abandoned_in_dialog, abandoned_of_invite, abandoned_of_party, dialogue_of, ended_dialogs, is_connected, is_full, is_party_connected, leg_of, participant_after_bye, participant_after_notify, party_after_notify, tag_of}
+use Rattle.mmtel_focus.specs.Participants.{abandoned_in_dialog, abandoned_of_invite, abandoned_of_party, dialogue_of, ended_dialogs, is_connected, is_full}
+use Rattle.mmtel_focus.specs.Participants.{is_party_connected, leg_of, participant_after_bye, participant_after_notify, party_after_notify, tag_of}
 use Rattle.mmtel_focus.specs.Table.{invite_has_branch, participant_has_branch}
 use Rattle.mmtel_focus_theorems.specs.PublicParts.{public_conference, public_invite, public_outstanding, public_participant, public_party}
 use Rattle.mmtel_focus_theorems.proofs.Lists.{commuting, telling}
@@ -33,7 +34,8 @@ module _ (known : Peer → Bool) where
   -- ---- parties
 
   -- two with the same public part are of one kind
-  pub by_party : (P : Party → Party → Type 0) → ((l m : Leg) → public_leg known l ≡ public_leg known m → P (Invited l) (Invited m)) → ((l m : Leg) → public_leg known l ≡ public_leg known m → P (DialedIn l) (DialedIn m)) →
+  pub by_party : (P : Party → Party → Type 0) → ((l m : Leg) → public_leg known l ≡ public_leg known m → P (Invited l) (Invited m)) →
+      ((l m : Leg) → public_leg known l ≡ public_leg known m → P (DialedIn l) (DialedIn m)) →
       ((l m : Leg) → public_leg known l ≡ public_leg known m → P (DialedOut l) (DialedOut m)) → (p q : Party) → public_party known p ≡ public_party known q → P p q
   by_party P invited came brought (Invited l) (Invited m) e =
       let same : public_leg known l ≡ public_leg known m = cc in
@@ -66,7 +68,8 @@ module _ (known : Peer → Bool) where
 
   -- ---- INVITEs to participants
 
-  pub by_invite : (b c : Bool) (P : Option Invite → Option Invite → Type 0) → P None None → ((n m : ℕ) (i j : SentInvite) → n ≡ m → public_outstanding known i ≡ public_outstanding known j → P (Some (Outstanding n i)) (Some (Outstanding m j))) →
+  pub by_invite : (b c : Bool) (P : Option Invite → Option Invite → Type 0) → P None None →
+      ((n m : ℕ) (i j : SentInvite) → n ≡ m → public_outstanding known i ≡ public_outstanding known j → P (Some (Outstanding n i)) (Some (Outstanding m j))) →
       ((u v t s a d : List ℕ) → u ≡ v → t ≡ s → blank_if b a ≡ blank_if c d → P (Some (Accepted u t a)) (Some (Accepted v s d))) → (o p : Option Invite) → public_invite known b o ≡ public_invite known c p → P o p
   by_invite b c P none waiting agreed None None e = none
   by_invite b c P none waiting agreed None (Some (Outstanding m j)) e = absurd cc
@@ -148,7 +151,8 @@ module _ (known : Peer → Bool) where
   waitings b c o p e = by_invite b c (λ x y. is_invite_outstanding x ≡ is_invite_outstanding y) refl (λ n m i j number same. refl) (λ u v t s a d branch tag ack. refl) o p e
 
   pub has_outstanding_number_same : (due : ℕ) (b c : Bool) (o p : Option Invite) → public_invite known b o ≡ public_invite known c p → has_outstanding_number due o ≡ has_outstanding_number due p
-  has_outstanding_number_same due b c o p e = by_invite b c (λ x y. has_outstanding_number due x ≡ has_outstanding_number due y) refl (λ n m i j number same. ap (λ (k : ℕ). has_outstanding_number due (Some (Outstanding k i))) number) (λ u v t s a d branch tag ack. refl) o p e
+  has_outstanding_number_same due b c o p e = by_invite b c (λ x y. has_outstanding_number due x ≡ has_outstanding_number due y) refl
+      (λ n m i j number same. ap (λ (k : ℕ). has_outstanding_number due (Some (Outstanding k i))) number) (λ u v t s a d branch tag ack. refl) o p e
 
   -- ---- participants after a change
 
@@ -185,7 +189,8 @@ module _ (known : Peer → Bool) where
 
   pub bye-seats : (v w : ParticipantState) → public_participant known v ≡ public_participant known w → public_participant known (participant_after_bye v) ≡ public_participant known (participant_after_bye w)
   bye-seats v w e =
-      with_parties v w e (participant_after_bye v).party (participant_after_bye w).party (bye_public v ∙ (ap (λ (z : ParticipantState). (participant_after_bye z).party) e ∙ sym (bye_public w))) (ap known (bye_peer v)) (ap known (bye_peer w))
+      with_parties v w e (participant_after_bye v).party (participant_after_bye w).party (bye_public v ∙ (ap (λ (z : ParticipantState). (participant_after_bye z).party) e ∙ sym (bye_public w)))
+      (ap known (bye_peer v)) (ap known (bye_peer w))
 
   received_public : (m : MessageView) (v : ParticipantState) → public_party known (participant_after_request m v).party ≡ (participant_after_request m (public_participant known v)).party
   received_public m v = by v.party
@@ -203,26 +208,31 @@ module _ (known : Peer → Bool) where
       by (DialedIn leg) = refl
       by (DialedOut leg) = refl
 
-  pub received-seats : (m : MessageView) (v w : ParticipantState) → public_participant known v ≡ public_participant known w → public_participant known (participant_after_request m v) ≡ public_participant known (participant_after_request m w)
+  pub received-seats : (m : MessageView) (v w : ParticipantState) → public_participant known v ≡ public_participant known w →
+      public_participant known (participant_after_request m v) ≡ public_participant known (participant_after_request m w)
   received-seats m v w e =
-      with_parties v w e (participant_after_request m v).party (participant_after_request m w).party (received_public m v ∙ (ap (λ (z : ParticipantState). (participant_after_request m z).party) e ∙ sym (received_public m w))) (ap known (received_peer m v)) (ap known (received_peer m w))
+      with_parties v w e (participant_after_request m v).party (participant_after_request m w).party
+      (received_public m v ∙ (ap (λ (z : ParticipantState). (participant_after_request m z).party) e ∙ sym (received_public m w))) (ap known (received_peer m v)) (ap known (received_peer m w))
 
   -- the last CSeq number is public
   last_same : (p q : Party) → public_party known p ≡ public_party known q → (leg_of p).dialogue.remote_cseq ≡ (leg_of q).dialogue.remote_cseq
   last_same p q e = ap (λ (l : Leg). l.dialogue.remote_cseq) (legs p q e)
 
-  pub with_pending_ack-seats : (n : ℕ) (v w : ParticipantState) → public_participant known v ≡ public_participant known w → public_participant known (with_pending_ack n v) ≡ public_participant known (with_pending_ack n w)
+  pub with_pending_ack-seats : (n : ℕ) (v w : ParticipantState) → public_participant known v ≡ public_participant known w →
+      public_participant known (with_pending_ack n v) ≡ public_participant known (with_pending_ack n w)
   with_pending_ack-seats n v w e =
       ap (λ (z : ParticipantState). record z { pending_ack = Some (record { number = n; cseq = (leg_of v.party).dialogue.remote_cseq }) }) e
       ∙ ap (λ (c : Option ℕ). record (public_participant known w) { pending_ack = Some (record { number = n; cseq = c }) }) (last_same v.party w.party (parties v w e))
 
-  pub acknowledged-seats : (v w : ParticipantState) → public_participant known v ≡ public_participant known w → public_participant known (record v { pending_ack = None }) ≡ public_participant known (record w { pending_ack = None })
+  pub acknowledged-seats : (v w : ParticipantState) → public_participant known v ≡ public_participant known w →
+      public_participant known (record v { pending_ack = None }) ≡ public_participant known (record w { pending_ack = None })
   acknowledged-seats v w e = ap (λ (z : ParticipantState). record z { pending_ack = None }) e
 
   agreed_same : (u v t s a d : List ℕ) → u ≡ v → t ≡ s → a ≡ d → Some (Accepted u t a) ≡ Some (Accepted v s d)
   agreed_same u v t s a d branch tag ack = rw (branch, tag, ack) refl
 
-  pub invite_with_provisional-invites : (key : TKey) (b c : Bool) (o p : Option Invite) → public_invite known b o ≡ public_invite known c p → public_invite known b (invite_with_provisional key o) ≡ public_invite known c (invite_with_provisional key p)
+  pub invite_with_provisional-invites : (key : TKey) (b c : Bool) (o p : Option Invite) → public_invite known b o ≡ public_invite known c p →
+      public_invite known b (invite_with_provisional key o) ≡ public_invite known c (invite_with_provisional key p)
   invite_with_provisional-invites key b c o p e =
       by_invite b c (λ x y. public_invite known b (invite_with_provisional key x) ≡ public_invite known c (invite_with_provisional key y)) refl
       (λ n m i j number same. ap (λ (k : ℕ). Some (Outstanding k (public_outstanding known (with_provisional key i)))) number ∙ ap (λ (z : SentInvite). Some (Outstanding m (with_provisional key z))) same)
@@ -240,7 +250,8 @@ module _ (known : Peer → Bool) where
   pub cancelled-invites : (b c : Bool) (o p : Option Invite) → public_invite known b o ≡ public_invite known c p → public_invite known b (invite_after_due_cancel o) ≡ public_invite known c (invite_after_due_cancel p)
   cancelled-invites b c o p e =
       by_invite b c (λ x y. public_invite known b (invite_after_due_cancel x) ≡ public_invite known c (invite_after_due_cancel y)) refl
-      (λ n m i j number same. ap (λ (k : ℕ). Some (Outstanding k (public_outstanding known (invite_after_cancel i)))) number ∙ ap (λ (z : SentInvite). Some (Outstanding m z)) (commuting invite_after_cancel (public_outstanding known) (public_outstanding known) cancelled_public i j same))
+      (λ n m i j number same. ap (λ (k : ℕ). Some (Outstanding k (public_outstanding known (invite_after_cancel i)))) number
+      ∙ ap (λ (z : SentInvite). Some (Outstanding m z)) (commuting invite_after_cancel (public_outstanding known) (public_outstanding known) cancelled_public i j same))
       (λ u v t s a d branch tag ack. agreed_same u v t s (blank_if b a) (blank_if c d) branch tag ack) o p e
 
   -- ---- the ACK that is kept
@@ -252,19 +263,26 @@ module _ (known : Peer → Bool) where
       public_ack : (d : Dialogue) → blank_if (known d.peer) (ack_text sip d branch) ≡ blank_if (known d.peer) (ack_text sip (public_dialog known d) branch)
       public_ack d = bytes_if (known d.peer) (ack_text sip d branch) (ack_text sip (public_dialog known d) branch) (λ is. ap (λ (z : Dialogue). ack_text sip z branch) (sym (untouched (known d.peer) d is)))
 
-  pub agreed-invites : (sip : Addr) (d e : Dialogue) (tag branch : List ℕ) (o p : Option Invite) → public_dialog known d ≡ public_dialog known e → public_invite known (known d.peer) o ≡ public_invite known (known e.peer) p →
+  pub agreed-invites : (sip : Addr) (d e : Dialogue) (tag branch : List ℕ) (o p : Option Invite) → public_dialog known d ≡ public_dialog known e →
+      public_invite known (known d.peer) o ≡ public_invite known (known e.peer) p →
       public_invite known (known d.peer) (accepted_invite tag (ack_text sip d branch) o) ≡ public_invite known (known e.peer) (accepted_invite tag (ack_text sip e branch) p)
   agreed-invites sip d e tag branch o p same eq =
-      by_invite (known d.peer) (known e.peer) (λ x y. public_invite known (known d.peer) (accepted_invite tag (ack_text sip d branch) x) ≡ public_invite known (known e.peer) (accepted_invite tag (ack_text sip e branch) y)) refl
-      (λ n m i j number w. agreed_same i.branch j.branch tag tag (blank_if (known d.peer) (ack_text sip d branch)) (blank_if (known e.peer) (ack_text sip e branch)) (ap (λ (z : SentInvite). z.branch) w) refl (acks sip d e branch same))
+      by_invite (known d.peer) (known e.peer)
+      (λ x y. public_invite known (known d.peer) (accepted_invite tag (ack_text sip d branch) x) ≡ public_invite known (known e.peer) (accepted_invite tag (ack_text sip e branch) y)) refl
+      (λ n m i j number w. agreed_same i.branch j.branch tag tag (blank_if (known d.peer) (ack_text sip d branch)) (blank_if (known e.peer) (ack_text sip e branch))
+      (ap (λ (z : SentInvite). z.branch) w) refl (acks sip d e branch same))
       (λ u v t s a c one two ack. agreed_same u v t s (blank_if (known d.peer) a) (blank_if (known e.peer) c) one two ack) o p eq
 
   -- ---- abandoned INVITEs
 
   abbrev within_of : (had_bye : Bool) → Leg → SentInvite → AbandonedInvite
-  within_of had_bye l i = record { invite = record i { dialogue = l.dialogue; ack = blank_maybe (known l.dialogue.peer) i.ack; forks = ended_dialogs had_bye l.dialogue; early = option_map (public_remote_side (known l.dialogue.peer)) i.early }; in_dialog = true }
+  within_of had_bye l i = record {
+    invite = record i { dialogue = l.dialogue; ack = blank_maybe (known l.dialogue.peer) i.ack; forks = ended_dialogs had_bye l.dialogue; early = option_map (public_remote_side (known l.dialogue.peer)) i.early };
+    in_dialog = true;
+  }
 
-  left_within : (had_bye : Bool) (l m : Leg) (i j : SentInvite) → public_leg known l ≡ public_leg known m → public_outstanding known i ≡ public_outstanding known j → public_abandoned known (abandoned_in_dialog had_bye l i) ≡ public_abandoned known (abandoned_in_dialog had_bye m j)
+  left_within : (had_bye : Bool) (l m : Leg) (i j : SentInvite) → public_leg known l ≡ public_leg known m → public_outstanding known i ≡ public_outstanding known j →
+      public_abandoned known (abandoned_in_dialog had_bye l i) ≡ public_abandoned known (abandoned_in_dialog had_bye m j)
   left_within had_bye l m i j same w =
       public_within l i ∙ (ap (λ (z : Leg). within_of had_bye z (public_outstanding known i)) same ∙ (ap (λ (z : SentInvite). within_of had_bye (public_leg known m) z) w ∙ sym (public_within m j)))
     where
@@ -273,9 +291,13 @@ module _ (known : Peer → Bool) where
       ended false d = refl
 
       public_within : (l : Leg) (i : SentInvite) → public_abandoned known (abandoned_in_dialog had_bye l i) ≡ within_of had_bye (public_leg known l) (public_outstanding known i)
-      public_within l i = ap (λ (f : List Dialogue). record { invite = record i { dialogue = public_dialog known l.dialogue; ack = blank_maybe (known l.dialogue.peer) i.ack; forks = f; early = option_map (public_remote_side (known l.dialogue.peer)) i.early }; in_dialog = true }) (ended had_bye l.dialogue)
+      public_within l i = ap (λ (f : List Dialogue). record {
+        invite = record i { dialogue = public_dialog known l.dialogue; ack = blank_maybe (known l.dialogue.peer) i.ack; forks = f; early = option_map (public_remote_side (known l.dialogue.peer)) i.early };
+        in_dialog = true;
+      }) (ended had_bye l.dialogue)
 
-  pub left-one : (had_bye : Bool) (p q : Party) (i j : SentInvite) → public_party known p ≡ public_party known q → public_outstanding known i ≡ public_outstanding known j → public_abandoned known (abandoned_of_party had_bye p i) ≡ public_abandoned known (abandoned_of_party had_bye q j)
+  pub left-one : (had_bye : Bool) (p q : Party) (i j : SentInvite) → public_party known p ≡ public_party known q → public_outstanding known i ≡ public_outstanding known j →
+      public_abandoned known (abandoned_of_party had_bye p i) ≡ public_abandoned known (abandoned_of_party had_bye q j)
   left-one had_bye p q i j e w =
       by_party (λ x y. public_abandoned known (abandoned_of_party had_bye x i) ≡ public_abandoned known (abandoned_of_party had_bye y j))
       (λ l m same. ap (λ (z : SentInvite). record { invite = z; in_dialog = false }) (as_left i j w))
@@ -289,7 +311,8 @@ module _ (known : Peer → Bool) where
 
   -- ---- conferences
 
-  pub seats-set : (r s : Conference) (xs ys : List ParticipantState) → public_conference known r ≡ public_conference known s → map (public_participant known) xs ≡ map (public_participant known) ys → public_conference known (record r { participants = xs }) ≡ public_conference known (record s { participants = ys })
+  pub seats-set : (r s : Conference) (xs ys : List ParticipantState) → public_conference known r ≡ public_conference known s → map (public_participant known) xs ≡ map (public_participant known) ys →
+      public_conference known (record r { participants = xs }) ≡ public_conference known (record s { participants = ys })
   seats-set r s xs ys e same =
       ap (λ (z : Conference). record z { participants = map (public_participant known) xs }) e ∙ ap (λ (l : List ParticipantState). record (public_conference known s) { participants = l }) same
 

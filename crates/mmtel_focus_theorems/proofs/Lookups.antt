@@ -23,20 +23,25 @@ use Rattle.mmtel_types.specs.declared.numbers.Account.{Account}
 use Rattle.mmtel_types.specs.declared.numbers.Peer.{Peer}
 use Rattle.mmtel_types.specs.declared.numbers.RoomNo.{RoomNo}
 use Rattle.mmtel_types.specs.declared.sides.Side.TheVariants.{Callee}
-use Rattle.mmtel_focus.specs.Responses.{after_connect, after_end, after_invite_end, after_own_ack, has_outstanding_number, invite_after_due_cancel, is_ack_pending, on_any_response, on_cap, on_due, on_failure, on_outstanding_response, on_provisional, on_response_to, on_success, on_timeout, to_tag_of, with_failure_ack, with_invite_cancel}
+use Rattle.mmtel_focus.specs.Responses.{after_connect, after_end, after_invite_end, after_own_ack, has_outstanding_number, invite_after_due_cancel, is_ack_pending, on_any_response, on_cap}
+use Rattle.mmtel_focus.specs.Responses.{on_due, on_failure, on_outstanding_response, on_provisional, on_response_to, on_success, on_timeout, to_tag_of, with_failure_ack, with_invite_cancel}
 use Rattle.mmtel_focus.specs.Operations as histories
 use Rattle.mmtel_focus.specs.Operations.{TableOp, effects_of, table_after_op, with_conference_step, with_opened_conference, with_step}
 use Rattle.mmtel_focus.specs.Joining.{after_adoption, after_failure_notify, after_invite, after_invite_if_peer, after_invite_in, after_join, after_refer, invitation_dialog, new_conference}
 use Rattle.mmtel_focus.specs.Referrals.{referral_in, target_of}
-use Rattle.mmtel_focus.specs.Requests.{after_accepted_refer, after_refusal, after_response, after_trying, invite_in_flight, is_invite_outstanding, on_bye, on_checked_request, on_invite, on_referral, on_request, on_request_in_order, participant_after_request, request_check}
+use Rattle.mmtel_focus.specs.Requests.{after_accepted_refer, after_refusal, after_response, after_trying, invite_in_flight, is_invite_outstanding, on_bye}
+use Rattle.mmtel_focus.specs.Requests.{on_checked_request, on_invite, on_referral, on_request, on_request_in_order, participant_after_request, request_check}
 use Rattle.mmtel_focus.specs.Conferences.{Conference, StepResult, no_effects, with_output}
 use Rattle.mmtel_focus.specs.ParticipantSignals as of_seat
 use Rattle.mmtel_focus.specs.ParticipantSignals.{ParticipantSignal}
 use Rattle.mmtel_focus.specs.Participants as seats
-use Rattle.mmtel_focus.specs.Participants.{after_close, after_close_with, after_dismissal, after_leave, after_notify, after_notify_referrer, after_notify_to, at_participant, at_place, by_participant, has_seat_number, is_connected, is_creator, is_full, leg_of, participant_after_notify, with_participant}
+use Rattle.mmtel_focus.specs.Participants.{after_close, after_close_with, after_dismissal, after_leave, after_notify, after_notify_referrer, after_notify_to, at_participant}
+use Rattle.mmtel_focus.specs.Participants.{at_place, by_participant, has_seat_number, is_connected, is_creator, is_full, leg_of, participant_after_notify, with_participant}
 use Rattle.mmtel_focus.specs.ConferenceConfig.{ConferenceConfigView}
 use Rattle.mmtel_focus.specs.Table as tables
-use Rattle.mmtel_focus.specs.Table.{ConferenceStep, Table, TableStep, access, conference_has_branch, is_provisional, next_room_number, open_result_at, open_result_by, open_result_in, participant_has_branch, place_of, step_by_branch, step_by_number, step_if_access, step_of_adoption, step_of_join, step_of_notify, step_of_participant, step_of_response, step_of_response_at, step_of_signal, step_of_timeout, step_of_timeout_at, step_result_at, step_result_by, step_result_in, with_abandoned}
+use Rattle.mmtel_focus.specs.Table.{ConferenceStep, Table, TableStep, access, conference_has_branch, is_provisional, next_room_number, open_result_at, open_result_by, open_result_in}
+use Rattle.mmtel_focus.specs.Table.{participant_has_branch, place_of, step_by_branch, step_by_number, step_if_access, step_of_adoption, step_of_join, step_of_notify, step_of_participant}
+use Rattle.mmtel_focus.specs.Table.{step_of_response, step_of_response_at, step_of_signal, step_of_timeout, step_of_timeout_at, step_result_at, step_result_by, step_result_in, with_abandoned}
 use Rattle.mmtel_output.specs.ResponseMatching.{awaited_request_branch, timed_out_branch}
 use Rattle.mmtel_focus.specs.Texts.{own_status, status_line}
 use Rattle.mmtel_focus.specs.declared.faults.RoomFault.{RoomFault}
@@ -58,7 +63,8 @@ if-same : (b : Bool) (p q v w : StepResult) → (b ≡ true → p ≡ v) → q �
 if-same true p q v w e f = e refl
 if-same false p q v w e f = f
 
-at-same : (f g : (place : ℕ) → ParticipantState → StepResult → StepResult) → ((place : ℕ) (v : ParticipantState) (s : StepResult) → f place v s ≡ g place v s) → (o : Option ℕ) (s : StepResult) → at_place f o s ≡ at_place g o s
+at-same : (f g : (place : ℕ) → ParticipantState → StepResult → StepResult) → ((place : ℕ) (v : ParticipantState) (s : StepResult) → f place v s ≡ g place v s) → (o : Option ℕ) (s : StepResult) →
+    at_place f o s ≡ at_place g o s
 at-same f g same None s = refl
 at-same f g same (Some place) s = by (slice_get s.conference.participants place)
   where
@@ -110,7 +116,8 @@ module _ (config : ConferenceConfigView) (accounts : List AccountIdentity) where
   at-peer : (now n : ℕ) (o : Option Peer) (u : Uri) (s : StepResult) → LooksUpEqually config far u → after_invite_if_peer config now n o u s ≡ after_invite_if_peer far now n o u s
   at-peer now n None u s e = after_notify_to-same false (own_status 404) n s
   at-peer now n (Some peer) u s e =
-      if-same (is_full s.conference) (after_failure_notify config n 503 s) (after_invite config now n peer u s) (after_failure_notify far n 503 s) (after_invite far now n peer u s) (λ is. after_notify_to-same false (own_status 503) n s)
+      if-same (is_full s.conference) (after_failure_notify config n 503 s) (after_invite config now n peer u s) (after_failure_notify far n 503 s) (after_invite far now n peer u s)
+      (λ is. after_notify_to-same false (own_status 503) n s)
       (ap (λ (z : Option Account). after_invite_in config now n z (invitation_dialog config s.conference.number peer (uri_text (target_of u)) s.effects.output) s) e)
 
   after_refer-same : (now n : ℕ) (o : Option Uri) (s : StepResult) → ((u : Uri) → o ≡ Some u → LooksUpEqually config far u) → after_refer config now n o s ≡ after_refer far now n o s
@@ -132,7 +139,8 @@ module _ (config : ConferenceConfigView) (accounts : List AccountIdentity) where
   bye-same : (now : ℕ) (key : TKey) (m : MessageView) (place : ℕ) (v : ParticipantState) (s : StepResult) → on_bye config now key m place v s ≡ on_bye far now key m place v s
   bye-same now key m place v s = after_close_with-same now v.number (after_leave now false place v (after_refusal config key m 200 place v s))
 
-  received-same : (now : ℕ) (key : TKey) (m : MessageView) (place : ℕ) (v : ParticipantState) (s : StepResult) → RefersEqually config far m → on_request_in_order config now key m place v s ≡ on_request_in_order far now key m place v s
+  received-same : (now : ℕ) (key : TKey) (m : MessageView) (place : ℕ) (v : ParticipantState) (s : StepResult) → RefersEqually config far m →
+      on_request_in_order config now key m place v s ≡ on_request_in_order far now key m place v s
   received-same now key m place v s e =
       let last : StepResult = after_refusal config key m 481 place v s in
       let options : StepResult = if is_method (codes "OPTIONS") m.parsed.start then after_response config key m 200 (allow_lines config.methods) place v s else last in
@@ -141,7 +149,8 @@ module _ (config : ConferenceConfigView) (accounts : List AccountIdentity) where
       let invite : StepResult = on_invite config now key m place v s in
       if-same (is_method (codes "INVITE") m.parsed.start) invite (if is_method (codes "BYE") m.parsed.start then bye config else if is_method (codes "REFER") m.parsed.start then refer config else options)
       invite (if is_method (codes "BYE") m.parsed.start then bye far else if is_method (codes "REFER") m.parsed.start then refer far else options) (λ is. refl)
-      (if-same (is_method (codes "BYE") m.parsed.start) (bye config) (if is_method (codes "REFER") m.parsed.start then refer config else options) (bye far) (if is_method (codes "REFER") m.parsed.start then refer far else options)
+      (if-same (is_method (codes "BYE") m.parsed.start) (bye config) (if is_method (codes "REFER") m.parsed.start then refer config else options) (bye far)
+      (if is_method (codes "REFER") m.parsed.start then refer far else options)
       (λ is. bye-same now key m place v s)
       (if-same (is_method (codes "REFER") m.parsed.start) (refer config) options (refer far) options (λ is. referral-same now key m (referral_in m.parsed.refer_to) place v s (λ u to. e u is to)) refl))
 
@@ -157,7 +166,8 @@ module _ (config : ConferenceConfigView) (accounts : List AccountIdentity) where
   unfolding on_request
   request-same now key m place v s e =
       if-same (is_connected v) (on_checked_request config now key m (request_check (leg_of v.party) m (invite_in_flight v)) place v s) (after_refusal config key m 481 place v s)
-      (on_checked_request far now key m (request_check (leg_of v.party) m (invite_in_flight v)) place v s) (after_refusal far key m 481 place v s) (λ is. receiving-same now key m (request_check (leg_of v.party) m (invite_in_flight v)) place v s e) refl
+      (on_checked_request far now key m (request_check (leg_of v.party) m (invite_in_flight v)) place v s) (after_refusal far key m 481 place v s)
+      (λ is. receiving-same now key m (request_check (leg_of v.party) m (invite_in_flight v)) place v s e) refl
 
   -- ---- the results of the INVITE to a participant
 
@@ -226,13 +236,16 @@ module _ (config : ConferenceConfigView) (accounts : List AccountIdentity) where
   room-same : (now : ℕ) (whose : ParticipantState → Bool) (x : ParticipantSignal) → SeatLooksAlike x → (s : StepResult) → tables.step_of_first config now whose x s ≡ tables.step_of_first far now whose x s
   room-same now whose x e s = at-same (step_of_participant config now x) (step_of_participant far now x) (λ place v r. step_of_participant-same now x place v r e) (position whose s.conference.participants) s
 
-  in-same : (now room seat : ℕ) (x : ParticipantSignal) (live : List Conference) (effects : Effects) → SeatLooksAlike x → step_by_number config now room seat x live effects ≡ step_by_number far now room seat x live effects
+  in-same : (now room seat : ℕ) (x : ParticipantSignal) (live : List Conference) (effects : Effects) → SeatLooksAlike x →
+      step_by_number config now room seat x live effects ≡ step_by_number far now room seat x live effects
   in-same now room seat x live effects e =
       stepped-same (tables.step_of_first config now (has_seat_number seat) x) (tables.step_of_first far now (has_seat_number seat) x) (room-same now (has_seat_number seat) x e) (place_of room live) live effects
 
-  of-same : (now : ℕ) (branch : List ℕ) (x : ParticipantSignal) (live : List Conference) (effects : Effects) → SeatLooksAlike x → step_by_branch config now branch x live effects ≡ step_by_branch far now branch x live effects
+  of-same : (now : ℕ) (branch : List ℕ) (x : ParticipantSignal) (live : List Conference) (effects : Effects) → SeatLooksAlike x →
+      step_by_branch config now branch x live effects ≡ step_by_branch far now branch x live effects
   of-same now branch x live effects e =
-      stepped-same (tables.step_of_first config now (participant_has_branch branch) x) (tables.step_of_first far now (participant_has_branch branch) x) (room-same now (participant_has_branch branch) x e) (position (conference_has_branch branch) live) live effects
+      stepped-same (tables.step_of_first config now (participant_has_branch branch) x) (tables.step_of_first far now (participant_has_branch branch) x)
+      (room-same now (participant_has_branch branch) x e) (position (conference_has_branch branch) live) live effects
 
   -- ---- any signal
 
@@ -245,7 +258,8 @@ module _ (config : ConferenceConfigView) (accounts : List AccountIdentity) where
       by None = ap (with_abandoned abandoned) (of-same now branch (of_seat.Answer key m) live effects tt)
       by (Some place) = refl
 
-  silenced-same : (now : ℕ) (o : Option (List ℕ)) (live : List Conference) (abandoned : List AbandonedInvite) (effects : Effects) → step_of_timeout config now o live abandoned effects ≡ step_of_timeout far now o live abandoned effects
+  silenced-same : (now : ℕ) (o : Option (List ℕ)) (live : List Conference) (abandoned : List AbandonedInvite) (effects : Effects) →
+      step_of_timeout config now o live abandoned effects ≡ step_of_timeout far now o live abandoned effects
   silenced-same now None live abandoned effects = refl
   silenced-same now (Some branch) live abandoned effects = by (position (is_of_branch branch) abandoned)
     where
@@ -253,7 +267,8 @@ module _ (config : ConferenceConfigView) (accounts : List AccountIdentity) where
       by None = ap (with_abandoned abandoned) (of-same now branch of_seat.Silent live effects tt)
       by (Some place) = refl
 
-  step_of_signal-same : (now : ℕ) (x : RoomSignal) (live : List Conference) (abandoned : List AbandonedInvite) (effects : Effects) → SignalLooksUpEqually config far x → step_of_signal config now x live abandoned effects ≡ step_of_signal far now x live abandoned effects
+  step_of_signal-same : (now : ℕ) (x : RoomSignal) (live : List Conference) (abandoned : List AbandonedInvite) (effects : Effects) → SignalLooksUpEqually config far x →
+      step_of_signal config now x live abandoned effects ≡ step_of_signal far now x live abandoned effects
   unfolding step_of_signal
   step_of_signal-same now (signal.Request room seat key request) live abandoned effects e = ap (with_abandoned abandoned) (in-same now room.0 seat (of_seat.Request key request) live effects e)
   step_of_signal-same now (signal.Ack room seat ack) live abandoned effects e = ap (with_abandoned abandoned) (in-same now room.0 seat (of_seat.Ack ack) live effects tt)
@@ -280,7 +295,8 @@ module _ (config : ConferenceConfigView) (accounts : List AccountIdentity) where
       by None = refl
       by (Some room) = ap (λ (s : StepResult). open_result_by place s live) (same (record { conference = room; effects = effects }))
 
-  step_if_access-same : (f g : StepResult → StepResult) → ((s : StepResult) → f s ≡ g s) → (x : Result ℕ RoomFault) (live : List Conference) (effects : Effects) → step_if_access f x live effects ≡ step_if_access g x live effects
+  step_if_access-same : (f g : StepResult → StepResult) → ((s : StepResult) → f s ≡ g s) → (x : Result ℕ RoomFault) (live : List Conference) (effects : Effects) →
+      step_if_access f x live effects ≡ step_if_access g x live effects
   step_if_access-same f g same (Ok place) live effects = stays-same f g same (Some place) live effects
   step_if_access-same f g same (Err fault) live effects = refl
 
@@ -299,7 +315,8 @@ module _ (config : ConferenceConfigView) (accounts : List AccountIdentity) where
   step_of_notify-same : (room seat code : ℕ) (live : List Conference) (effects : Effects) → step_of_notify config room seat code live effects ≡ step_of_notify far room seat code live effects
   unfolding step_of_notify
   step_of_notify-same room seat code live effects =
-      stays-same (after_notify_to config (is_provisional code) (own_status code) seat) (after_notify_to far (is_provisional code) (own_status code) seat) (λ s. after_notify_to-same (is_provisional code) (own_status code) seat s) (place_of room live) live effects
+      stays-same (after_notify_to config (is_provisional code) (own_status code) seat) (after_notify_to far (is_provisional code) (own_status code) seat)
+      (λ s. after_notify_to-same (is_provisional code) (own_status code) seat s) (place_of room live) live effects
 
   -- ---- any operation
 
@@ -350,8 +367,10 @@ op-whole one other (histories.Drops count) a = tt
 
 pub ops_see_look_ups_alone : OperationsSeeLookupsAlone
 ops_see_look_ups_alone = record {
-  effects = λ one other op table equal looks. subst (λ (z : ConferenceConfigView). effects_of one op table ≡ effects_of z op table) (whole one other equal) (effects-same one other.accounts op table (op-whole one other op looks));
-  tables = λ one other op table equal looks. subst (λ (z : ConferenceConfigView). table_after_op one op table ≡ table_after_op z op table) (whole one other equal) (table_after_op-same one other.accounts op table (op-whole one other op looks));
+  effects = λ one other op table equal looks. subst (λ (z : ConferenceConfigView). effects_of one op table ≡ effects_of z op table) (whole one other equal)
+      (effects-same one other.accounts op table (op-whole one other op looks));
+  tables = λ one other op table equal looks. subst (λ (z : ConferenceConfigView). table_after_op one op table ≡ table_after_op z op table) (whole one other equal)
+      (table_after_op-same one other.accounts op table (op-whole one other op looks));
 }
 
 -- ---- one configuration

@@ -11,7 +11,9 @@ use Rattle.mmtel_leg.specs.Legs.{Leg, with_dialogue}
 use Rattle.mmtel_leg.specs.declared.dialogues.Dialogue.{Dialogue}
 use Rattle.mmtel_types.specs.declared.numbers.RoomNo.{RoomNo}
 use Rattle.mmtel_focus.specs.Conferences.{Conference, StepResult, with_output}
-use Rattle.mmtel_focus.specs.Participants.{abandoned_in_dialog, abandoned_of_invite, abandoned_of_party, after_close, after_close_with, after_dismissal, after_leave, after_notify, after_notify_referrer, after_notify_to, at_participant, at_place, by_participant, dialogue_of, effects_of_dismissal, effects_of_leave, ended_dialogs, is_connected, is_creator, leg_of, participant_after_bye, participant_after_notify, party_after_notify, place_of, with_leg, with_notify_to_party, with_participant, with_row_of_meter, without_participant_at}
+use Rattle.mmtel_focus.specs.Participants.{abandoned_in_dialog, abandoned_of_invite, abandoned_of_party, after_close, after_close_with, after_dismissal, after_leave, after_notify, after_notify_referrer}
+use Rattle.mmtel_focus.specs.Participants.{after_notify_to, at_participant, at_place, by_participant, dialogue_of, effects_of_dismissal, effects_of_leave, ended_dialogs, is_connected, is_creator, leg_of}
+use Rattle.mmtel_focus.specs.Participants.{participant_after_bye, participant_after_notify, party_after_notify, place_of, with_leg, with_notify_to_party, with_participant, with_row_of_meter, without_participant_at}
 use Rattle.mmtel_focus.specs.ConferenceConfig.{ConferenceConfigView}
 use Rattle.mmtel_focus.specs.Texts.{notify_lines, sipfrag}
 use Rattle.mmtel_participants.specs.declared.effects.Effects.{Effects}
@@ -74,19 +76,23 @@ each_removed P n xs e = each_append P (take n xs) (drop (suc n) xs) (each_take P
 abbrev pub KeepsNoInjection : (row : (place : ℕ) → ParticipantState → StepResult → StepResult) → Type 0
 KeepsNoInjection row = (place : ℕ) (seat : ParticipantState) (s : StepResult) → ParticipantHasNoInjection seat → StepHasNoInjection s → StepHasNoInjection (row place seat s)
 
-by_participant_no_injection : (row : ParticipantState → StepResult → StepResult) (o : Option ParticipantState) (s : StepResult) → IfSome o ParticipantHasNoInjection → ((seat : ParticipantState) → ParticipantHasNoInjection seat → StepHasNoInjection (row seat s)) → StepHasNoInjection s → StepHasNoInjection (by_participant row o s)
+by_participant_no_injection : (row : ParticipantState → StepResult → StepResult) (o : Option ParticipantState) (s : StepResult) → IfSome o ParticipantHasNoInjection →
+    ((seat : ParticipantState) → ParticipantHasNoInjection seat → StepHasNoInjection (row seat s)) → StepHasNoInjection s → StepHasNoInjection (by_participant row o s)
 by_participant_no_injection row None s e k is = is
 by_participant_no_injection row (Some seat) s e k is = k seat e
 
-pub at_participant_no_injection : (row : (place : ℕ) → ParticipantState → StepResult → StepResult) → KeepsNoInjection row → (place : ℕ) (s : StepResult) → StepHasNoInjection s → StepHasNoInjection (at_participant row place s)
-at_participant_no_injection row k place s is = by_participant_no_injection (row place) (slice_get s.conference.participants place) s (each_get ParticipantHasNoInjection s.conference.participants place is.conference_in) (λ seat e. k place seat s e is) is
+pub at_participant_no_injection : (row : (place : ℕ) → ParticipantState → StepResult → StepResult) → KeepsNoInjection row → (place : ℕ) (s : StepResult) → StepHasNoInjection s →
+    StepHasNoInjection (at_participant row place s)
+at_participant_no_injection row k place s is = by_participant_no_injection (row place) (slice_get s.conference.participants place) s
+    (each_get ParticipantHasNoInjection s.conference.participants place is.conference_in) (λ seat e. k place seat s e is) is
 
 pub at_place_no_injection : (row : (place : ℕ) → ParticipantState → StepResult → StepResult) → KeepsNoInjection row → (o : Option ℕ) (s : StepResult) → StepHasNoInjection s → StepHasNoInjection (at_place row o s)
 at_place_no_injection row k None s is = is
 at_place_no_injection row k (Some place) s is = at_participant_no_injection row k place s is
 
 pub with_participant_no_injection : (place : ℕ) (seat : ParticipantState) (s : StepResult) → ParticipantHasNoInjection seat → StepHasNoInjection s → StepHasNoInjection (with_participant place seat s)
-with_participant_no_injection place seat s e is = record { conference_in = each_set ParticipantHasNoInjection s.conference.participants place seat is.conference_in e; abandoned_in = is.abandoned_in; output_in = is.output_in }
+with_participant_no_injection place seat s e is =
+    record { conference_in = each_set ParticipantHasNoInjection s.conference.participants place seat is.conference_in e; abandoned_in = is.abandoned_in; output_in = is.output_in }
 
 -- the same party with another leg
 pub with_leg_no_injection : (party : Party) (leg : Leg) → IsFreeOfInjection leg.dialogue → PartyHasNoInjection (with_leg leg party)
@@ -96,10 +102,13 @@ with_leg_no_injection (DialedOut before) leg e = e
 
 -- ---- NOTIFY
 
-notified_no_injection : (config : ConferenceConfigView) (room : RoomNo) (on : Bool) (line : List ℕ) (party : Party) (output : StepOutput) → PartyHasNoInjection party → OutputHasNoInjection [] output → OutputHasNoInjection [] (with_notify_to_party config room on line party output)
+notified_no_injection : (config : ConferenceConfigView) (room : RoomNo) (on : Bool) (line : List ℕ) (party : Party) (output : StepOutput) → PartyHasNoInjection party → OutputHasNoInjection [] output →
+    OutputHasNoInjection [] (with_notify_to_party config room on line party output)
 notified_no_injection config room on line (Invited leg) output e had = had
-notified_no_injection config room on line (DialedIn leg) output e had = asked_no_injection [] config.sip (codes "NOTIFY") leg.dialogue (notify_lines config.sip room on) (sipfrag line) output e.0 refl (notify_no_injection config.sip room on) had
-notified_no_injection config room on line (DialedOut leg) output e had = asked_no_injection [] config.sip (codes "NOTIFY") leg.dialogue (notify_lines config.sip room on) (sipfrag line) output e.0 refl (notify_no_injection config.sip room on) had
+notified_no_injection config room on line (DialedIn leg) output e had =
+    asked_no_injection [] config.sip (codes "NOTIFY") leg.dialogue (notify_lines config.sip room on) (sipfrag line) output e.0 refl (notify_no_injection config.sip room on) had
+notified_no_injection config room on line (DialedOut leg) output e had =
+    asked_no_injection [] config.sip (codes "NOTIFY") leg.dialogue (notify_lines config.sip room on) (sipfrag line) output e.0 refl (notify_no_injection config.sip room on) had
 
 party_after_notify_no_injection : (party : Party) → PartyHasNoInjection party → PartyHasNoInjection (party_after_notify party)
 party_after_notify_no_injection (Invited leg) e = e
@@ -108,7 +117,8 @@ party_after_notify_no_injection (DialedOut leg) e = e
 
 after_notify_no_injection : (config : ConferenceConfigView) (on : Bool) (line : List ℕ) → KeepsNoInjection (after_notify config on line)
 after_notify_no_injection config on line place seat s e is =
-    with_output_no_injection (with_notify_to_party config s.conference.number on line seat.party s.effects.output) (with_participant place (participant_after_notify seat) s) (notified_no_injection config s.conference.number on line seat.party s.effects.output e.party_in is.output_in)
+    with_output_no_injection (with_notify_to_party config s.conference.number on line seat.party s.effects.output) (with_participant place (participant_after_notify seat) s)
+    (notified_no_injection config s.conference.number on line seat.party s.effects.output e.party_in is.output_in)
     (with_participant_no_injection place (participant_after_notify seat) s (record { party_in = party_after_notify_no_injection seat.party e.party_in; invite_in = e.invite_in }) is)
 
 pub after_notify_to_no_injection : (config : ConferenceConfigView) (on : Bool) (line : List ℕ) (number : ℕ) (s : StepResult) → StepHasNoInjection s → StepHasNoInjection (after_notify_to config on line number s)
@@ -136,7 +146,8 @@ abandoned_of_party_no_injection had_bye (Invited leg) i e is = is
 abandoned_of_party_no_injection had_bye (DialedIn leg) i e is = within_no_injection had_bye leg i e.0 is
 abandoned_of_party_no_injection had_bye (DialedOut leg) i e is = within_no_injection had_bye leg i e.0 is
 
-abandoned_of_invite_no_injection : (had_bye : Bool) (party : Party) (o : Option Invite) → PartyHasNoInjection party → IfSome o InviteHasNoInjection → Each (AbandonedHasNoInjection []) (abandoned_of_invite had_bye party o)
+abandoned_of_invite_no_injection : (had_bye : Bool) (party : Party) (o : Option Invite) → PartyHasNoInjection party → IfSome o InviteHasNoInjection →
+    Each (AbandonedHasNoInjection []) (abandoned_of_invite had_bye party o)
 abandoned_of_invite_no_injection had_bye party None e is = tt
 abandoned_of_invite_no_injection had_bye party (Some (Outstanding number i)) e is = (abandoned_of_party_no_injection had_bye party i e is, tt)
 abandoned_of_invite_no_injection had_bye party (Some (Accepted branch tag ack)) e is = tt
@@ -147,7 +158,8 @@ pub record EffectsHaveNoInjection (e : Effects) : Type 0 where
 
 effects_of_leave_no_injection : (at : ℕ) (had_bye : Bool) (seat : ParticipantState) (e : Effects) → ParticipantHasNoInjection seat → EffectsHaveNoInjection e → EffectsHaveNoInjection (effects_of_leave at had_bye seat e)
 effects_of_leave_no_injection at had_bye seat e is had = record {
-  abandoned_in = each_append (AbandonedHasNoInjection []) e.abandoned (abandoned_of_invite had_bye seat.party seat.invite) had.abandoned_in (abandoned_of_invite_no_injection had_bye seat.party seat.invite is.party_in is.invite_in);
+  abandoned_in = each_append (AbandonedHasNoInjection []) e.abandoned (abandoned_of_invite had_bye seat.party seat.invite) had.abandoned_in
+      (abandoned_of_invite_no_injection had_bye seat.party seat.invite is.party_in is.invite_in);
   output_in = filed_no_injection at (leg_of seat.party).meter e.output had.output_in;
 }
 
@@ -175,10 +187,12 @@ after_dismissal_no_injection config at place seat s e is = gone_no_injection pla
 
 -- ---- the conference closes
 
-pub after_close_no_injection : (config : ConferenceConfigView) (at : ℕ) (seats : List ParticipantState) (s : StepResult) → Each ParticipantHasNoInjection seats → StepHasNoInjection s → StepHasNoInjection (after_close config at seats s)
+pub after_close_no_injection : (config : ConferenceConfigView) (at : ℕ) (seats : List ParticipantState) (s : StepResult) → Each ParticipantHasNoInjection seats → StepHasNoInjection s →
+    StepHasNoInjection (after_close config at seats s)
 unfolding after_close
 after_close_no_injection config at [] s e is = record { conference_in = is.conference_in; abandoned_in = is.abandoned_in; output_in = is.output_in }
 after_close_no_injection config at (seat ∷ seats) s e is = after_close_no_injection config at seats (after_dismissal config at 0 seat s) e.1 (after_dismissal_no_injection config at 0 seat s e.0 is)
 
 pub after_close_with_no_injection : (config : ConferenceConfigView) (at : ℕ) (number : ℕ) (s : StepResult) → StepHasNoInjection s → StepHasNoInjection (after_close_with config at number s)
-after_close_with_no_injection config at number s is = if_step (is_creator number) (after_close config at s.conference.participants s) s (after_close_no_injection config at s.conference.participants s is.conference_in is) is
+after_close_with_no_injection config at number s is =
+    if_step (is_creator number) (after_close config at s.conference.participants s) s (after_close_no_injection config at s.conference.participants s is.conference_in is) is

@@ -14,13 +14,17 @@ use Rattle.mmtel_focus_theorems.proofs.Lookups.{ops_see_look_ups_alone}
 use Rattle.mmtel_focus_theorems.proofs.EquivalentTables.{op-equivalent}
 
 module _ (heads : Heads) (config far : ConferenceConfigView) (keys : TKey → Bool) (equal : EqualButForAccounts config far) where
-  table-equivalent : (d : OpPair) (x y : Table) → EquivalentConferences (trusts config) x y → AreEquivalentIn config far keys d x y → EquivalentConferences (trusts config) (table_after_op config (one_op d) x) (table_after_op far (other_op d) y)
+  table-equivalent : (d : OpPair) (x y : Table) → EquivalentConferences (trusts config) x y → AreEquivalentIn config far keys d x y →
+      EquivalentConferences (trusts config) (table_after_op config (one_op d) x) (table_after_op far (other_op d) y)
   table-equivalent d x y a h =
-      subst (λ (t : Table). EquivalentConferences (trusts config) (table_after_op config (one_op d) x) t) (ops_see_look_ups_alone.tables config far (other_op d) y equal h.lookups) (op-equivalent heads config keys d x y h.done a).1
+      subst (λ (t : Table). EquivalentConferences (trusts config) (table_after_op config (one_op d) x) t) (ops_see_look_ups_alone.tables config far (other_op d) y equal h.lookups)
+      (op-equivalent heads config keys d x y h.done a).1
 
-  effects-equivalent : (d : OpPair) (x y : Table) → EquivalentConferences (trusts config) x y → AreEquivalentIn config far keys d x y → EquivalentEffects (trust_of config keys) (effects_of config (one_op d) x) (effects_of far (other_op d) y)
+  effects-equivalent : (d : OpPair) (x y : Table) → EquivalentConferences (trusts config) x y → AreEquivalentIn config far keys d x y →
+      EquivalentEffects (trust_of config keys) (effects_of config (one_op d) x) (effects_of far (other_op d) y)
   effects-equivalent d x y a h =
-      subst (λ (e : Effects). EquivalentEffects (trust_of config keys) (effects_of config (one_op d) x) e) (ops_see_look_ups_alone.effects config far (other_op d) y equal h.lookups) (op-equivalent heads config keys d x y h.done a).0
+      subst (λ (e : Effects). EquivalentEffects (trust_of config keys) (effects_of config (one_op d) x) e) (ops_see_look_ups_alone.effects config far (other_op d) y equal h.lookups)
+      (op-equivalent heads config keys d x y h.done a).0
 
   -- ---- histories
 

@@ -14,7 +14,8 @@ use Rattle.mmtel_base.specs.Numbers.{next_number}
 use Rattle.mmtel_trust.specs.Accounts.{account_of}
 use Rattle.mmtel_types.specs.declared.numbers.Account.{Account}
 use Rattle.mmtel_types.specs.declared.numbers.RoomNo.{RoomNo}
-use Rattle.mmtel_focus.specs.Operations.{Adoption, JoinRequest, TableOp, Opens, Joins, Adopts, Notifies, Receives, Leaves, Closes, Drops, step_on_adopt, effects_after, table_after_op, step_on_join, step_on_notify, step_on_open, table_after}
+use Rattle.mmtel_focus.specs.Operations.{Adoption, JoinRequest, TableOp, Opens, Joins, Adopts, Notifies, Receives, Leaves, Closes, Drops}
+use Rattle.mmtel_focus.specs.Operations.{step_on_adopt, effects_after, table_after_op, step_on_join, step_on_notify, step_on_open, table_after}
 use Rattle.mmtel_focus.specs.Operations as histories
 use Rattle.mmtel_focus.specs.Joining.{after_adoption, after_join, new_conference}
 use Rattle.mmtel_focus.specs.Conferences.{Conference, StepResult, no_effects}
@@ -24,16 +25,22 @@ use Rattle.mmtel_focus.specs.Participants as seats
 use Rattle.mmtel_focus.specs.Participants.{after_notify_to, has_seat_number, is_connected, is_full}
 use Rattle.mmtel_focus.specs.ConferenceConfig.{ConferenceConfigView}
 use Rattle.mmtel_focus.specs.Table as table
-use Rattle.mmtel_focus.specs.Table.{ConferenceStep, Table, TableStep, access, access_at, access_to, conference_at, conference_has_branch, conference_of, conference_without_at, conference_without_in, conference_without_seat, conferences_after_close, conferences_after_leave, conferences_with, conferences_without, conferences_without_seat, conferences_without_seat_at, has_room_number, is_provisional, next_room_number, open_result_at, open_result_in, participant_has_branch, place_of, step_by_branch, step_by_number, step_if_access, step_of_abandoned_response, step_of_adoption, step_of_join, step_of_notify, step_of_participant, step_of_response, step_of_response_at, step_of_signal, step_of_timeout, step_of_timeout_at, step_result_at, step_result_in}
+use Rattle.mmtel_focus.specs.Table.{ConferenceStep, Table, TableStep, access, access_at, access_to, conference_at, conference_has_branch, conference_of, conference_without_at}
+use Rattle.mmtel_focus.specs.Table.{conference_without_in, conference_without_seat, conferences_after_close, conferences_after_leave, conferences_with, conferences_without}
+use Rattle.mmtel_focus.specs.Table.{conferences_without_seat, conferences_without_seat_at, has_room_number, is_provisional, next_room_number, open_result_at, open_result_in}
+use Rattle.mmtel_focus.specs.Table.{participant_has_branch, place_of, step_by_branch, step_by_number, step_if_access, step_of_abandoned_response, step_of_adoption, step_of_join, step_of_notify}
+use Rattle.mmtel_focus.specs.Table.{step_of_participant, step_of_response, step_of_response_at, step_of_signal, step_of_timeout, step_of_timeout_at, step_result_at, step_result_in}
 use Rattle.mmtel_focus.specs.Texts.{own_status}
 use Rattle.mmtel_focus.specs.declared.faults.RoomFault.TheVariants.{RoomFull}
 use Rattle.mmtel_focus.specs.declared.signals.RoomSignal.{RoomSignal}
 use Rattle.mmtel_focus.specs.declared.signals.RoomSignal.TheVariants as signal
 use Rattle.mmtel_participants.specs.declared.effects.Effects.{Effects}
 use Rattle.mmtel_participants.specs.declared.participants.ParticipantState.{ParticipantState}
-use Rattle.mmtel_focus_theorems.specs.Participants.{AreRowsAccountedFor, ChargedParticipant, Invites, IsAccountedFor, IsInvited, IsMetered, IsParticipantOf, IsRowOf, ParticipantsAreAccountedFor, ParticipantsAreMetered, RowsAreAccountedFor, charged_participant_of as seat_of, charged_participants, charged_participants_in, is_success_signal, last_seat_of, moment_of, next_seat_of}
+use Rattle.mmtel_focus_theorems.specs.Participants.{AreRowsAccountedFor, ChargedParticipant, Invites, IsAccountedFor, IsInvited, IsMetered, IsParticipantOf, IsRowOf, ParticipantsAreAccountedFor, ParticipantsAreMetered}
+use Rattle.mmtel_focus_theorems.specs.Participants.{RowsAreAccountedFor, charged_participant_of as seat_of, charged_participants, charged_participants_in, is_success_signal, last_seat_of, moment_of, next_seat_of}
 use Rattle.mmtel_focus_theorems.proofs.ChargedTables.{always_plain, response_rows, step_of_notify_quiet}
-use Rattle.mmtel_focus_theorems.proofs.ParticipantTransitions.{AreDue, Holds, IsAgreedNow, IsReferred, Keeps, ack_holds, after_adoption_holds, after_join_holds, after_notify_to_holds, answer_holds, at_place_holds, at_place_once, due_holds, each_joined, each_put, each_put_left, each_there, request_holds, silence_holds}
+use Rattle.mmtel_focus_theorems.proofs.ParticipantTransitions.{AreDue, Holds, IsAgreedNow, IsReferred, Keeps, ack_holds, after_adoption_holds, after_join_holds, after_notify_to_holds, answer_holds}
+use Rattle.mmtel_focus_theorems.proofs.ParticipantTransitions.{at_place_holds, at_place_once, due_holds, each_joined, each_put, each_put_left, each_there, request_holds, silence_holds}
 
 -- ---- lists
 
@@ -87,7 +94,8 @@ module _ (P : ChargedParticipant → Type 0) (at : ℕ) where
   abbrev KeepsAt : (row : StepResult → StepResult) → List Conference → Effects → (place : ℕ) → Type 0
   KeepsAt row live effects place = (room : Conference) → slice_get live place ≡ Some room → Holds P at (begin room effects) → Holds P at (row (begin room effects))
 
-  step_result_at_due : (row : StepResult → StepResult) (place : ℕ) (live : List Conference) (effects : Effects) → KeepsAt row live effects place → Stands live effects → Goes (step_result_at row place (slice_get live place) live effects)
+  step_result_at_due : (row : StepResult → StepResult) (place : ℕ) (live : List Conference) (effects : Effects) → KeepsAt row live effects place → Stands live effects →
+      Goes (step_result_at row place (slice_get live place) live effects)
   step_result_at_due row place live effects k h = by (slice_get live place) refl
     where
       by : (o : Option Conference) → slice_get live place ≡ o → Goes (step_result_at row place o live effects)
@@ -96,7 +104,8 @@ module _ (P : ChargedParticipant → Type 0) (at : ℕ) where
           let next = k room e (each_there (AreDue P at) live place room e h.0, h.1) in
           (put_due place room (row (begin room effects)) live e h.0 next (row (begin room effects)).effects.closes, next.1)
 
-  open_result_at_due : (row : StepResult → StepResult) (place : ℕ) (live : List Conference) (effects : Effects) → KeepsAt row live effects place → Stands live effects → Goes (open_result_at row place (slice_get live place) live effects)
+  open_result_at_due : (row : StepResult → StepResult) (place : ℕ) (live : List Conference) (effects : Effects) → KeepsAt row live effects place → Stands live effects →
+      Goes (open_result_at row place (slice_get live place) live effects)
   open_result_at_due row place live effects k h = by (slice_get live place) refl
     where
       by : (o : Option Conference) → slice_get live place ≡ o → Goes (open_result_at row place o live effects)
@@ -105,27 +114,34 @@ module _ (P : ChargedParticipant → Type 0) (at : ℕ) where
           let next = k room e (each_there (AreDue P at) live place room e h.0, h.1) in
           (put_due place room (row (begin room effects)) live e h.0 next false, next.1)
 
-  step_result_in_due : (row : StepResult → StepResult) (o : Option ℕ) (live : List Conference) (effects : Effects) → ((place : ℕ) → o ≡ Some place → KeepsAt row live effects place) → Stands live effects → Goes (step_result_in row o live effects)
+  step_result_in_due : (row : StepResult → StepResult) (o : Option ℕ) (live : List Conference) (effects : Effects) → ((place : ℕ) → o ≡ Some place → KeepsAt row live effects place) →
+      Stands live effects → Goes (step_result_in row o live effects)
   step_result_in_due row None live effects k h = h
   step_result_in_due row (Some place) live effects k h = step_result_at_due row place live effects (k place refl) h
 
   -- ---- signals
 
   -- a signal that any participant may receive
-  received_by_due : (config : ConferenceConfigView) (whose : ParticipantState → Bool) (received : ParticipantSignal) → Keeps P at (step_of_participant config at received) → (s : StepResult) → Holds P at s → Holds P at (table.step_of_first config at whose received s)
+  received_by_due : (config : ConferenceConfigView) (whose : ParticipantState → Bool) (received : ParticipantSignal) → Keeps P at (step_of_participant config at received) → (s : StepResult) →
+      Holds P at s → Holds P at (table.step_of_first config at whose received s)
   received_by_due config whose received k s h = at_place_holds P at (step_of_participant config at received) k (position whose s.conference.participants) s h
 
-  step_by_branch_due : (config : ConferenceConfigView) (branch : List ℕ) (received : ParticipantSignal) (live : List Conference) (effects : Effects) → Keeps P at (step_of_participant config at received) → Stands live effects → Goes (step_by_branch config at branch received live effects)
+  step_by_branch_due : (config : ConferenceConfigView) (branch : List ℕ) (received : ParticipantSignal) (live : List Conference) (effects : Effects) →
+      Keeps P at (step_of_participant config at received) → Stands live effects → Goes (step_by_branch config at branch received live effects)
   step_by_branch_due config branch received live effects k h =
-      step_result_in_due (table.step_of_first config at (participant_has_branch branch) received) (position (conference_has_branch branch) live) live effects (λ place e room f held. received_by_due config (participant_has_branch branch) received k (begin room effects) held) h
+      step_result_in_due (table.step_of_first config at (participant_has_branch branch) received) (position (conference_has_branch branch) live) live effects
+      (λ place e room f held. received_by_due config (participant_has_branch branch) received k (begin room effects) held) h
 
-  step_by_number_due : (config : ConferenceConfigView) (room seat : ℕ) (received : ParticipantSignal) (live : List Conference) (effects : Effects) → Keeps P at (step_of_participant config at received) → Stands live effects → Goes (step_by_number config at room seat received live effects)
+  step_by_number_due : (config : ConferenceConfigView) (room seat : ℕ) (received : ParticipantSignal) (live : List Conference) (effects : Effects) →
+      Keeps P at (step_of_participant config at received) → Stands live effects → Goes (step_by_number config at room seat received live effects)
   step_by_number_due config room seat received live effects k h =
-      step_result_in_due (table.step_of_first config at (has_seat_number seat) received) (place_of room live) live effects (λ place e room f held. received_by_due config (has_seat_number seat) received k (begin room effects) held) h
+      step_result_in_due (table.step_of_first config at (has_seat_number seat) received) (place_of room live) live effects
+      (λ place e room f held. received_by_due config (has_seat_number seat) received k (begin room effects) held) h
 
   -- a request, by which a party may be invited
   requested_due : (config : ConferenceConfigView) (room : RoomNo) (seat : ℕ) (key : TKey) (m : MessageView) (live : List Conference) (effects : Effects) →
-      ((r : Conference) → r.number.0 ≡ room.0 → conference_of room.0 live ≡ Some r → IsReferred P at config r.number r.last_seat m) → Stands live effects → Goes (step_by_number config at room.0 seat (of_seat.Request key m) live effects)
+      ((r : Conference) → r.number.0 ≡ room.0 → conference_of room.0 live ≡ Some r → IsReferred P at config r.number r.last_seat m) → Stands live effects →
+      Goes (step_by_number config at room.0 seat (of_seat.Request key m) live effects)
   unfolding step_of_participant
   requested_due config room seat key m live effects gives h =
       step_result_in_due (table.step_of_first config at (has_seat_number seat) (of_seat.Request key m)) (place_of room.0 live) live effects
@@ -137,7 +153,8 @@ module _ (P : ChargedParticipant → Type 0) (at : ℕ) where
       held)
       h
 
-  answer_due : (config : ConferenceConfigView) (key : TKey) (m : MessageView) → ((place : ChargedParticipant) → P place → IsMetered place) → IsAgreedNow P at m → Keeps P at (step_of_participant config at (of_seat.Answer key m))
+  answer_due : (config : ConferenceConfigView) (key : TKey) (m : MessageView) → ((place : ChargedParticipant) → P place → IsMetered place) → IsAgreedNow P at m →
+      Keeps P at (step_of_participant config at (of_seat.Answer key m))
   unfolding step_of_participant
   answer_due config key m metered answers place seat s e h = answer_holds P at metered config key m answers place seat s e h
 
@@ -145,7 +162,8 @@ module _ (P : ChargedParticipant → Type 0) (at : ℕ) where
   unfolding step_of_participant
   silent_due config metered place seat s e h = silence_holds P at metered config place seat s e h
 
-  abandoned_due : (config : ConferenceConfigView) (key : TKey) (m : MessageView) (place : ℕ) (o : Option AbandonedInvite) (live : List Conference) (abandoned : List AbandonedInvite) (effects : Effects) → Stands live effects →
+  abandoned_due : (config : ConferenceConfigView) (key : TKey) (m : MessageView) (place : ℕ) (o : Option AbandonedInvite) (live : List Conference) (abandoned : List AbandonedInvite) (effects : Effects) →
+      Stands live effects →
       Stands (step_of_abandoned_response config.sip key m place o live abandoned effects).live (step_of_abandoned_response config.sip key m place o live abandoned effects).effects
   abandoned_due config key m place None live abandoned effects h = h
   abandoned_due config key m place (Some l) live abandoned effects h = (h.0, subst (Each (IsRowOf P at)) (sym (response_rows config.sip key m.parsed l effects.output)) h.1)
@@ -153,7 +171,8 @@ module _ (P : ChargedParticipant → Type 0) (at : ℕ) where
   abbrev GoesOn : TableStep → Type 0
   GoesOn moved = Stands moved.live moved.effects
 
-  module _ (config : ConferenceConfigView) (metered : (place : ChargedParticipant) → P place → IsMetered place) (live : List Conference) (abandoned : List AbandonedInvite) (effects : Effects) (h : Stands live effects) where
+  module _ (config : ConferenceConfigView) (metered : (place : ChargedParticipant) → P place → IsMetered place) (live : List Conference) (abandoned : List AbandonedInvite) (effects : Effects)
+      (h : Stands live effects) where
     answered_at_due : (key : TKey) (m : MessageView) (branch : List ℕ) → IsAgreedNow P at m → (o : Option ℕ) → GoesOn (step_of_response_at config at key m branch o live abandoned effects)
     answered_at_due key m branch answers None = step_by_branch_due config branch (of_seat.Answer key m) live effects (answer_due config key m metered answers) h
     answered_at_due key m branch answers (Some place) = abandoned_due config key m place (slice_get abandoned place) live abandoned effects h
@@ -174,7 +193,8 @@ module _ (P : ChargedParticipant → Type 0) (at : ℕ) where
 
   -- a party that enters the conference of this number
   step_if_access_due : (row : StepResult → StepResult) (number : ℕ) (live : List Conference) (effects : Effects) →
-      ((r : Conference) → r.number.0 ≡ number → conference_of number live ≡ Some r → Holds P at (begin r effects) → Holds P at (row (begin r effects))) → Stands live effects → Goes (step_if_access row (access number live) live effects)
+      ((r : Conference) → r.number.0 ≡ number → conference_of number live ≡ Some r → Holds P at (begin r effects) → Holds P at (row (begin r effects))) → Stands live effects →
+      Goes (step_if_access row (access number live) live effects)
   step_if_access_due row number live effects k h = by (place_of number live) refl
     where
       free : (place : ℕ) (r : Conference) → place_of number live ≡ Some place → slice_get live place ≡ Some r → (b : Bool) → Goes (step_if_access row (if b then Err RoomFull else Ok place) live effects)
@@ -231,7 +251,8 @@ module _ (P : ChargedParticipant → Type 0) (at : ℕ) where
     where
       by : (o : Option ℕ) → Goes (open_result_in (after_notify_to config (is_provisional code) (own_status code) seat) o live effects)
       by None = h
-      by (Some place) = open_result_at_due (after_notify_to config (is_provisional code) (own_status code) seat) place live effects (λ r e held. after_notify_to_holds P at config (is_provisional code) (own_status code) seat (begin r effects) held) h
+      by (Some place) = open_result_at_due (after_notify_to config (is_provisional code) (own_status code) seat) place live effects
+          (λ r e held. after_notify_to_holds P at config (is_provisional code) (own_status code) seat (begin r effects) held) h
 
   -- all of them, one after another
   pub all_places : (live : List Conference) → AllDue live → Each P (charged_participants live)
@@ -295,17 +316,20 @@ module _ (config : ConferenceConfigView) (older : List TableOp) where
   Follows op live effects = Stands (IsAccountedFor config (op ∷ older)) (moment op) live effects
 
   -- the number of the next participant of the conference that is found
-  next_is : (number : ℕ) (r : Conference) (account : Option Account) (place : ChargedParticipant) → r.number.0 ≡ number → conference_of number before.live ≡ Some r → IsParticipantOf r.number.0 (next_number r.last_seat) account place →
+  next_is : (number : ℕ) (r : Conference) (account : Option Account) (place : ChargedParticipant) → r.number.0 ≡ number → conference_of number before.live ≡ Some r →
+      IsParticipantOf r.number.0 (next_number r.last_seat) account place →
       IsParticipantOf number (next_seat_of number before.live) account place
   next_is number r account place named is of = record { of_room = of.of_room ∙ named; numbered = of.numbered ∙ ap (λ (o : Option Conference). next_number (last_seat_of o)) (sym is); account = of.account }
 
   -- a participant that is invited after the step of a response was so before it
-  stood_before : (x : histories.ReceivedSignal) (key : TKey) (m : MessageView) → x.signal ≡ signal.Answer key m → (place : ChargedParticipant) → IsAccountedFor config (Receives x ∷ older) place → IsInvited place → IsAccountedFor config older place
+  stood_before : (x : histories.ReceivedSignal) (key : TKey) (m : MessageView) → x.signal ≡ signal.Answer key m → (place : ChargedParticipant) → IsAccountedFor config (Receives x ∷ older) place →
+      IsInvited place → IsAccountedFor config older place
   stood_before x key m e place (inl due) invited = due
   stood_before x key m e place (inr (inl gives)) invited = absurd (subst (λ (s : RoomSignal). Invites config s before place) e gives)
   stood_before x key m e place (inr (inr answers)) invited = absurd (let no : true ≡ false = sym answers.1.2.is.connected ∙ invited.waits in cc)
 
-  step_of_participant_due : (x : histories.ReceivedSignal) → Follows (Receives x) before.live (no_effects x.tokens) → GoesOn (IsAccountedFor config (Receives x ∷ older)) x.at (step_of_signal config x.at x.signal before.live before.abandoned (no_effects x.tokens))
+  step_of_participant_due : (x : histories.ReceivedSignal) → Follows (Receives x) before.live (no_effects x.tokens) →
+      GoesOn (IsAccountedFor config (Receives x ∷ older)) x.at (step_of_signal config x.at x.signal before.live before.abandoned (no_effects x.tokens))
   unfolding step_of_signal step_of_participant
   step_of_participant_due x h = by x.signal refl
     where
@@ -368,7 +392,8 @@ module _ (config : ConferenceConfigView) (older : List TableOp) where
   comes (Joins room c) h = let moved = joins_due room c (still (Joins room c) c.at before.live h, tt) in record { participants = moved.0; rows = moved.1 }
   comes (Adopts room a) h = let moved = adopts_due room a (still (Adopts room a) a.at before.live h, tt) in record { participants = moved.0; rows = moved.1 }
   comes (Notifies room seat code tokens) h =
-      let moved = step_of_notify_due (IsAccountedFor config (Notifies room seat code tokens ∷ older)) 0 config room seat code before.live (no_effects tokens) (still (Notifies room seat code tokens) 0 before.live h, tt) in
+      let moved = step_of_notify_due (IsAccountedFor config (Notifies room seat code tokens ∷ older)) 0 config room seat code before.live (no_effects tokens)
+      (still (Notifies room seat code tokens) 0 before.live h, tt) in
       record { participants = moved.0; rows = (step_of_notify_quiet config room seat code before.live (no_effects tokens) (always_plain config older)).filed }
   comes (Receives x) h = let moved = step_of_participant_due x (still (Receives x) x.at before.live h, tt) in record { participants = moved.0; rows = moved.1 }
   comes (Leaves room seat) h = record { participants = conferences_after_leave_due (IsAccountedFor config (Leaves room seat ∷ older)) 0 room seat before.live (still (Leaves room seat) 0 before.live h); rows = refl }

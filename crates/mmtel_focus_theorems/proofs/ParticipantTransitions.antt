@@ -34,13 +34,18 @@ use Rattle.mmtel_types.specs.declared.numbers.Account.{Account}
 use Rattle.mmtel_types.specs.declared.numbers.Peer.{Peer}
 use Rattle.mmtel_types.specs.declared.numbers.RoomNo.{RoomNo}
 use Rattle.mmtel_types.specs.declared.sides.Side.TheVariants.{Callee}
-use Rattle.mmtel_focus.specs.Responses.{after_ack_retransmission, after_own_ack, after_invite_end, after_end, with_failure_ack, with_invite_cancel, is_ack_pending, is_success, invite_with_provisional, on_any_response, on_response_to, on_cap, on_due, on_failure, on_no_ack, on_provisional, on_outstanding_response, on_timeout, on_success, invite_after_due_cancel, connected_participant, connected_party, to_tag_of, after_ringing_limit, after_missing_ack, has_outstanding_number}
+use Rattle.mmtel_focus.specs.Responses.{after_ack_retransmission, after_own_ack, after_invite_end, after_end, with_failure_ack, with_invite_cancel, is_ack_pending, is_success}
+use Rattle.mmtel_focus.specs.Responses.{invite_with_provisional, on_any_response, on_response_to, on_cap, on_due, on_failure, on_no_ack, on_provisional, on_outstanding_response, on_timeout}
+use Rattle.mmtel_focus.specs.Responses.{on_success, invite_after_due_cancel, connected_participant, connected_party, to_tag_of, after_ringing_limit, after_missing_ack, has_outstanding_number}
 use Rattle.mmtel_focus.specs.Joining.{adopted_participant, after_adoption, after_failure_notify, after_invite_if_peer, after_join, after_refer, invited_participant, new_participant, party_of, released_after_reinvite}
 use Rattle.mmtel_focus.specs.Referrals.{referral_in}
-use Rattle.mmtel_focus.specs.Requests.{acknowledges, after_accepted_refer, after_response, invite_in_flight, is_invite_outstanding, on_ack, on_bye, on_request_in_order, on_checked_request, on_invite, on_referral, on_request, after_refusal, request_check, after_trying, after_out_of_order}
+use Rattle.mmtel_focus.specs.Requests.{acknowledges, after_accepted_refer, after_response, invite_in_flight, is_invite_outstanding, on_ack, on_bye, on_request_in_order}
+use Rattle.mmtel_focus.specs.Requests.{on_checked_request, on_invite, on_referral, on_request, after_refusal, request_check, after_trying, after_out_of_order}
 use Rattle.mmtel_focus.specs.Requests as requests
 use Rattle.mmtel_focus.specs.Conferences.{Conference, StepResult, with_output}
-use Rattle.mmtel_focus.specs.Participants.{after_close, after_close_with, after_dismissal, after_leave, after_notify, after_notify_referrer, after_notify_to, at_participant, at_place, by_participant, dialogue_of, effects_of_dismissal, effects_of_leave, is_connected, is_creator, is_full, leg_of, meter_of, participant_after_bye, participant_after_notify, party_after_notify, place_of as seat_place, with_leg, with_participant, with_row_of_meter}
+use Rattle.mmtel_focus.specs.Participants.{after_close, after_close_with, after_dismissal, after_leave, after_notify, after_notify_referrer, after_notify_to, at_participant}
+use Rattle.mmtel_focus.specs.Participants.{at_place, by_participant, dialogue_of, effects_of_dismissal, effects_of_leave, is_connected, is_creator, is_full, leg_of, meter_of}
+use Rattle.mmtel_focus.specs.Participants.{participant_after_bye, participant_after_notify, party_after_notify, place_of as seat_place, with_leg, with_participant, with_row_of_meter}
 use Rattle.mmtel_focus.specs.ConferenceConfig.{ConferenceConfigView}
 use Rattle.mmtel_focus.specs.Texts.{own_status, status_line}
 use Rattle.mmtel_focus.specs.declared.referrals.Referral.{Referral}
@@ -148,7 +153,8 @@ module _ (P : ChargedParticipant → Type 0) (at : ℕ) where
       by (Some seat) e = k place seat e
 
   -- a participant is replaced at its place
-  with_participant_holds : (place : ℕ) (seat other : ParticipantState) (s : StepResult) → slice_get s.conference.participants place ≡ Some seat → charged_participant_of s.conference.number other ≡ charged_participant_of s.conference.number seat → Holds s → Holds (with_participant place other s)
+  with_participant_holds : (place : ℕ) (seat other : ParticipantState) (s : StepResult) → slice_get s.conference.participants place ≡ Some seat →
+      charged_participant_of s.conference.number other ≡ charged_participant_of s.conference.number seat → Holds s → Holds (with_participant place other s)
   with_participant_holds place seat other s is same h =
       (each_put (IsDueSeat s.conference.number) s.conference.participants place seat is h.0 other (subst P (sym same) (each_there (IsDueSeat s.conference.number) s.conference.participants place seat is h.0)), h.1)
 
@@ -158,7 +164,8 @@ module _ (P : ChargedParticipant → Type 0) (at : ℕ) where
   option_row room seat None e p = tt
   option_row room seat (Some meter) e p = (record { place = charged_participant_of room seat; such = p; meter = meter; runs = e; is = refl }, tt)
 
-  gone_holds : (place : ℕ) (seat : ParticipantState) (s : StepResult) (e : Effects) → slice_get s.conference.participants place ≡ Some seat → e.output.rows ≡ s.effects.output.rows ++ rows_of_closed at (leg_of seat.party).meter → Holds s →
+  gone_holds : (place : ℕ) (seat : ParticipantState) (s : StepResult) (e : Effects) → slice_get s.conference.participants place ≡ Some seat →
+      e.output.rows ≡ s.effects.output.rows ++ rows_of_closed at (leg_of seat.party).meter → Holds s →
       Each (IsDueSeat s.conference.number) (remove s.conference.participants place) × Each RowOf e.output.rows
   gone_holds place seat s e is filed h = (
     each_left (IsDueSeat s.conference.number) s.conference.participants place seat is h.0,
@@ -179,7 +186,8 @@ module _ (P : ChargedParticipant → Type 0) (at : ℕ) where
       output : StepOutput
       output = with_bye config.sip (dialogue_of seat) s.effects.output
 
-      by : (b : Bool) → (if b then effects_of_leave at true (participant_after_bye seat) (record s.effects { output = output }) else effects_of_leave at false seat s.effects).output.rows ≡ s.effects.output.rows ++ rows_of_closed at (leg_of seat.party).meter
+      by : (b : Bool) → (if b then effects_of_leave at true (participant_after_bye seat) (record s.effects { output = output }) else effects_of_leave at false seat s.effects).output.rows
+          ≡ s.effects.output.rows ++ rows_of_closed at (leg_of seat.party).meter
       by true = ap (λ m. (with_row_of_meter at m output).rows) (same_leg_meter seat.party leg refl) ∙ filed_rows at (leg_of seat.party).meter output
       by false = filed_rows at (leg_of seat.party).meter s.effects.output
 
@@ -195,7 +203,8 @@ module _ (P : ChargedParticipant → Type 0) (at : ℕ) where
 
   -- ---- NOTIFY
 
-  after_notify_place : (room : RoomNo) (number : ℕ) (by : Option ℕ) (seat : ParticipantState) (party : Party) → charged_participant_of room (record seat { party = party_after_notify party }) ≡ charged_participant_of room (record seat { party = party })
+  after_notify_place : (room : RoomNo) (number : ℕ) (by : Option ℕ) (seat : ParticipantState) (party : Party) →
+      charged_participant_of room (record seat { party = party_after_notify party }) ≡ charged_participant_of room (record seat { party = party })
   after_notify_place room number by seat (Invited leg) = refl
   after_notify_place room number by seat (DialedIn leg) = refl
   after_notify_place room number by seat (DialedOut leg) = refl
@@ -214,14 +223,16 @@ module _ (P : ChargedParticipant → Type 0) (at : ℕ) where
 
   -- ---- a party becomes a participant
 
-  new_holds : (s : StepResult) (seat : ParticipantState) (rows : List Row) → rows ≡ s.effects.output.rows → IsDueSeat s.conference.number seat → Holds s → Each (IsDueSeat s.conference.number) (s.conference.participants ++ seat ∷ []) × Each RowOf rows
+  new_holds : (s : StepResult) (seat : ParticipantState) (rows : List Row) → rows ≡ s.effects.output.rows → IsDueSeat s.conference.number seat → Holds s →
+      Each (IsDueSeat s.conference.number) (s.conference.participants ++ seat ∷ []) × Each RowOf rows
   new_holds s seat rows e p h = (each_joined (IsDueSeat s.conference.number) s.conference.participants (seat ∷ []) h.0 (p, tt), subst (Each RowOf) (sym e) h.1)
 
   -- a party that joins is the next participant
   abbrev pub IsGivenNext : Conference → Option Account → Type 0
   IsGivenNext room account = (place : ChargedParticipant) → IsParticipantOf room.number.0 (next_number room.last_seat) account place → IsConnectedSince at place → P place
 
-  pub after_join_holds : (config : ConferenceConfigView) (leg : Released) (account : Option Account) (key : TKey) (m : MessageView) (s : StepResult) → IsGivenNext s.conference account → Holds s → Holds (after_join config at leg account key m s)
+  pub after_join_holds : (config : ConferenceConfigView) (leg : Released) (account : Option Account) (key : TKey) (m : MessageView) (s : StepResult) → IsGivenNext s.conference account → Holds s →
+      Holds (after_join config at leg account key m s)
   unfolding after_join
   after_join_holds config leg account key m s gives h = new_holds s (new_participant at s.conference leg account) s.effects.output.rows refl (by leg) h
     where
@@ -229,11 +240,13 @@ module _ (P : ChargedParticipant → Type 0) (at : ℕ) where
       by (released.Caller x) = gives _ (record { of_room = refl; numbered = refl; account = refl }) (record { connected = refl; meter = meter_is s.conference.number at account })
       by (released.Callee x) = gives _ (record { of_room = refl; numbered = refl; account = refl }) (record { connected = refl; meter = meter_is s.conference.number at account })
 
-  pub after_adoption_holds : (config : ConferenceConfigView) (leg : Released) (account : Option Account) (by : ℕ) (s : StepResult) → IsGivenNext s.conference account → Holds s → Holds (after_adoption config at leg account by s)
+  pub after_adoption_holds : (config : ConferenceConfigView) (leg : Released) (account : Option Account) (by : ℕ) (s : StepResult) → IsGivenNext s.conference account → Holds s →
+      Holds (after_adoption config at leg account by s)
   unfolding after_adoption
   after_adoption_holds config leg account who s gives h = new_holds s (adopted_participant at s.conference leg account who (token s.effects.output)) s.effects.output.rows refl (by leg) h
     where
-      by : (x : Released) → P (charged_participant_of s.conference.number (record (adopted_participant at s.conference leg account who (token s.effects.output)) { party = party_of (meter_of s.conference.number at account) (released_after_reinvite x) }))
+      by : (x : Released) → P (charged_participant_of s.conference.number
+          (record (adopted_participant at s.conference leg account who (token s.effects.output)) { party = party_of (meter_of s.conference.number at account) (released_after_reinvite x) }))
       by (released.Caller x) = gives _ (record { of_room = refl; numbered = refl; account = refl }) (record { connected = refl; meter = meter_is s.conference.number at account })
       by (released.Callee x) = gives _ (record { of_room = refl; numbered = refl; account = refl }) (record { connected = refl; meter = meter_is s.conference.number at account })
 
@@ -298,7 +311,8 @@ module _ (P : ChargedParticipant → Type 0) (at : ℕ) where
     abbrev pub IsReferred : MessageView → Type 0
     IsReferred m = (uri : Uri) → is_method (codes "REFER") m.parsed.start ≡ true → referral_in m.parsed.refer_to ≡ referral.Invite (Some uri) → IsInvitedNext uri
 
-    received_holds : (key : TKey) (m : MessageView) → IsReferred m → (place : ℕ) (seat : ParticipantState) (s : StepResult) → slice_get s.conference.participants place ≡ Some seat → IsOf number taken s → Holds s → Holds (on_request_in_order config at key m place seat s)
+    received_holds : (key : TKey) (m : MessageView) → IsReferred m → (place : ℕ) (seat : ParticipantState) (s : StepResult) → slice_get s.conference.participants place ≡ Some seat →
+        IsOf number taken s → Holds s → Holds (on_request_in_order config at key m place seat s)
     received_holds key m gives place seat s e is h =
         if_holds (is_method (codes "INVITE") m.parsed.start) _ _ (invite_holds config key m place seat s e h)
         (if_holds (is_method (codes "BYE") m.parsed.start) _ _ (with_bye_holds config key m place seat s e h)
@@ -322,7 +336,8 @@ module _ (P : ChargedParticipant → Type 0) (at : ℕ) where
     received_place m seat (DialedIn leg) = refl
     received_place m seat (DialedOut leg) = refl
 
-    receiving_holds : (key : TKey) (m : MessageView) (r : Result (Unit {0}) DialogueFault) → IsReferred m → (place : ℕ) (seat : ParticipantState) (s : StepResult) → slice_get s.conference.participants place ≡ Some seat → IsOf number taken s → Holds s →
+    receiving_holds : (key : TKey) (m : MessageView) (r : Result (Unit {0}) DialogueFault) → IsReferred m → (place : ℕ) (seat : ParticipantState) (s : StepResult) →
+        slice_get s.conference.participants place ≡ Some seat → IsOf number taken s → Holds s →
         Holds (on_checked_request config at key m r place seat s)
     receiving_holds key m (Err fault) gives place seat s e is h = fault_holds key m fault place seat s e h
     receiving_holds key m (Ok received) gives place seat s e is h = by (slice_get next.conference.participants place) refl
@@ -331,20 +346,23 @@ module _ (P : ChargedParticipant → Type 0) (at : ℕ) where
         next = with_participant place (requests.participant_after_request m seat) s
 
         held : Holds next
-        held = with_participant_holds place seat (requests.participant_after_request m seat) s e (subst (λ (n : RoomNo). charged_participant_of n (requests.participant_after_request m seat) ≡ charged_participant_of n seat) (sym is.named) (received_place m seat seat.party)) h
+        held = with_participant_holds place seat (requests.participant_after_request m seat) s e
+            (subst (λ (n : RoomNo). charged_participant_of n (requests.participant_after_request m seat) ≡ charged_participant_of n seat) (sym is.named) (received_place m seat seat.party)) h
 
         by : (o : Option ParticipantState) → slice_get next.conference.participants place ≡ o → Holds (by_participant (on_request_in_order config at key m place) o next)
         by None f = held
         by (Some other) f = received_holds key m gives place other next f (record { named = is.named; counts = is.counts }) held
 
-    pub request_holds : (key : TKey) (m : MessageView) → IsReferred m → (place : ℕ) (seat : ParticipantState) (s : StepResult) → slice_get s.conference.participants place ≡ Some seat → IsOf number taken s → Holds s → Holds (on_request config at key m place seat s)
+    pub request_holds : (key : TKey) (m : MessageView) → IsReferred m → (place : ℕ) (seat : ParticipantState) (s : StepResult) → slice_get s.conference.participants place ≡ Some seat →
+        IsOf number taken s → Holds s → Holds (on_request config at key m place seat s)
     unfolding on_request
     request_holds key m gives place seat s e is h =
         if_holds (is_connected seat) _ (after_refusal config key m 481 place seat s) (receiving_holds key m (request_check (leg_of seat.party) m (invite_in_flight seat)) gives place seat s e is h) h
 
   pub ack_holds : (m : MessageView) → Keeps (on_ack m)
   unfolding on_ack
-  ack_holds m place seat s e h = if_holds (acknowledges m seat.pending_ack) (with_participant place (record seat { pending_ack = None }) s) s (with_participant_holds place seat (record seat { pending_ack = None }) s e refl h) h
+  ack_holds m place seat s e h =
+      if_holds (acknowledges m seat.pending_ack) (with_participant place (record seat { pending_ack = None }) s) s (with_participant_holds place seat (record seat { pending_ack = None }) s e refl h) h
 
   -- ---- a response
 
@@ -360,7 +378,8 @@ module _ (P : ChargedParticipant → Type 0) (at : ℕ) where
 
   -- an invited party is connected, and any other one is unchanged
   module _ (metered : (place : ChargedParticipant) → P place → IsMetered place) where
-    was_invited : (room : RoomNo) (seat : ParticipantState) (leg : Leg) → P (charged_participant_of room (record seat { party = Invited leg })) → IsInvited (charged_participant_of room (record seat { party = Invited leg }))
+    was_invited : (room : RoomNo) (seat : ParticipantState) (leg : Leg) → P (charged_participant_of room (record seat { party = Invited leg })) →
+        IsInvited (charged_participant_of room (record seat { party = Invited leg }))
     was_invited room seat leg p = by (metered (charged_participant_of room (record seat { party = Invited leg })) p)
       where
         by : IsMetered (charged_participant_of room (record seat { party = Invited leg })) → IsInvited (charged_participant_of room (record seat { party = Invited leg }))
@@ -380,9 +399,13 @@ module _ (P : ChargedParticipant → Type 0) (at : ℕ) where
         let remote : Remote = remote_of Callee m.parsed.lines in
         let other : ParticipantState = connected_participant s.conference.number at remote seat in
         let next : StepResult = with_participant place other s in
-        let held : Holds next =
-        (each_put (IsDueSeat s.conference.number) s.conference.participants place seat e h.0 other (seated_due answers s.conference.number remote seat seat.party (each_there (IsDueSeat s.conference.number) s.conference.participants place seat e h.0)), h.1) in
-        after_notify_referrer_holds config false (own_status 200) seat.by (at_participant (after_own_ack config (to_tag_of m)) place next) (at_participant_holds (after_own_ack config (to_tag_of m)) (after_own_ack_holds config (to_tag_of m)) place next held)
+        let held : Holds next = (
+          each_put (IsDueSeat s.conference.number) s.conference.participants place seat e h.0 other
+              (seated_due answers s.conference.number remote seat seat.party (each_there (IsDueSeat s.conference.number) s.conference.participants place seat e h.0)),
+          h.1,
+        ) in
+        after_notify_referrer_holds config false (own_status 200) seat.by (at_participant (after_own_ack config (to_tag_of m)) place next)
+        (at_participant_holds (after_own_ack config (to_tag_of m)) (after_own_ack_holds config (to_tag_of m)) place next held)
 
     -- it ends without a 2xx
     without_holds : (config : ConferenceConfigView) (line : List ℕ) → Keeps (after_end config at line)
@@ -392,7 +415,8 @@ module _ (P : ChargedParticipant → Type 0) (at : ℕ) where
     then_without : (config : ConferenceConfigView) (line : List ℕ) (invite : Option Invite) (place : ℕ) (seat : ParticipantState) (s : StepResult) → slice_get s.conference.participants place ≡ Some seat → Holds s →
         Holds (at_participant (after_end config at line) place (with_participant place (record seat { invite = invite }) s))
     then_without config line invite place seat s e h =
-        at_participant_holds (after_end config at line) (without_holds config line) place (with_participant place (record seat { invite = invite }) s) (with_participant_holds place seat (record seat { invite = invite }) s e refl h)
+        at_participant_holds (after_end config at line) (without_holds config line) place (with_participant place (record seat { invite = invite }) s)
+        (with_participant_holds place seat (record seat { invite = invite }) s e refl h)
 
     failure_holds : (config : ConferenceConfigView) (key : TKey) (m : MessageView) → Keeps (on_failure config at key m)
     failure_holds config key m place seat s e h =
@@ -432,7 +456,8 @@ module _ (P : ChargedParticipant → Type 0) (at : ℕ) where
     cap_holds config number place seat s e h =
         let next : StepResult = with_output (with_invite_cancel config.sip seat.invite s.effects.output) s in
         if_holds (not (is_connected seat) && has_outstanding_number number seat.invite) (after_ringing_limit config at place seat s) s
-        (then_without config (own_status 408) (invite_after_due_cancel seat.invite) place seat next e (spoke s (with_invite_cancel config.sip seat.invite s.effects.output) (cancelled_rows config.sip seat.invite s.effects.output) h)) h
+        (then_without config (own_status 408) (invite_after_due_cancel seat.invite) place seat next e
+        (spoke s (with_invite_cancel config.sip seat.invite s.effects.output) (cancelled_rows config.sip seat.invite s.effects.output) h)) h
 
     no_ack_holds : (config : ConferenceConfigView) (number : ℕ) → Keeps (on_no_ack config at number)
     no_ack_holds config number place seat s e h =

@@ -34,7 +34,8 @@ module _ (known : Peer → Bool) where
 
     seat_public : (room : Conference) → seat_with_dialog call_id local remote (public_conference known room) ≡ seat_with_dialog call_id local remote room
     seat_public room =
-        ap (λ (o : Option ℕ). number_at o (map (public_participant known) room.participants)) (found (public_participant known) (is_named call_id local remote) named_public room.participants) ∙ by (position (is_named call_id local remote) room.participants)
+        ap (λ (o : Option ℕ). number_at o (map (public_participant known) room.participants)) (found (public_participant known) (is_named call_id local remote) named_public room.participants)
+        ∙ by (position (is_named call_id local remote) room.participants)
       where
         by : (o : Option ℕ) → number_at o (map (public_participant known) room.participants) ≡ number_at o room.participants
         by None = refl
@@ -75,7 +76,8 @@ module _ (known : Peer → Bool) where
 
   -- ---- tables
 
-  named-same : (call_id local remote : List ℕ) (us vs : List Conference) → map (public_conference known) us ≡ map (public_conference known) vs → names.room_and_seat_with_dialog call_id local remote us ≡ names.room_and_seat_with_dialog call_id local remote vs
+  named-same : (call_id local remote : List ℕ) (us vs : List Conference) → map (public_conference known) us ≡ map (public_conference known) vs →
+      names.room_and_seat_with_dialog call_id local remote us ≡ names.room_and_seat_with_dialog call_id local remote vs
   named-same call_id local remote us vs a =
       sym (found_public call_id local remote us) ∙ (ap (λ (l : List Conference). names.room_and_seat_with_dialog call_id local remote l) a ∙ found_public call_id local remote vs)
 

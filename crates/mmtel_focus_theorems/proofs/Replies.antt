@@ -8,7 +8,8 @@ use Rattle.mmtel_output.specs.declared.sent_invites.SentInvite.{SentInvite}
 use Rattle.mmtel_leg.specs.declared.dialogues.Dialogue.{Dialogue}
 use Rattle.mmtel_types.specs.declared.numbers.RoomNo.{RoomNo}
 use Rattle.mmtel_focus.specs.Conferences.{Conference, StepResult, with_output, no_effects}
-use Rattle.mmtel_focus.specs.Participants.{at_place, at_participant, by_participant, after_close_with, dialogue_of, after_dismissal, with_row_of_meter, participant_after_bye, is_creator, is_connected, effects_of_leave, leg_of, with_participant, after_notify, after_notify_referrer, after_notify_to, is_full, tag_of, has_seat_number}
+use Rattle.mmtel_focus.specs.Participants.{at_place, at_participant, by_participant, after_close_with, dialogue_of, after_dismissal, with_row_of_meter, participant_after_bye, is_creator}
+use Rattle.mmtel_focus.specs.Participants.{is_connected, effects_of_leave, leg_of, with_participant, after_notify, after_notify_referrer, after_notify_to, is_full, tag_of, has_seat_number}
 use Rattle.mmtel_focus.specs.ConferenceConfig.{ConferenceConfigView}
 use Rattle.mmtel_focus.specs.Texts.{answer_in, contact_and_sdp_lines, contact_value, own_status, sdp_lines, status_line}
 use Rattle.mmtel_participants.specs.declared.effects.Effects.{Effects}
@@ -44,11 +45,14 @@ use Rattle.mmtel_types.specs.declared.addrs.Addr.{Addr}
 use Rattle.mmtel_types.specs.declared.numbers.Account.{Account}
 use Rattle.mmtel_types.specs.declared.numbers.Peer.{Peer}
 use Rattle.mmtel_types.specs.declared.sides.Side.TheVariants.{Callee}
-use Rattle.mmtel_focus.specs.Responses.{after_ack_retransmission, after_end, after_invite_end, after_missing_ack, after_own_ack, after_ringing_limit, connected_participant, has_outstanding_number, invite_after_due_cancel, is_ack_pending, is_success, on_any_response, on_due, on_failure, on_outstanding_response, on_provisional, on_response_to, on_retransmission, on_success, on_timeout, to_tag_of, with_failure_ack, with_invite_cancel}
+use Rattle.mmtel_focus.specs.Responses.{after_ack_retransmission, after_end, after_invite_end, after_missing_ack, after_own_ack, after_ringing_limit, connected_participant}
+use Rattle.mmtel_focus.specs.Responses.{has_outstanding_number, invite_after_due_cancel, is_ack_pending, is_success, on_any_response, on_due, on_failure, on_outstanding_response}
+use Rattle.mmtel_focus.specs.Responses.{on_provisional, on_response_to, on_retransmission, on_success, on_timeout, to_tag_of, with_failure_ack, with_invite_cancel}
 use Rattle.mmtel_focus.specs.Joining.{after_adoption, with_accepted_invite, after_refer, after_join, invitation_dialog, after_invite, after_invite_if_peer, after_failure_notify, new_conference}
 use Rattle.mmtel_focus.specs.Referrals.{referral_in, target_of}
 use Rattle.mmtel_focus.specs.Requests as requests
-use Rattle.mmtel_focus.specs.Requests.{acknowledges, after_accepted_refer, after_out_of_order, after_refusal, after_reinvite, after_response, after_trying, invite_in_flight, is_invite_outstanding, on_ack, on_bye, on_checked_request, on_invite, on_referral, on_request, on_request_in_order, participant_after_request}
+use Rattle.mmtel_focus.specs.Requests.{acknowledges, after_accepted_refer, after_out_of_order, after_refusal, after_reinvite, after_response, after_trying, invite_in_flight}
+use Rattle.mmtel_focus.specs.Requests.{is_invite_outstanding, on_ack, on_bye, on_checked_request, on_invite, on_referral, on_request, on_request_in_order, participant_after_request}
 use Rattle.mmtel_focus.specs.declared.referrals.Referral.{Referral}
 use Rattle.mmtel_focus.specs.declared.referrals.Referral.TheVariants as referral
 use Rattle.mmtel_output.specs.AbandonedInvites.{AfterResponse, is_of_branch, ended_dialog, after_due_cancel, on_success_in, after_provisional, with_invite}
@@ -59,7 +63,9 @@ use Rattle.mmtel_focus.specs.ParticipantSignals as of_seat
 use Rattle.mmtel_focus.specs.ParticipantSignals.{ParticipantSignal}
 use Rattle.mmtel_focus.specs.Participants as seats
 use Rattle.mmtel_focus.specs.Table as table
-use Rattle.mmtel_focus.specs.Table.{Table, access, conference_has_branch, is_provisional, next_room_number, open_result_at, open_result_in, participant_has_branch, place_of, step_by_branch, step_by_number, step_if_access, step_of_abandoned_response, step_of_adoption, step_of_join, step_of_notify, step_of_participant, step_of_response, step_of_signal, step_of_timeout, step_of_timeout_at, step_result_at, step_result_in}
+use Rattle.mmtel_focus.specs.Table.{Table, access, conference_has_branch, is_provisional, next_room_number, open_result_at, open_result_in, participant_has_branch}
+use Rattle.mmtel_focus.specs.Table.{place_of, step_by_branch, step_by_number, step_if_access, step_of_abandoned_response, step_of_adoption, step_of_join, step_of_notify}
+use Rattle.mmtel_focus.specs.Table.{step_of_participant, step_of_response, step_of_signal, step_of_timeout, step_of_timeout_at, step_result_at, step_result_in}
 use Rattle.mmtel_output.specs.ResponseMatching.{awaited_request_branch, timed_out_branch}
 use Rattle.mmtel_focus.specs.declared.faults.RoomFault.{RoomFault}
 use Rattle.mmtel_focus.specs.declared.signals.RoomSignal.{RoomSignal}
@@ -164,8 +170,10 @@ module _ (own : ℕ → Bool) where
   with_lines_in : (config : ConferenceConfigView) (key : TKey) (m : MessageView) (code : ℕ) (named : List Line) → Own key → Keeps (after_response config key m code named)
   with_lines_in config key m code named h place seat s is = emit_in _ s.effects.output h is
 
-  with_accepted_invite_in : (config : ConferenceConfigView) (at : ℕ) (room : RoomNo) (seat number : ℕ) (key : TKey) (m : MessageView) (tag : List ℕ) (output : StepOutput) → Own key → Sends output → Sends (with_accepted_invite config at room seat number key m tag output)
-  with_accepted_invite_in config at room seat number key m tag output h had = emit_in _ (with_contact_response (contact_value config.sip room) key m tag 200 [] sdp_lines (answer_in config.mixer m.parsed.body) output) tt (emit_in _ output h had)
+  with_accepted_invite_in : (config : ConferenceConfigView) (at : ℕ) (room : RoomNo) (seat number : ℕ) (key : TKey) (m : MessageView) (tag : List ℕ) (output : StepOutput) → Own key → Sends output →
+      Sends (with_accepted_invite config at room seat number key m tag output)
+  with_accepted_invite_in config at room seat number key m tag output h had =
+      emit_in _ (with_contact_response (contact_value config.sip room) key m tag 200 [] sdp_lines (answer_in config.mixer m.parsed.body) output) tt (emit_in _ output h had)
 
   invite_in : (config : ConferenceConfigView) (at : ℕ) (key : TKey) (m : MessageView) → Own key → Keeps (on_invite config at key m)
   invite_in config at key m h place seat s is =
@@ -188,16 +196,19 @@ module _ (own : ℕ → Bool) where
 
   at_peer_in : (config : ConferenceConfigView) (at by : ℕ) (o : Option Peer) (u : Uri) (s : StepResult) → Replied s → Replied (after_invite_if_peer config at by o u s)
   at_peer_in config at by None u s is = after_notify_to_in config false (own_status 404) by s is
-  at_peer_in config at by (Some peer) u s is = if_step (is_full s.conference) (after_failure_notify config by 503 s) (after_invite config at by peer u s) (after_notify_to_in config false (own_status 503) by s is) (after_invite_in config at by peer u s is)
+  at_peer_in config at by (Some peer) u s is = if_step (is_full s.conference) (after_failure_notify config by 503 s) (after_invite config at by peer u s)
+      (after_notify_to_in config false (own_status 503) by s is) (after_invite_in config at by peer u s is)
 
   after_refer_in : (config : ConferenceConfigView) (at by : ℕ) (o : Option Uri) (s : StepResult) → Replied s → Replied (after_refer config at by o s)
   unfolding after_refer
   after_refer_in config at by None s is = after_notify_to_in config false (own_status 404) by s is
   after_refer_in config at by (Some u) s is = at_peer_in config at by (route_of u config.peers.routes) u s is
 
-  after_join_in : (config : ConferenceConfigView) (at : ℕ) (leg : Released) (account : Option Account) (key : TKey) (m : MessageView) (s : StepResult) → Own key → Replied s → Replied (after_join config at leg account key m s)
+  after_join_in : (config : ConferenceConfigView) (at : ℕ) (leg : Released) (account : Option Account) (key : TKey) (m : MessageView) (s : StepResult) → Own key → Replied s →
+      Replied (after_join config at leg account key m s)
   unfolding after_join
-  after_join_in config at leg account key m s h is = with_accepted_invite_in config at s.conference.number (next_number s.conference.last_seat) (next_number s.conference.last_number) key m (released_leg leg).dialogue.local_tag s.effects.output h is
+  after_join_in config at leg account key m s h is = with_accepted_invite_in config at s.conference.number (next_number s.conference.last_seat) (next_number s.conference.last_number) key m
+      (released_leg leg).dialogue.local_tag s.effects.output h is
 
   after_adoption_in : (config : ConferenceConfigView) (at : ℕ) (leg : Released) (account : Option Account) (by : ℕ) (s : StepResult) → Replied s → Replied (after_adoption config at leg account by s)
   unfolding after_adoption
@@ -245,7 +256,8 @@ module _ (own : ℕ → Bool) where
 
   receiving_in : (config : ConferenceConfigView) (at : ℕ) (key : TKey) (m : MessageView) (r : Result (Unit {0}) DialogueFault) → Own key → Keeps (on_checked_request config at key m r)
   receiving_in config at key m (Err fault) h place seat s is = fault_in config key m fault h place seat s is
-  receiving_in config at key m (Ok received) h place seat s is = at_participant_in (on_request_in_order config at key m) (received_row config at key m h) place (with_participant place (participant_after_request m seat) s) is
+  receiving_in config at key m (Ok received) h place seat s is =
+      at_participant_in (on_request_in_order config at key m) (received_row config at key m h) place (with_participant place (participant_after_request m seat) s) is
 
   request_row : (config : ConferenceConfigView) (at : ℕ) (key : TKey) (m : MessageView) → Own key → Keeps (on_request config at key m)
   unfolding on_request
@@ -265,12 +277,14 @@ module _ (own : ℕ → Bool) where
   success_in : (config : ConferenceConfigView) (at : ℕ) (m : MessageView) → Keeps (on_success config at m)
   success_in config at m place seat s is =
       let next : StepResult = with_participant place (connected_participant s.conference.number at (remote_of Callee m.parsed.lines) seat) s in
-      after_notify_referrer_in config false (own_status 200) seat.by (at_participant (after_own_ack config (to_tag_of m)) place next) (at_participant_in (after_own_ack config (to_tag_of m)) (after_own_ack_in config (to_tag_of m)) place next is)
+      after_notify_referrer_in config false (own_status 200) seat.by (at_participant (after_own_ack config (to_tag_of m)) place next)
+      (at_participant_in (after_own_ack config (to_tag_of m)) (after_own_ack_in config (to_tag_of m)) place next is)
 
   without_in : (config : ConferenceConfigView) (at : ℕ) (line : List ℕ) → Keeps (after_end config at line)
   without_in config at line place seat s is = after_notify_referrer_in config false line seat.by (after_dismissal config at place seat s) (after_dismissal_in config at place seat s is)
 
-  then_without : (config : ConferenceConfigView) (at : ℕ) (line : List ℕ) (place : ℕ) (seat : ParticipantState) (invite : Option Invite) (s : StepResult) → Replied s → Replied (at_participant (after_end config at line) place (with_participant place (record seat { invite = invite }) s))
+  then_without : (config : ConferenceConfigView) (at : ℕ) (line : List ℕ) (place : ℕ) (seat : ParticipantState) (invite : Option Invite) (s : StepResult) → Replied s →
+      Replied (at_participant (after_end config at line) place (with_participant place (record seat { invite = invite }) s))
   then_without config at line place seat invite s is = at_participant_in (after_end config at line) (without_in config at line) place (with_participant place (record seat { invite = invite }) s) is
 
   with_failure_ack_in : (sip : Addr) (key : TKey) (m : MessageView) (o : Option Invite) (output : StepOutput) → Sends output → Sends (with_failure_ack sip key m o output)
@@ -287,7 +301,8 @@ module _ (own : ℕ → Bool) where
   response_row config at key m place seat s is =
       if_step (nat_lt (status_of m.parsed.start) 200) (on_provisional key place seat s) (if nat_lt (status_of m.parsed.start) 300 then on_success config at m place seat s else on_failure config at key m place seat s)
       is
-      (if_step (nat_lt (status_of m.parsed.start) 300) (on_success config at m place seat s) (on_failure config at key m place seat s) (success_in config at m place seat s is) (failure_in config at key m place seat s is))
+      (if_step (nat_lt (status_of m.parsed.start) 300) (on_success config at m place seat s) (on_failure config at key m place seat s) (success_in config at m place seat s is)
+      (failure_in config at key m place seat s is))
 
   repeat_in : (m : MessageView) (tag ack : List ℕ) → Keeps (on_retransmission m tag ack)
   repeat_in m tag ack place seat s is = if_step (is_success (status_of m.parsed.start) && bytes_eq (to_tag_of m) tag) (after_ack_retransmission ack seat s) s (emit_in _ s.effects.output tt is) is
@@ -320,9 +335,11 @@ module _ (own : ℕ → Bool) where
 
   due_row : (config : ConferenceConfigView) (at : ℕ) (what : RoomWord) → Keeps (on_due config at what)
   unfolding on_due
-  due_row config at (due.Cap number) place seat s is = if_step (not (is_connected seat) && has_outstanding_number number seat.invite) (after_ringing_limit config at place seat s) s (after_ringing_limit_in config at place seat s is) is
+  due_row config at (due.Cap number) place seat s is =
+      if_step (not (is_connected seat) && has_outstanding_number number seat.invite) (after_ringing_limit config at place seat s) s (after_ringing_limit_in config at place seat s is) is
   due_row config at (due.NoAck number) place seat s is =
-      if_step (is_ack_pending number seat.pending_ack) (after_missing_ack config at place seat s) s (after_close_with_in config at seat.number (after_dismissal config at place seat s) (after_dismissal_in config at place seat s is)) is
+      if_step (is_ack_pending number seat.pending_ack) (after_missing_ack config at place seat s) s
+      (after_close_with_in config at seat.number (after_dismissal config at place seat s) (after_dismissal_in config at place seat s is)) is
 
   -- ---- what a participant receives
 
@@ -346,7 +363,8 @@ module _ (own : ℕ → Bool) where
   abbrev KeepsRooms : (row : StepResult → StepResult) → Type 0
   KeepsRooms row = (s : StepResult) → Replied s → Replied (row s)
 
-  room_in : (row : StepResult → StepResult) (place : ℕ) (o : Option Conference) (live : List Conference) (effects : Effects) → KeepsRooms row → Sends effects.output → Sends (step_result_at row place o live effects).effects.output
+  room_in : (row : StepResult → StepResult) (place : ℕ) (o : Option Conference) (live : List Conference) (effects : Effects) → KeepsRooms row → Sends effects.output →
+      Sends (step_result_at row place o live effects).effects.output
   room_in row place None live effects k had = had
   room_in row place (Some room) live effects k had = k (record { conference = room; effects = effects }) had
 
@@ -354,7 +372,8 @@ module _ (own : ℕ → Bool) where
   in_rooms row None live effects k had = had
   in_rooms row (Some place) live effects k had = room_in row place (slice_get live place) live effects k had
 
-  stays_room : (row : StepResult → StepResult) (place : ℕ) (o : Option Conference) (live : List Conference) (effects : Effects) → KeepsRooms row → Sends effects.output → Sends (open_result_at row place o live effects).effects.output
+  stays_room : (row : StepResult → StepResult) (place : ℕ) (o : Option Conference) (live : List Conference) (effects : Effects) → KeepsRooms row → Sends effects.output →
+      Sends (open_result_at row place o live effects).effects.output
   stays_room row place None live effects k had = had
   stays_room row place (Some room) live effects k had = k (record { conference = room; effects = effects }) had
 
@@ -365,11 +384,15 @@ module _ (own : ℕ → Bool) where
   received_by_in : (config : ConferenceConfigView) (at : ℕ) (whose : ParticipantState → Bool) (received : ParticipantSignal) → SeatIsOf received → KeepsRooms (table.step_of_first config at whose received)
   received_by_in config at whose received h s is = at_place_in (step_of_participant config at received) (step_of_participant_in config at received h) (position whose s.conference.participants) s is
 
-  step_by_number_own : (config : ConferenceConfigView) (at : ℕ) (room seat : ℕ) (received : ParticipantSignal) (live : List Conference) (effects : Effects) → SeatIsOf received → Sends effects.output → Sends (step_by_number config at room seat received live effects).effects.output
-  step_by_number_own config at room seat received live effects h had = in_rooms (table.step_of_first config at (has_seat_number seat) received) (place_of room live) live effects (received_by_in config at (has_seat_number seat) received h) had
+  step_by_number_own : (config : ConferenceConfigView) (at : ℕ) (room seat : ℕ) (received : ParticipantSignal) (live : List Conference) (effects : Effects) → SeatIsOf received → Sends effects.output →
+      Sends (step_by_number config at room seat received live effects).effects.output
+  step_by_number_own config at room seat received live effects h had =
+      in_rooms (table.step_of_first config at (has_seat_number seat) received) (place_of room live) live effects (received_by_in config at (has_seat_number seat) received h) had
 
-  step_by_branch_in : (config : ConferenceConfigView) (at : ℕ) (branch : List ℕ) (received : ParticipantSignal) (live : List Conference) (effects : Effects) → SeatIsOf received → Sends effects.output → Sends (step_by_branch config at branch received live effects).effects.output
-  step_by_branch_in config at branch received live effects h had = in_rooms (table.step_of_first config at (participant_has_branch branch) received) (position (conference_has_branch branch) live) live effects (received_by_in config at (participant_has_branch branch) received h) had
+  step_by_branch_in : (config : ConferenceConfigView) (at : ℕ) (branch : List ℕ) (received : ParticipantSignal) (live : List Conference) (effects : Effects) → SeatIsOf received →
+      Sends effects.output → Sends (step_by_branch config at branch received live effects).effects.output
+  step_by_branch_in config at branch received live effects h had = in_rooms (table.step_of_first config at (participant_has_branch branch) received)
+      (position (conference_has_branch branch) live) live effects (received_by_in config at (participant_has_branch branch) received h) had
 
   -- ---- abandoned INVITEs
 
@@ -387,36 +410,45 @@ module _ (own : ℕ → Bool) where
   late_response sip key m l output had =
       let said : AbandonedInvite = after_provisional key m l in
       let known : AbandonedInvite = with_invite l (with_key key l.invite) in
-      if_rest (nat_lt (status_of m.start) 200) (after_due_cancel sip said output) (if nat_lt (status_of m.start) 300 then left_ones.on_success sip known (remote_of Callee m.lines) output else record { remaining = None; output = with_final_ack sip key l.invite m output })
-      (if_rest said.invite.cancelled (record { remaining = Some said; output = output }) (record { remaining = Some (with_invite said (record said.invite { cancelled = true })); output = with_cancel sip said.invite output }) had (emit_in _ output tt had))
+      if_rest (nat_lt (status_of m.start) 200) (after_due_cancel sip said output)
+      (if nat_lt (status_of m.start) 300 then left_ones.on_success sip known (remote_of Callee m.lines) output else record { remaining = None; output = with_final_ack sip key l.invite m output })
+      (if_rest said.invite.cancelled (record { remaining = Some said; output = output })
+      (record { remaining = Some (with_invite said (record said.invite { cancelled = true })); output = with_cancel sip said.invite output }) had (emit_in _ output tt had))
       (if_rest (nat_lt (status_of m.start) 300) (left_ones.on_success sip known (remote_of Callee m.lines) output) (record { remaining = None; output = with_final_ack sip key l.invite m output })
       (success_rest sip known (remote_of Callee m.lines) (ended_dialog known (remote_of Callee m.lines).tag) output had) (emit_in _ output tt had))
 
-  abandoned_row : (sip : Addr) (key : TKey) (m : MessageView) (place : ℕ) (o : Option AbandonedInvite) (live : List Conference) (abandoned : List AbandonedInvite) (effects : Effects) → Sends effects.output → Sends (step_of_abandoned_response sip key m place o live abandoned effects).effects.output
+  abandoned_row : (sip : Addr) (key : TKey) (m : MessageView) (place : ℕ) (o : Option AbandonedInvite) (live : List Conference) (abandoned : List AbandonedInvite) (effects : Effects) →
+      Sends effects.output → Sends (step_of_abandoned_response sip key m place o live abandoned effects).effects.output
   abandoned_row sip key m place None live abandoned effects had = had
   abandoned_row sip key m place (Some l) live abandoned effects had = late_response sip key m.parsed l effects.output had
 
-  with_contact_response_in : (config : ConferenceConfigView) (at : ℕ) (key : TKey) (m : MessageView) (branch : List ℕ) (o : Option ℕ) (live : List Conference) (abandoned : List AbandonedInvite) (effects : Effects) → Sends effects.output →
+  with_contact_response_in :
+      (config : ConferenceConfigView) (at : ℕ) (key : TKey) (m : MessageView) (branch : List ℕ) (o : Option ℕ) (live : List Conference) (abandoned : List AbandonedInvite) (effects : Effects) →
+      Sends effects.output →
       Sends (table.step_of_response_at config at key m branch o live abandoned effects).effects.output
   with_contact_response_in config at key m branch None live abandoned effects had = step_by_branch_in config at branch (of_seat.Answer key m) live effects tt had
   with_contact_response_in config at key m branch (Some place) live abandoned effects had = abandoned_row config.sip key m place (slice_get abandoned place) live abandoned effects had
 
-  step_of_response_in : (config : ConferenceConfigView) (at : ℕ) (key : TKey) (m : MessageView) (o : Option (List ℕ)) (live : List Conference) (abandoned : List AbandonedInvite) (effects : Effects) → Sends effects.output →
+  step_of_response_in : (config : ConferenceConfigView) (at : ℕ) (key : TKey) (m : MessageView) (o : Option (List ℕ)) (live : List Conference) (abandoned : List AbandonedInvite) (effects : Effects) →
+      Sends effects.output →
       Sends (step_of_response config at key m o live abandoned effects).effects.output
   step_of_response_in config at key m None live abandoned effects had = had
   step_of_response_in config at key m (Some branch) live abandoned effects had = with_contact_response_in config at key m branch (position (is_of_branch branch) abandoned) live abandoned effects had
 
-  step_of_timeout_at_in : (config : ConferenceConfigView) (at : ℕ) (branch : List ℕ) (o : Option ℕ) (live : List Conference) (abandoned : List AbandonedInvite) (effects : Effects) → Sends effects.output → Sends (step_of_timeout_at config at branch o live abandoned effects).effects.output
+  step_of_timeout_at_in : (config : ConferenceConfigView) (at : ℕ) (branch : List ℕ) (o : Option ℕ) (live : List Conference) (abandoned : List AbandonedInvite) (effects : Effects) →
+      Sends effects.output → Sends (step_of_timeout_at config at branch o live abandoned effects).effects.output
   step_of_timeout_at_in config at branch None live abandoned effects had = step_by_branch_in config at branch of_seat.Silent live effects tt had
   step_of_timeout_at_in config at branch (Some place) live abandoned effects had = had
 
-  step_of_timeout_in : (config : ConferenceConfigView) (at : ℕ) (o : Option (List ℕ)) (live : List Conference) (abandoned : List AbandonedInvite) (effects : Effects) → Sends effects.output → Sends (step_of_timeout config at o live abandoned effects).effects.output
+  step_of_timeout_in : (config : ConferenceConfigView) (at : ℕ) (o : Option (List ℕ)) (live : List Conference) (abandoned : List AbandonedInvite) (effects : Effects) → Sends effects.output →
+      Sends (step_of_timeout config at o live abandoned effects).effects.output
   step_of_timeout_in config at None live abandoned effects had = had
   step_of_timeout_in config at (Some branch) live abandoned effects had = step_of_timeout_at_in config at branch (position (is_of_branch branch) abandoned) live abandoned effects had
 
   -- ---- signals and operations
 
-  signal_in : (config : ConferenceConfigView) (at : ℕ) (x : RoomSignal) (live : List Conference) (abandoned : List AbandonedInvite) (effects : Effects) → SignalIsOf own x → Sends effects.output → Sends (step_of_signal config at x live abandoned effects).effects.output
+  signal_in : (config : ConferenceConfigView) (at : ℕ) (x : RoomSignal) (live : List Conference) (abandoned : List AbandonedInvite) (effects : Effects) → SignalIsOf own x → Sends effects.output →
+      Sends (step_of_signal config at x live abandoned effects).effects.output
   unfolding step_of_signal
   signal_in config at (signal.Request room seat key request) live abandoned effects h had = step_by_number_own config at room.0 seat (of_seat.Request key request) live effects h had
   signal_in config at (signal.Ack room seat ack) live abandoned effects h had = step_by_number_own config at room.0 seat (of_seat.Ack ack) live effects tt had
@@ -425,13 +457,15 @@ module _ (own : ℕ → Bool) where
   signal_in config at (signal.Due room seat what) live abandoned effects h had = step_by_number_own config at room.0 seat (of_seat.Due what) live effects tt had
   signal_in config at (signal.Over key) live abandoned effects h had = had
 
-  step_if_access_in : (row : StepResult → StepResult) (r : Result ℕ RoomFault) (live : List Conference) (effects : Effects) → KeepsRooms row → Sends effects.output → Sends (step_if_access row r live effects).effects.output
+  step_if_access_in : (row : StepResult → StepResult) (r : Result ℕ RoomFault) (live : List Conference) (effects : Effects) → KeepsRooms row → Sends effects.output →
+      Sends (step_if_access row r live effects).effects.output
   step_if_access_in row (Ok place) live effects k had = stays_room row place (slice_get live place) live effects k had
   step_if_access_in row (Err fault) live effects k had = had
 
   step_of_join_in : (config : ConferenceConfigView) (room : ℕ) (c : JoinRequest) (t : Table) → Own c.key → Sends (step_on_join config room c t).effects.output
   unfolding step_of_join
-  step_of_join_in config room c t h = step_if_access_in (after_join config c.at c.leg c.account c.key c.invite) (access room t.live) t.live (no_effects c.tokens) (λ s e. after_join_in config c.at c.leg c.account c.key c.invite s h e) tt
+  step_of_join_in config room c t h = step_if_access_in (after_join config c.at c.leg c.account c.key c.invite) (access room t.live) t.live (no_effects c.tokens)
+      (λ s e. after_join_in config c.at c.leg c.account c.key c.invite s h e) tt
 
   adoption_in : (config : ConferenceConfigView) (room : ℕ) (a : Adoption) (t : Table) → Sends (step_on_adopt config room a t).effects.output
   unfolding step_of_adoption
@@ -440,7 +474,8 @@ module _ (own : ℕ → Bool) where
   after_notify_of_in : (config : ConferenceConfigView) (room seat code : ℕ) (tokens : TokensView) (t : Table) → Sends (histories.step_on_notify config room seat code tokens t).effects.output
   unfolding step_of_notify
   after_notify_of_in config room seat code tokens t =
-      stays_rooms (after_notify_to config (is_provisional code) (own_status code) seat) (place_of room t.live) t.live (no_effects tokens) (λ s e. after_notify_to_in config (is_provisional code) (own_status code) seat s e) tt
+      stays_rooms (after_notify_to config (is_provisional code) (own_status code) seat) (place_of room t.live) t.live (no_effects tokens)
+      (λ s e. after_notify_to_in config (is_provisional code) (own_status code) seat s e) tt
 
   op_in : (config : ConferenceConfigView) (op : TableOp) (t : Table) → OpIsOf own op → Sends (effects_of config op t).output
   op_in config (Opens c) t h = after_join_in config c.at c.leg c.account c.key c.invite (record { conference = new_conference (next_room_number t); effects = no_effects c.tokens }) h tt

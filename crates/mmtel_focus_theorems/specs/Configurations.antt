@@ -27,7 +27,8 @@ LooksUpEqually one other uri = account_of one.accounts uri ≡ account_of other.
 
 -- so is that of the party that a REFER asks to invite
 abbrev pub RefersEqually : (one other : ConferenceConfigView) → MessageView → Type 0
-RefersEqually one other m = (uri : Uri) → is_method (codes "REFER") m.parsed.start ≡ true → referral_in m.parsed.refer_to ≡ referral.Invite (Some uri) → LooksUpEqually one other uri
+RefersEqually one other m = (uri : Uri) → is_method (codes "REFER") m.parsed.start ≡ true →
+    referral_in m.parsed.refer_to ≡ referral.Invite (Some uri) → LooksUpEqually one other uri
 
 -- nothing else that a conference receives looks up an account
 abbrev pub SignalLooksUpEqually : (one other : ConferenceConfigView) → RoomSignal → Type 0
@@ -60,4 +61,5 @@ pub record OneIsEquivalent : Type 0 where
 pub record OperationsSeeLookupsAlone : Type 0 where
   pub effects : (one other : ConferenceConfigView) (op : TableOp) (table : Table) → EqualButForAccounts one other → OpLooksUpEqually one other op →
       effects_of one op table ≡ effects_of other op table
-  pub tables : (one other : ConferenceConfigView) (op : TableOp) (table : Table) → EqualButForAccounts one other → OpLooksUpEqually one other op → table_after_op one op table ≡ table_after_op other op table
+  pub tables : (one other : ConferenceConfigView) (op : TableOp) (table : Table) → EqualButForAccounts one other →
+      OpLooksUpEqually one other op → table_after_op one op table ≡ table_after_op other op table

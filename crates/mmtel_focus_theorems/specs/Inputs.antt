@@ -63,7 +63,8 @@ pub record IsOfParticipant (t : Trust) (key : TKey) (m : RoleMessage) (seat : Pa
 
 -- by the branch, to an abandoned INVITE, or to that of a participant
 pub record IsResponseIn (t : Trust) (key : TKey) (m : RoleMessage) (branch : List ℕ) (table : Table) : Type 0 where
-  pub abandoned : (at : ℕ) (l : AbandonedInvite) → position (is_of_branch branch) table.abandoned ≡ Some at → slice_get table.abandoned at ≡ Some l → IsResponseOf t key l.invite.dialogue.peer m.role m.message
+  pub abandoned : (at : ℕ) (l : AbandonedInvite) → position (is_of_branch branch) table.abandoned ≡ Some at →
+      slice_get table.abandoned at ≡ Some l → IsResponseOf t key l.invite.dialogue.peer m.role m.message
   pub seat : (at place : ℕ) (room : Conference) (seat : ParticipantState) → position (conference_has_branch branch) table.live ≡ Some at → slice_get table.live at ≡ Some room →
       position (participant_has_branch branch) room.participants ≡ Some place → slice_get room.participants place ≡ Some seat → IsOfParticipant t key m seat
 

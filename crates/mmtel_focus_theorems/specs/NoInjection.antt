@@ -49,8 +49,10 @@ OpHasNoInjection (Drops count) = Unit {0}
 -- ---- each message that is sent is clean, whatever was done before; and no header field is taken from an ACK of a 2xx, since a conference relays no ACK
 
 abbrev pub EmitsHaveNoInjection : Type 0
-EmitsHaveNoInjection = (config : ConferenceConfigView) (ops : List TableOp) (op : TableOp) → Each OpHasNoInjection (op ∷ ops) → Each (EmitHasNoInjection []) (effects_after config ops op).output.out
+EmitsHaveNoInjection = (config : ConferenceConfigView) (ops : List TableOp) (op : TableOp) → Each OpHasNoInjection (op ∷ ops) →
+    Each (EmitHasNoInjection []) (effects_after config ops op).output.out
 
 -- and its text has its own lines
 abbrev pub EmitsHaveOwnFields : Type 0
-EmitsHaveOwnFields = (config : ConferenceConfigView) (ops : List TableOp) (op : TableOp) → Each OpHasNoInjection (op ∷ ops) → Each (SendsOwnFields []) (effects_after config ops op).output.out
+EmitsHaveOwnFields = (config : ConferenceConfigView) (ops : List TableOp) (op : TableOp) → Each OpHasNoInjection (op ∷ ops) →
+    Each (SendsOwnFields []) (effects_after config ops op).output.out

@@ -31,13 +31,15 @@ other_after far all = table_after far (map other_op all)
 -- all that is done on both
 abbrev pub AllAreEquivalent : (config far : ConferenceConfigView) → (keys : TKey → Bool) → List OpPair → Type 0
 AllAreEquivalent config far keys [] = Unit {0}
-AllAreEquivalent config far keys (ops ∷ earlier) = AreEquivalentIn config far keys ops (one_after config earlier) (other_after far earlier) × AllAreEquivalent config far keys earlier
+AllAreEquivalent config far keys (ops ∷ earlier) =
+    AreEquivalentIn config far keys ops (one_after config earlier) (other_after far earlier) × AllAreEquivalent config far keys earlier
 
 -- ---- the theorems, under two configurations that are equal but for the URIs of accounts
 
 pub record TablesStayEquivalent : Type 0 where
   -- each operation keeps tables equal but for private places
-  pub operations : (config far : ConferenceConfigView) (keys : TKey → Bool) (ops : OpPair) (one other : Table) → EqualButForAccounts config far → EquivalentConferences (trusts config) one other →
+  pub operations : (config far : ConferenceConfigView) (keys : TKey → Bool) (ops : OpPair) (one other : Table) →
+      EqualButForAccounts config far → EquivalentConferences (trusts config) one other →
       AreEquivalentIn config far keys ops one other → EquivalentConferences (trusts config) (table_after_op config (one_op ops) one) (table_after_op far (other_op ops) other)
   -- so do two lists of operations, of any length, from the empty table on
   pub traces : (config far : ConferenceConfigView) (keys : TKey → Bool) (all : List OpPair) → EqualButForAccounts config far → AllAreEquivalent config far keys all →
@@ -45,8 +47,10 @@ pub record TablesStayEquivalent : Type 0 where
 
 pub record OperationsAreSeenEqually : Type 0 where
   -- of each operation on tables that are equal but for private places the same is seen
-  pub operations : (config far : ConferenceConfigView) (keys : TKey → Bool) (ops : OpPair) (one other : Table) → EqualButForAccounts config far → EquivalentConferences (trusts config) one other →
+  pub operations : (config far : ConferenceConfigView) (keys : TKey → Bool) (ops : OpPair) (one other : Table) →
+      EqualButForAccounts config far → EquivalentConferences (trusts config) one other →
       AreEquivalentIn config far keys ops one other → EquivalentEffects (trust_of config keys) (effects_of config (one_op ops) one) (effects_of far (other_op ops) other)
   -- and of each one after two lists of them
-  pub traces : (config far : ConferenceConfigView) (keys : TKey → Bool) (ops : OpPair) (earlier : List OpPair) → EqualButForAccounts config far → AllAreEquivalent config far keys (ops ∷ earlier) →
+  pub traces : (config far : ConferenceConfigView) (keys : TKey → Bool) (ops : OpPair) (earlier : List OpPair) →
+      EqualButForAccounts config far → AllAreEquivalent config far keys (ops ∷ earlier) →
       EquivalentEffects (trust_of config keys) (effects_after config (map one_op earlier) (one_op ops)) (effects_after far (map other_op earlier) (other_op ops))

@@ -134,7 +134,8 @@ ConnectsInvited earlier (Opens coming) place = ⊥
 ConnectsInvited earlier (Joins room coming) place = ⊥
 ConnectsInvited earlier (Adopts room adoption) place = ⊥
 ConnectsInvited earlier (Notifies room seat code tokens) place = ⊥
-ConnectsInvited earlier (Receives received) place = (is_success_signal received.signal ≡ true) × ((before : ChargedParticipant) × earlier before × IsConnectedNow received.at before place)
+ConnectsInvited earlier (Receives received) place =
+    (is_success_signal received.signal ≡ true) × ((before : ChargedParticipant) × earlier before × IsConnectedNow received.at before place)
 ConnectsInvited earlier (Leaves room seat) place = ⊥
 ConnectsInvited earlier (Closes room) place = ⊥
 ConnectsInvited earlier (Drops count) place = ⊥
@@ -142,7 +143,8 @@ ConnectsInvited earlier (Drops count) place = ⊥
 -- from the operations, the newest first: it was so before the last one, or that one made it a participant, or the invited party answered
 abbrev pub IsAccountedFor : ConferenceConfigView → List TableOp → ChargedParticipant → Type 0
 IsAccountedFor config [] place = ⊥
-IsAccountedFor config (op ∷ older) place = IsAccountedFor config older place ⊎ (Admits config op (table_after config older) place ⊎ ConnectsInvited (IsAccountedFor config older) op place)
+IsAccountedFor config (op ∷ older) place = IsAccountedFor config older place
+    ⊎ (Admits config op (table_after config older) place ⊎ ConnectsInvited (IsAccountedFor config older) op place)
 
 -- ---- the CDR of a participant that leaves
 
@@ -184,4 +186,5 @@ ParticipantsAreMetered = (config : ConferenceConfigView) (ops : List TableOp) �
 
 -- each CDR that an operation files is that of such a participant
 abbrev pub RowsAreAccountedFor : Type 0
-RowsAreAccountedFor = (config : ConferenceConfigView) (ops : List TableOp) (op : TableOp) → AreRowsAccountedFor config (op ∷ ops) (moment_of op) (effects_after config ops op).output.rows
+RowsAreAccountedFor = (config : ConferenceConfigView) (ops : List TableOp) (op : TableOp) →
+    AreRowsAccountedFor config (op ∷ ops) (moment_of op) (effects_after config ops op).output.rows

@@ -29,4 +29,5 @@ OpIsOf own (Drops count) = Unit {0}
 
 -- so each response of the operation is in them, in any state of the conferences; they keep no request to respond to it later
 abbrev pub ConferencesReplyInTheirOwn : Type 0
-ConferencesReplyInTheirOwn = (own : ℕ → Bool) (config : ConferenceConfigView) (op : TableOp) (table : Table) → OpIsOf own op → Each (IsRepliedIn own) (effects_of config op table).output.out
+ConferencesReplyInTheirOwn = (own : ℕ → Bool) (config : ConferenceConfigView) (op : TableOp) (table : Table) → OpIsOf own op →
+    Each (IsRepliedIn own) (effects_of config op table).output.out

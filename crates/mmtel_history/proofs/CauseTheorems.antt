@@ -114,12 +114,14 @@ record Rebuilt (f u : List ℕ) : Type 0 where
 rebuilt : (f u : List ℕ) → IsFree 63 f → IsFree 64 f → Rebuilt f u
 rebuilt f u free clear =
     let tail : List ℕ = f ++ headers_from (split_once_at 63 (host_part u)) in
-    let tail_clear : IsFree 64 (f ++ headers_from (split_once_at 63 (host_part u))) = free_both 64 f (headers_from (split_once_at 63 (host_part u))) clear (headers_clear (host_part u) (split_once_at 63 (host_part u)) refl (host_free u)) in
+    let tail_clear : IsFree 64 (f ++ headers_from (split_once_at 63 (host_part u))) =
+    free_both 64 f (headers_from (split_once_at 63 (host_part u))) clear (headers_clear (host_part u) (split_once_at 63 (host_part u)) refl (host_free u)) in
     let host : host_part (with_host_part f u) ≡ f ++ headers_from (split_once_at 63 (host_part u)) = new_host u (f ++ headers_from (split_once_at 63 (host_part u))) tail_clear in
     let at : split_once_at 63 (host_part (with_host_part f u)) ≡ new_parts f (split_once_at 63 (host_part u)) = ap (λ (l : List ℕ). split_once_at 63 l) host ∙ split_new f (split_once_at 63 (host_part u)) free in
     record {
       user = new_user u (f ++ headers_from (split_once_at 63 (host_part u))) tail_clear;
-      front = ap (λ (l : List ℕ). prefix_or_all l (split_once_at 63 l)) host ∙ ap (λ (o : Option (List ℕ × List ℕ)). prefix_or_all (f ++ headers_from (split_once_at 63 (host_part u))) o) (split_new f (split_once_at 63 (host_part u)) free) ∙ front_new f (split_once_at 63 (host_part u));
+      front = ap (λ (l : List ℕ). prefix_or_all l (split_once_at 63 l)) host ∙ ap (λ (o : Option (List ℕ × List ℕ)). prefix_or_all (f ++ headers_from (split_once_at 63 (host_part u))) o)
+          (split_new f (split_once_at 63 (host_part u)) free) ∙ front_new f (split_once_at 63 (host_part u));
       back = ap (λ (o : Option (List ℕ × List ℕ)). rest_or_none o) at ∙ back_new f (split_once_at 63 (host_part u));
       headers = ap (λ (o : Option (List ℕ × List ℕ)). headers_from o) at ∙ headers_new f (split_once_at 63 (host_part u));
     }
@@ -185,7 +187,8 @@ cause_clear n lt = free_both 64 (codes ";cause=") (decimal n) refl (class_free D
 
 cause_rebuilt : (n : ℕ) (u : List ℕ) → n < 65536 → Rebuilt (uri_with_cause n u) u
 cause_rebuilt n u lt =
-    rebuilt (uri_with_cause n u) u (free_both 63 (host_part_without_causes (host_and_params u)) (cause_text (Some n)) (plain_free u) (cause_free n lt)) (free_both 64 (host_part_without_causes (host_and_params u)) (cause_text (Some n)) (plain_clear u) (cause_clear n lt))
+    rebuilt (uri_with_cause n u) u (free_both 63 (host_part_without_causes (host_and_params u)) (cause_text (Some n)) (plain_free u) (cause_free n lt))
+    (free_both 64 (host_part_without_causes (host_and_params u)) (cause_text (Some n)) (plain_clear u) (cause_clear n lt))
 
 -- the mark is as it was
 pub cause_keeps_mark : (n : ℕ) (u : List ℕ) → n < 65536 → is_marked (with_cause n u) ≡ is_marked u
@@ -225,13 +228,15 @@ params_with a d each =
 params_by : (n : ℕ) (u : List ℕ) → n < 65536 → uri_params (with_cause n u) ≡ filter (λ p. not (is_cause p)) (uri_params u) ++ param (decimal n) ∷ []
 unfolding with_cause
 params_by n u lt =
-    ap (λ (f : List ℕ). drop 1 (parts 59 f)) (cause_rebuilt n u lt).front ∙ params_with (host_part_without_causes (host_and_params u)) (decimal n) (decimal_digits n lt) ∙ ap (λ (l : List (List ℕ)). l ++ param (decimal n) ∷ []) (plain_params (host_and_params u))
+    ap (λ (f : List ℕ). drop 1 (parts 59 f)) (cause_rebuilt n u lt).front ∙ params_with (host_part_without_causes (host_and_params u)) (decimal n) (decimal_digits n lt)
+    ∙ ap (λ (l : List (List ℕ)). l ++ param (decimal n) ∷ []) (plain_params (host_and_params u))
 
 pub cause_theorem : (n : ℕ) (u : List ℕ) → 100 ≤ n → n ≤ 699 → cause_of (with_cause n u) ≡ Some n
 unfolding cause_of
 cause_theorem n u low high =
     let lt : n < 65536 = omega arith in
-    ap (λ (l : List (List ℕ)). cause_in (find is_cause l)) (params_by n u lt) ∙ ap (λ (o : Option (List ℕ)). cause_in o) (found (filter (λ p. not (is_cause p)) (uri_params u)) (decimal n) (none_left is_cause (uri_params u))) ∙ ap (λ (d : List ℕ). cause_number d) (value (decimal n)) ∙ number_theorem n low high
+    ap (λ (l : List (List ℕ)). cause_in (find is_cause l)) (params_by n u lt) ∙ ap (λ (o : Option (List ℕ)). cause_in o)
+    (found (filter (λ p. not (is_cause p)) (uri_params u)) (decimal n) (none_left is_cause (uri_params u))) ∙ ap (λ (d : List ℕ). cause_number d) (value (decimal n)) ∙ number_theorem n low high
 
 none_counted : (ps : List (List ℕ)) → list_any is_cause ps ≡ false → count_by is_cause ps ≡ 0
 none_counted [] none = refl
@@ -251,7 +256,8 @@ pub cause_alone : (n : ℕ) (u : List ℕ) → n < 65536 → causes_in (with_cau
 cause_alone n u lt =
     let rest : List (List ℕ) = filter (λ p. not (is_cause p)) (uri_params u) in
     let all : causes_in (with_cause n u) ≡ count_by is_cause (filter (λ p. not (is_cause p)) (uri_params u) ++ param (decimal n) ∷ []) = ap (λ (l : List (List ℕ)). count_by is_cause l) (params_by n u lt) in
-    let both : count_by is_cause (filter (λ p. not (is_cause p)) (uri_params u) ++ param (decimal n) ∷ []) ≡ count_by is_cause (filter (λ p. not (is_cause p)) (uri_params u)) + count_by is_cause (param (decimal n) ∷ []) = sum_by-append (λ x. cond (is_cause x) 1 0) (filter (λ p. not (is_cause p)) (uri_params u)) (param (decimal n) ∷ []) in
+    let both : count_by is_cause (filter (λ p. not (is_cause p)) (uri_params u) ++ param (decimal n) ∷ []) ≡ count_by is_cause (filter (λ p. not (is_cause p)) (uri_params u))
+    + count_by is_cause (param (decimal n) ∷ []) = sum_by-append (λ x. cond (is_cause x) 1 0) (filter (λ p. not (is_cause p)) (uri_params u)) (param (decimal n) ∷ []) in
     let none : count_by is_cause (filter (λ p. not (is_cause p)) (uri_params u)) ≡ 0 = none_counted (filter (λ p. not (is_cause p)) (uri_params u)) (none_left is_cause (uri_params u)) in
     let last : count_by is_cause (param (decimal n) ∷ []) ≡ 1 = rw (named (decimal n)) refl in
     omega (arith, all, both, none, last)

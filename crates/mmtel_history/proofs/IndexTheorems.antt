@@ -1,5 +1,6 @@
 -- Numbers separated by dots: they are tokens, and a number more makes such numbers again; and the first index of parameters.
-use Rattle.std.proofs.Common.{◌≡◌, ◌==◌, Bool, true, false, ◌&&◌, ℕ, ◌+◌, ◌<◌, List, [], ◌∷◌, ◌++◌, length, take, drop, get_or, Option, Some, None, refl, sym, ap, ◌∙◌, arith, inl, inr, append_assoc, take-suc, drop-cons, add-one, take_all, append-nil}
+use Rattle.std.proofs.Common.{◌≡◌, ◌==◌, Bool, true, false, ◌&&◌, ℕ, ◌+◌, ◌<◌, List, [], ◌∷◌, ◌++◌, length, take, drop, get_or, Option, Some}
+use Rattle.std.proofs.Common.{None, refl, sym, ap, ◌∙◌, arith, inl, inr, append_assoc, take-suc, drop-cons, add-one, take_all, append-nil}
 use Rattle.std.specs.Prelude.{codes}
 use Rattle.std.specs.Option.{unwrap_or}
 use Rattle.std.proofs.lemmas.Bool.{cases_Bool}
@@ -81,7 +82,8 @@ passes ps i x lt is none so_far =
     let one : drop i ps ≡ x ∷ drop (i + 1) ps = rw (add-one, drop-cons ps i x lt, sym is) refl in
     let step : without_index (x ∷ drop (i + 1) ps) ≡ x ∷ without_index (drop (i + 1) ps) = rw none refl in
     let front : take (i + 1) ps ≡ take i ps ++ x ∷ [] = rw (add-one, take-suc ps i x lt, sym is) refl in
-    so_far ∙ ap (λ (l : List Param). take i ps ++ without_index l) one ∙ ap (λ (l : List Param). take i ps ++ l) step ∙ sym (append_assoc (take i ps) (x ∷ []) (without_index (drop (i + 1) ps))) ∙ ap (λ (l : List Param). l ++ without_index (drop (i + 1) ps)) (sym front)
+    so_far ∙ ap (λ (l : List Param). take i ps ++ without_index l) one ∙ ap (λ (l : List Param). take i ps ++ l) step ∙ sym (append_assoc (take i ps) (x ∷ []) (without_index (drop (i + 1) ps)))
+    ∙ ap (λ (l : List Param). l ++ without_index (drop (i + 1) ps)) (sym front)
 
 pub stops_here : (ps : List Param) (i : ℕ) (x : Param) → i < length ps → x ≡ get_or ps i x → is_index x ≡ true → PassedBy ps i → without_index ps ≡ take i ps ++ drop (i + 1) ps
 stops_here ps i x lt is here so_far =

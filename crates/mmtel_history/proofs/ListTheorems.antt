@@ -9,7 +9,8 @@ use Rattle.std.proofs.lemmas.List.{map-append}
 use Rattle.std.proofs.lemmas.List.Sums.{sum_by-append, sum_by-cons}
 use Rattle.std.proofs.lemmas.Bool.{cases_Bool}
 use Rattle.mmtel_history.specs.EntryUri.{cause_of}
-use Rattle.mmtel_history.specs.HistoryInfo.{hidden_entry, list_marked_at, list_hidden_if, last_index, target_entry, with_target, with_first_entry, list_after_diversion, list_after_diversions, Diversion, diversions_in, is_empty, masked_uri, masked_entry, masked_list, seen_entry, unmarked_entry}
+use Rattle.mmtel_history.specs.HistoryInfo.{hidden_entry, list_marked_at, list_hidden_if, last_index, target_entry, with_target, with_first_entry, list_after_diversion}
+use Rattle.mmtel_history.specs.HistoryInfo.{list_after_diversions, Diversion, diversions_in, is_empty, masked_uri, masked_entry, masked_list, seen_entry, unmarked_entry}
 use Rattle.mmtel_history.specs.declared.entries.Entry.{Entry}
 use Rattle.mmtel_history.proofs.Marks.{length-with_target}
 
@@ -50,7 +51,8 @@ hidden_counts false h n = refl
 target_counts : (h : List Entry) (target : List ℕ) (cause : ℕ) (hide : Bool) → diversions_in (with_target h target cause hide) ≡ diversions_in h + 1
 target_counts h target cause hide =
     let new : Entry = target_entry (last_index h) target cause in
-    let both : diversions_in (with_target h target cause hide) ≡ diversions_in (list_hidden_if hide (length h - 1) h) + diversions_in (target_entry (last_index h) target cause ∷ []) = sum_by-append (λ x. cond (shows x) 1 0) (list_hidden_if hide (length h - 1) h) (target_entry (last_index h) target cause ∷ []) in
+    let both : diversions_in (with_target h target cause hide) ≡ diversions_in (list_hidden_if hide (length h - 1) h) + diversions_in (target_entry (last_index h) target cause ∷ []) =
+    sum_by-append (λ x. cond (shows x) 1 0) (list_hidden_if hide (length h - 1) h) (target_entry (last_index h) target cause ∷ []) in
     let one : diversions_in (target_entry (last_index h) target cause ∷ []) ≡ 1 = refl in
     omega (arith, both, one, hidden_counts hide h (length h - 1))
 
@@ -198,7 +200,9 @@ index_masked all h =
 
 target_equal : (all : Bool) (h : List Entry) (target : List ℕ) (cause : ℕ) (hide : Bool) → masked_list all (with_target h target cause hide) ≡ masked_list all (with_target (masked_list all h) target cause hide)
 target_equal all h target cause hide =
-    let parts : (g : List Entry) (n : ℕ) (i : List ℕ) → masked_list all (list_hidden_if hide n g ++ target_entry i target cause ∷ []) ≡ masked_list all (list_hidden_if hide n g) ++ masked_list all (target_entry i target cause ∷ []) = λ g n i. map-append (masked_entry all) (list_hidden_if hide n g) (target_entry i target cause ∷ []) in
+    let parts : (g : List Entry) (n : ℕ) (i : List ℕ) →
+    masked_list all (list_hidden_if hide n g ++ target_entry i target cause ∷ []) ≡ masked_list all (list_hidden_if hide n g) ++ masked_list all (target_entry i target cause ∷ []) =
+    λ g n i. map-append (masked_entry all) (list_hidden_if hide n g) (target_entry i target cause ∷ []) in
     parts h (length h - 1) (last_index h)
     ∙ ap (λ (l : List Entry). l ++ masked_list all (target_entry (last_index h) target cause ∷ [])) (hides_equal all hide h (length h - 1))
     ∙ sym (parts (masked_list all h) (length h - 1) (last_index h))
@@ -208,12 +212,14 @@ target_equal all h target cause hide =
 abbrev appended_from : List ℕ → List ℕ → ℕ → Bool → List Entry → List Entry
 appended_from from target cause hide h = list_after_diversion h from target cause hide
 
-pub appended_masked : (all : Bool) (h : List Entry) (from target : List ℕ) (cause : ℕ) (hide : Bool) → masked_list all (list_after_diversion h from target cause hide) ≡ masked_list all (list_after_diversion (masked_list all h) from target cause hide)
+pub appended_masked : (all : Bool) (h : List Entry) (from target : List ℕ) (cause : ℕ) (hide : Bool) →
+    masked_list all (list_after_diversion h from target cause hide) ≡ masked_list all (list_after_diversion (masked_list all h) from target cause hide)
 unfolding list_after_diversion
 appended_masked all [] from target cause hide = refl
 appended_masked all (e ∷ h) from target cause hide = target_equal all (e ∷ h) target cause hide
 
-pub appended_equal : (all : Bool) (h other : List Entry) (from target : List ℕ) (cause : ℕ) (hide : Bool) → masked_list all other ≡ masked_list all h → masked_list all (list_after_diversion h from target cause hide) ≡ masked_list all (list_after_diversion other from target cause hide)
+pub appended_equal : (all : Bool) (h other : List Entry) (from target : List ℕ) (cause : ℕ) (hide : Bool) → masked_list all other ≡ masked_list all h →
+    masked_list all (list_after_diversion h from target cause hide) ≡ masked_list all (list_after_diversion other from target cause hide)
 appended_equal all h other from target cause hide same =
     appended_masked all h from target cause hide ∙ ap (λ (l : List Entry). masked_list all (list_after_diversion l from target cause hide)) (sym same) ∙ sym (appended_masked all other from target cause hide)
 

@@ -69,7 +69,8 @@ reads_escape i s lt begins so_far =
     let step : escaped_parts (get_or s i 0 ∷ drop (suc i) s) ≡ [] ∷ escaped_from 2 (drop (suc i) s) = rw here refl in
     let more : escaped_from 2 (drop (suc i) s) ≡ escaped_parts (drop 3 (drop i s)) = passed 2 (drop (suc i) s) ∙ ap (λ (l : List ℕ). escaped_parts (drop 3 l)) (sym one) in
     rw (drop_min 3 (drop i s))
-    (so_far ∙ ap (λ (l : List ℕ). onto_front (take i s) (escaped_parts l)) one ∙ ap (λ (l : List (List ℕ)). onto_front (take i s) l) step ∙ ap (λ (l : List ℕ). l ∷ escaped_from 2 (drop (suc i) s)) (append-nil (take i s)) ∙ ap (λ (l : List (List ℕ)). take i s ∷ l) more)
+    (so_far ∙ ap (λ (l : List ℕ). onto_front (take i s) (escaped_parts l)) one ∙ ap (λ (l : List (List ℕ)). onto_front (take i s) l) step
+    ∙ ap (λ (l : List ℕ). l ∷ escaped_from 2 (drop (suc i) s)) (append-nil (take i s)) ∙ ap (λ (l : List (List ℕ)). take i s ∷ l) more)
 
 pub reads_all : (i : ℕ) (s : List ℕ) → i ≡ length s → Reads i s → escaped_parts s ≡ s ∷ []
 reads_all i s e so_far =

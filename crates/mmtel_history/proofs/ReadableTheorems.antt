@@ -22,7 +22,8 @@ use Rattle.mmtel_lex.proofs.NameAddrTheorems.{name_addr_takes}
 use Rattle.mmtel_message.specs.Entries.{is_dotted, is_indexed}
 use Rattle.mmtel_lex.specs.UriParts.{prefix_or_all, user_part, host_part, host_and_params, uri_params}
 use Rattle.mmtel_history.specs.EntryUri.{is_cause, cause_in, cause_number, from_hundred, cause_of, hides, is_marked, headers_from, host_part_without_causes, with_host_part, cause_text, with_cause}
-use Rattle.mmtel_history.specs.HistoryInfo.{index_of, without_index, entry_with, entry_in, entry_of, entries_of, anonymous, masked_uri, masked_list, hidden_entry, list_marked_at, list_hidden_if, with_first_entry, last_index, target_entry, with_target, list_after_diversion, IsReadable, AreReadable, IsUriText, IsTarget}
+use Rattle.mmtel_history.specs.HistoryInfo.{index_of, without_index, entry_with, entry_in, entry_of, entries_of, anonymous, masked_uri, masked_list, hidden_entry, list_marked_at}
+use Rattle.mmtel_history.specs.HistoryInfo.{list_hidden_if, with_first_entry, last_index, target_entry, with_target, list_after_diversion, IsReadable, AreReadable, IsUriText, IsTarget}
 use Rattle.mmtel_history.specs.declared.entries.Entry.{Entry}
 use Rattle.mmtel_history.proofs.CauseTheorems.{cause_theorem, cause_keeps_mark, decimal_digits}
 use Rattle.mmtel_history.proofs.HostPartTheorems.{plain_all}
@@ -127,7 +128,8 @@ put_all : (u f : List ℕ) → IsAll UriByte u → IsAll UriByte f → IsAll Uri
 put_all u f all front =
     let whole : IsAll UriByte (user_part u ++ host_part u) = subst (λ (l : List ℕ). IsAll UriByte l) (whole_uri u) all in
     let both = split_all (user_part u) (host_part u) whole in
-    both_all (user_part u) (f ++ headers_from (split_once_at 63 (host_part u))) both.0 (both_all f (headers_from (split_once_at 63 (host_part u))) front (headers_all (host_part u) (split_once_at 63 (host_part u)) refl both.1))
+    both_all (user_part u) (f ++ headers_from (split_once_at 63 (host_part u))) both.0
+    (both_all f (headers_from (split_once_at 63 (host_part u))) front (headers_all (host_part u) (split_once_at 63 (host_part u)) refl both.1))
 
 own_front : (u : List ℕ) → IsAll UriByte u → IsAll UriByte (host_part_without_causes (host_and_params u))
 own_front u all =
@@ -168,7 +170,8 @@ target_readable index target cause dotted is =
 
 with_readable : (h : List Entry) (target : List ℕ) (cause : ℕ) (hide : Bool) → 0 < length h → AreReadable h → IsTarget target cause → AreReadable (with_target h target cause hide)
 with_readable h target cause hide filled are is =
-    readable_append (list_hidden_if hide (length h - 1) h) (target_entry (last_index h) target cause ∷ []) (hidden_if_readable hide h (length h - 1) are) (target_readable (last_index h) target cause (last_dotted h filled are) is, tt)
+    readable_append (list_hidden_if hide (length h - 1) h) (target_entry (last_index h) target cause ∷ []) (hidden_if_readable hide h (length h - 1) are)
+    (target_readable (last_index h) target cause (last_dotted h filled are) is, tt)
 
 started_filled : (from : List ℕ) (h : List Entry) → 0 < length (with_first_entry from h)
 started_filled from [] = omega arith

@@ -31,10 +31,13 @@ mark_by h None e =
     record { front = rw (at, e) refl; hidden = rw at mark_hides }
 mark_by h (Some x) e =
     let t : List ℕ = codes "&Privacy=history" in
-    let whole : h ++ codes "&Privacy=history" ≡ x.0 ++ 63 ∷ (x.1 ++ codes "&Privacy=history") = ap (λ (l : List ℕ). l ++ codes "&Privacy=history") (split_takes 63 h x e) ∙ append_assoc x.0 (63 ∷ x.1) (codes "&Privacy=history") in
-    let at : split_once_at 63 (h ++ codes "&Privacy=history") ≡ Some (x.0, x.1 ++ codes "&Privacy=history") = ap (λ (l : List ℕ). split_once_at 63 l) whole ∙ split_again 63 x.0 (x.1 ++ codes "&Privacy=history") (split_front 63 h x e) in
+    let whole : h ++ codes "&Privacy=history" ≡ x.0 ++ 63 ∷ (x.1 ++ codes "&Privacy=history") =
+    ap (λ (l : List ℕ). l ++ codes "&Privacy=history") (split_takes 63 h x e) ∙ append_assoc x.0 (63 ∷ x.1) (codes "&Privacy=history") in
+    let at : split_once_at 63 (h ++ codes "&Privacy=history") ≡ Some (x.0, x.1 ++ codes "&Privacy=history") =
+    ap (λ (l : List ℕ). split_once_at 63 l) whole ∙ split_again 63 x.0 (x.1 ++ codes "&Privacy=history") (split_front 63 h x e) in
     let cut : parts 38 (x.1 ++ codes "&Privacy=history") ≡ parts 38 x.1 ++ parts 38 (codes "Privacy=history") = parts_more 38 x.1 (codes "Privacy=history") in
-    let last : list_any hides (parts 38 x.1 ++ parts 38 (codes "Privacy=history")) ≡ true = list_any-append hides (parts 38 x.1) (parts 38 (codes "Privacy=history")) ∙ ap (λ (b : Bool). list_any hides (parts 38 x.1) || b) mark_hides ∙ or-true (list_any hides (parts 38 x.1)) in
+    let last : list_any hides (parts 38 x.1 ++ parts 38 (codes "Privacy=history")) ≡ true =
+    list_any-append hides (parts 38 x.1) (parts 38 (codes "Privacy=history")) ∙ ap (λ (b : Bool). list_any hides (parts 38 x.1) || b) mark_hides ∙ or-true (list_any hides (parts 38 x.1)) in
     record { front = rw (at, e) refl; hidden = rw at (ap (λ (l : List (List ℕ)). list_any hides l) cut ∙ last) }
 
 pub same_cause : (u v : List ℕ) → text_before 63 (host_part u) ≡ text_before 63 (host_part v) → cause_of u ≡ cause_of v

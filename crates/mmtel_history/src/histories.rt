@@ -1,6 +1,7 @@
 //! The list of entries.
 ghost use Rattle.std.specs.Prelude.{if◌then◌else◌, ℕ, List, Bool, true, None, map, slice_set, ◌≡◌, ◌+◌, ◌++◌, ◌∷◌, ◌≤◌, ◌<◌, [], length, IfOk, IfErr, OnOk, OnErr, take};
-ghost use Rattle.mmtel_history.specs.HistoryInfo.{IsEntriesResult, entries_result, list_marked_at, list_hidden_if, last_index, with_target, list_after_diversion, history_for_caller, list_after_diversions, Diversion};
+ghost use Rattle.mmtel_history.specs.HistoryInfo.{IsEntriesResult, entries_result, list_marked_at, list_hidden_if, last_index};
+ghost use Rattle.mmtel_history.specs.HistoryInfo.{with_target, list_after_diversion, history_for_caller, list_after_diversions, Diversion};
 ghost use Rattle.mmtel_history.specs.HistoryInfo.{diversions_in, diversions_so_far, is_empty, masked_list, seen_entry, unmarked_entry, hidden_entry_if, AreReadable, IsUriText};
 ghost use Rattle.mmtel_history.specs.HistoryInfo.{IsTarget};
 ghost use Rattle.mmtel_history.specs.EntryUri.{cause_of};

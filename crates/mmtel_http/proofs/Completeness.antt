@@ -1,5 +1,6 @@
 -- What follows a whole request changes nothing of it.
-use Rattle.std.proofs.Common.{◌≡◌, ◌≤◌, ◌<◌, ◌-◌, ◌+◌, ◌==◌, ◌∙◌, Bool, true, false, ℕ, zero, suc, List, [], ◌∷◌, ◌++◌, length, take, drop, Option, Some, None, refl, sym, ap, subst, nat_lt, arith, inl, inr, append-nil, codes, map}
+use Rattle.std.proofs.Common.{◌≡◌, ◌≤◌, ◌<◌, ◌-◌, ◌+◌, ◌==◌, ◌∙◌, Bool, true, false, ℕ, zero, suc, List, [], ◌∷◌, ◌++◌, length}
+use Rattle.std.proofs.Common.{take, drop, Option, Some, None, refl, sym, ap, subst, nat_lt, arith, inl, inr, append-nil, codes, map}
 use Rattle.std.proofs.lemmas.Bool.{cases_Bool, lt-ltb}
 use Rattle.std.proofs.lemmas.Bool.Decides.{nat_tests}
 use Rattle.std.proofs.lemmas.List.{take-append-drop, take-append-le, take_all, drop-append-le, length-append, length-take}
@@ -8,7 +9,8 @@ use Rattle.std.specs.Option.{option_map, option_map_or}
 use Rattle.httparse.specs.Grammar.{RequestHead}
 use Rattle.httparse.specs.Spans.{name_and_value}
 use Rattle.mmtel_http.specs.Heads.{head_of}
-use Rattle.mmtel_http.specs.Requests.{HttpRequestView, unfinished, bad, max_body, request_by_codings, request_by_end, request_by_head, request_by_lengths, head_end, head_size, is_decimal_number, lines_of, request_of, sole_value, seen_after, values_named, head_window, with_body, with_first, with_size}
+use Rattle.mmtel_http.specs.Requests.{HttpRequestView, unfinished, bad, max_body, request_by_codings, request_by_end, request_by_head, request_by_lengths, head_end}
+use Rattle.mmtel_http.specs.Requests.{head_size, is_decimal_number, lines_of, request_of, sole_value, seen_after, values_named, head_window, with_body, with_first, with_size}
 use Rattle.mmtel_http.specs.Completeness.{CompleteRequestsAreFinal, UnfinishedIsShort}
 use Rattle.mmtel_base.proofs.NumberTheorems.{number_takes}
 use Rattle.mmtel_base.specs.Numbers.{number_of}
@@ -214,7 +216,8 @@ module _ (front more : List ℕ) where
   ]
 
   -- one did
-  some_is_final : (n : ℕ) → head_end (take head_window front) ≡ Some n → (request_by_end front (Some n) ≡ unfinished → ⊥) → request_by_end (front ++ more) (head_end (take head_window (front ++ more))) ≡ request_by_end front (Some n)
+  some_is_final : (n : ℕ) → head_end (take head_window front) ≡ Some n → (request_by_end front (Some n) ≡ unfinished → ⊥) →
+      request_by_end (front ++ more) (head_end (take head_window (front ++ more))) ≡ request_by_end front (Some n)
   some_is_final n e whole =
       let window_is = window_more front more in
       let there : head_end (take head_window (front ++ more)) ≡ Some n = ap head_end window_is.1 ∙ end_is_final (take head_window front) window_is.0 n e in
@@ -226,7 +229,8 @@ module _ (front more : List ℕ) where
       ∙ (ap (request_by_head (head_of (take n front)) n) (drop-append-le n front more less)
       ∙ head_is_final more (head_of (take n front)) n (drop n front) whole))
 
-  by_end_is_final : (o : Option ℕ) → head_end (take head_window front) ≡ o → (request_by_end front o ≡ unfinished → ⊥) → request_by_end (front ++ more) (head_end (take head_window (front ++ more))) ≡ request_by_end front o
+  by_end_is_final : (o : Option ℕ) → head_end (take head_window front) ≡ o → (request_by_end front o ≡ unfinished → ⊥) →
+      request_by_end (front ++ more) (head_end (take head_window (front ++ more))) ≡ request_by_end front o
   by_end_is_final None e whole = none_is_final e whole
   by_end_is_final (Some n) e whole = some_is_final n e whole
 

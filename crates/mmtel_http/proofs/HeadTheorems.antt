@@ -1,5 +1,6 @@
 -- The total function accepts what the grammar generates.
-use Rattle.std.proofs.Common.{◌≡◌, ◌<◌, ◌≤◌, ◌+◌, ◌==◌, ◌&&◌, Bool, true, false, ℕ, zero, suc, List, [], ◌∷◌, ◌++◌, length, length-append, Option, Some, None, refl, sym, ap, subst, ◌∙◌, nat_lt, nat_le, arith, inl, inr, codes, append_assoc, cond}
+use Rattle.std.proofs.Common.{◌≡◌, ◌<◌, ◌≤◌, ◌+◌, ◌==◌, ◌&&◌, Bool, true, false, ℕ, zero, suc, List, [], ◌∷◌, ◌++◌, length, length-append}
+use Rattle.std.proofs.Common.{Option, Some, None, refl, sym, ap, subst, ◌∙◌, nat_lt, nat_le, arith, inl, inr, codes, append_assoc, cond}
 use Rattle.std.proofs.lemmas.Bool.{cases_Bool, eqb-true, and_parts, ltb-true, leb-true, lt-ltb, le-leb, eq-eqb, or_parts}
 use Rattle.std.proofs.lemmas.List.Elements.{All-nil, All-cons, All-head, All-tail}
 use Rattle.std.proofs.lemmas.Str.{IsUtf8-from_is_utf8, is_utf8-from_IsUtf8}
@@ -10,7 +11,8 @@ use Rattle.httparse.specs.Pieces.{Piece, Then, Stops, is_newline, Newline, Blank
 use Rattle.std.specs.List.{flat_map}
 use Rattle.httparse.proofs.PieceLemmas.{space_ends_token, colon_ends_token, print_field-append, Stops-FieldLine}
 use Rattle.httparse.proofs.GrammarLemmas.{request_pieces, request_from_pieces}
-use Rattle.mmtel_http.specs.Heads.{Reader, read_then, rest_after, line_feed_at, newline_at, blanks_at, run_at, word_at, target_at, minor_at, version_at, text_at, field_at, or_else, lines_at, section_at, Parts, parts_at, head_from, head_of_parts, head_of}
+use Rattle.mmtel_http.specs.Heads.{Reader, read_then, rest_after, line_feed_at, newline_at, blanks_at, run_at, word_at, target_at, minor_at}
+use Rattle.mmtel_http.specs.Heads.{version_at, text_at, field_at, or_else, lines_at, section_at, Parts, parts_at, head_from, head_of_parts, head_of}
 
 -- the reader returns the element where there is one
 pub record Reads {A : Type 0} (G : Piece A) (read : Reader A) : Type 0 where

@@ -1,5 +1,6 @@
 -- What the router of the three routes finds: the routes of the definition, for every path.
-use Rattle.std.proofs.Common.{◌≡◌, ℕ, ◌-◌, ◌<◌, ◌==◌, ◌&&◌, suc, zero, List, [], ◌∷◌, ◌++◌, Option, Some, None, Bool, true, false, cond, refl, sym, ap, ◌∙◌, arith, length, codes, nat_lt, get_or, inl, inr, take, drop, MatchOption, ◌⊎◌}
+use Rattle.std.proofs.Common.{◌≡◌, ℕ, ◌-◌, ◌<◌, ◌==◌, ◌&&◌, suc, zero, List, [], ◌∷◌, ◌++◌, Option, Some, None, Bool, true, false}
+use Rattle.std.proofs.Common.{cond, refl, sym, ap, ◌∙◌, arith, length, codes, nat_lt, get_or, inl, inr, take, drop, MatchOption, ◌⊎◌}
 use Rattle.std.proofs.lemmas.Bool.Decides.{nat_tests}
 use Rattle.std.proofs.lemmas.Bool.{cases_Bool, and_parts}
 use Rattle.std.specs.List.{list_all}
@@ -162,14 +163,17 @@ module _ {K : Type 0} where
   seek-word (x ∷ w) t k (b ∷ path) h =
       let parts = and_parts (nat_lt x 256) (list_all (λ x. nat_lt x 256) w) h in
       let low : x < 256 = grind (arith, nat_tests, parts.0) in
-      seek-byte x (w ++ t) k b path low ∙ (elim (x == b) as (λ c. cond c (seek 0 ((w ++ t, k) ∷ []) path) None ≡ after_or (cond c (after w path) None) (λ rest. seek 0 ((t, k) ∷ []) rest)) [ true ↦ seek-word w t k path parts.1 | false ↦ refl ])
+      seek-byte x (w ++ t) k b path low
+      ∙ (elim (x == b) as (λ c. cond c (seek 0 ((w ++ t, k) ∷ []) path) None ≡ after_or (cond c (after w path) None) (λ rest. seek 0 ((t, k) ∷ []) rest)) [ true ↦ seek-word w t k path parts.1 | false ↦ refl ])
 
   -- a parameter takes the rest of the path
   abbrev rest_of : K → List ℕ → Option K
   rest_of k [] = None
   rest_of k (b ∷ path) = cond (has_slash (b ∷ path)) None (Some k)
 
-  pick-rest : (k : K) (path : List ℕ) (c : Bool) → seek_words.or_else (seek ((cond {A = ℕ × RowsOf K} c (0, []) (suc (length path), ([], k) ∷ [])).0 - 1) (cond {A = ℕ × RowsOf K} c (0, []) (suc (length path), ([], k) ∷ [])).1 path) None ≡ cond c None (Some k)
+  pick-rest : (k : K) (path : List ℕ) (c : Bool) →
+      seek_words.or_else (seek ((cond {A = ℕ × RowsOf K} c (0, []) (suc (length path), ([], k) ∷ [])).0 - 1) (cond {A = ℕ × RowsOf K} c (0, []) (suc (length path), ([], k) ∷ [])).1 path) None
+      ≡ cond c None (Some k)
   pick-rest k path true = ap (λ o. seek_words.or_else o None) (seek-none (0 - 1) path)
   pick-rest k path false =
       let n : suc (length path) - 1 ≡ length path = omega arith in

@@ -31,7 +31,8 @@ torn_written at new d =
 
 contents_are_possible : (calls : List DiskOp) (bytes : List ℕ) (P : List ℕ → Type 0) → P bytes → crash_images_after bytes P calls (bytes_after_ops bytes calls)
 contents_are_possible [] bytes P has = has
-contents_are_possible (Wrote at new ∷ calls) bytes P has = contents_are_possible calls (with_write bytes at new.items) (AfterWrite at new.items P) (bytes, has, torn_written at new.items bytes)
+contents_are_possible (Wrote at new ∷ calls) bytes P has =
+    contents_are_possible calls (with_write bytes at new.items) (AfterWrite at new.items P) (bytes, has, torn_written at new.items bytes)
 contents_are_possible (Tore at new ∷ calls) bytes P has = contents_are_possible calls bytes (AfterWrite at new.items P) (bytes, has, torn_same at (length new.items) bytes)
 contents_are_possible (Synced ∷ calls) bytes P has = contents_are_possible calls bytes (λ d. d ≡ bytes) refl
 contents_are_possible (Unchanged ∷ calls) bytes P has = contents_are_possible calls bytes P has

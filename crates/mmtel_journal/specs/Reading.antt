@@ -21,7 +21,8 @@ IsNoRecord tail = (payload rest : List ℕ) → length payload < 2 ^ 64 → IsPa
 -- after the records of some payloads there is nothing at this position, or an open gate without a record after it
 abbrev pub IsBrokenAt : List ℕ → ℕ → Type 0
 IsBrokenAt bytes at =
-    (payloads : List (List ℕ)) × (rest : List ℕ) × (held : KeeperContents) × AddsAll payloads no_contents held × (bytes ≡ encoded_records payloads ++ rest) × (at ≡ length (encoded_records payloads))
+    (payloads : List (List ℕ)) × (rest : List ℕ) × (held : KeeperContents) × AddsAll payloads no_contents held
+    × (bytes ≡ encoded_records payloads ++ rest) × (at ≡ length (encoded_records payloads))
     × ((rest ≡ []) ⊎ ((tail : List ℕ) × (rest ≡ 1 ∷ tail) × IsNoRecord tail))
 
 -- used between the functions of this crate only

@@ -81,7 +81,8 @@ via_again sip branch is low token =
     ap via_at (via_whole sip branch) ∙ written_reads (codes "UDP") (ip_text sip.ip) sip.port (branch_of branch ∷ []) udp_token host (ip_length sip.ip is.bytes) low is.port are
 
 -- the Via of a request that is built
-pub via_read : (d : Dialogue) (number : ℕ) (method : List ℕ) (given : RequestPartsView) → IsSource given.sip → 0 < given.sip.port → IsToken given.branch → via_in (request_numbered d number method given).lines ≡ Some (via_of given.sip given.branch)
+pub via_read : (d : Dialogue) (number : ℕ) (method : List ℕ) (given : RequestPartsView) → IsSource given.sip → 0 < given.sip.port → IsToken given.branch →
+    via_in (request_numbered d number method given).lines ≡ Some (via_of given.sip given.branch)
 unfolding line
 via_read d number method given is low token =
     let again = via_again given.sip given.branch is low token in
@@ -125,7 +126,8 @@ in_content name method sip shown body is none =
     let no_way : lines_named name contact ≡ [] = no_contact name (contact_text sip) (is_contacting method && not (has_line (codes "Contact") shown)) is.contact in
     rw (cut name contact (shown ++ last), cut name shown last, no_way, named_none name shown none, one_none name (codes "Content-Length") size is.length) refl
 
-once : (name : List ℕ) (d : Dialogue) (number : ℕ) (method : List ℕ) (given : RequestPartsView) (l : Line) → IsApart name → lines_named name (dialog_lines d number method) ≡ l ∷ [] → has_line name given.shown ≡ false → only_value name (request_numbered d number method given).lines ≡ Some l.1
+once : (name : List ℕ) (d : Dialogue) (number : ℕ) (method : List ℕ) (given : RequestPartsView) (l : Line) → IsApart name → lines_named name (dialog_lines d number method) ≡ l ∷ [] →
+    has_line name given.shown ≡ false → only_value name (request_numbered d number method given).lines ≡ Some l.1
 once name d number method given l is own none =
     let routing : List Line = routing_lines d.routes given.sip given.hops given.branch in
     let dialog : List Line = dialog_lines d number method in
@@ -139,7 +141,8 @@ from_once : (d : Dialogue) (number : ℕ) (method : List ℕ) (given : RequestPa
 unfolding line
 from_once d number method given are = once (codes "From") d number method given (codes "From", d.local) (record { via = refl; route = refl; hops = refl; contact = refl; length = refl }) refl are.from
 
-to_once : (d : Dialogue) (number : ℕ) (method : List ℕ) (given : RequestPartsView) → AreOthers given.shown → only_value (codes "To") (request_numbered d number method given).lines ≡ Some (to_text d.side d.remote d.remote_tag)
+to_once : (d : Dialogue) (number : ℕ) (method : List ℕ) (given : RequestPartsView) → AreOthers given.shown →
+    only_value (codes "To") (request_numbered d number method given).lines ≡ Some (to_text d.side d.remote d.remote_tag)
 unfolding line
 to_once d number method given are = once (codes "To") d number method given (codes "To", to_text d.side d.remote d.remote_tag) (record { via = refl; route = refl; hops = refl; contact = refl; length = refl }) refl are.to
 
@@ -153,17 +156,21 @@ cseq_once d number method given are = once (codes "CSeq") d number method given 
 
 -- ---- the five fields
 
-parties_read : (d : Dialogue) (number : ℕ) (method : List ℕ) (given : RequestPartsView) (from to : NameAddr) → name_addr_of d.local ≡ Some from → name_addr_of (to_text d.side d.remote d.remote_tag) ≡ Some to → AreOthers given.shown → parties_in (request_numbered d number method given).lines ≡ Some (from, to)
+parties_read : (d : Dialogue) (number : ℕ) (method : List ℕ) (given : RequestPartsView) (from to : NameAddr) → name_addr_of d.local ≡ Some from →
+    name_addr_of (to_text d.side d.remote d.remote_tag) ≡ Some to → AreOthers given.shown → parties_in (request_numbered d number method given).lines ≡ Some (from, to)
 unfolding parties_in
 parties_read d number method given from to x y are =
     rw (from_once d number method given are, x, to_once d number method given are, y) refl
 
-call_read : (d : Dialogue) (number : ℕ) (method : List ℕ) (given : RequestPartsView) → 0 < length d.call_id → number < 2 ^ 31 → IsToken method → AreOthers given.shown → call_in (request_numbered d number method given).lines ≡ Some (d.call_id, record { number = number; method = method })
+call_read : (d : Dialogue) (number : ℕ) (method : List ℕ) (given : RequestPartsView) → 0 < length d.call_id → number < 2 ^ 31 → IsToken method → AreOthers given.shown →
+    call_in (request_numbered d number method given).lines ≡ Some (d.call_id, record { number = number; method = method })
 unfolding call_in
 call_read d number method given filled small token are =
     rw (call_id_once d number method given are, filled_test (length d.call_id) filled, cseq_once d number method given are, cseq_again number method small token) refl
 
-pub five_read : (d : Dialogue) (number : ℕ) (method : List ℕ) (given : RequestPartsView) (from to : NameAddr) → name_addr_of d.local ≡ Some from → name_addr_of (to_text d.side d.remote d.remote_tag) ≡ Some to → 0 < length d.call_id → number < 2 ^ 31 → IsToken method → IsToken given.branch → IsSource given.sip → 0 < given.sip.port → AreOthers given.shown → five_at (request_numbered d number method given).lines ≡ Some (five_of d number method given from to)
+pub five_read : (d : Dialogue) (number : ℕ) (method : List ℕ) (given : RequestPartsView) (from to : NameAddr) → name_addr_of d.local ≡ Some from →
+    name_addr_of (to_text d.side d.remote d.remote_tag) ≡ Some to → 0 < length d.call_id → number < 2 ^ 31 → IsToken method → IsToken given.branch → IsSource given.sip → 0 < given.sip.port →
+    AreOthers given.shown → five_at (request_numbered d number method given).lines ≡ Some (five_of d number method given from to)
 unfolding five_at
 five_read d number method given from to x y filled small token branch is low are =
     rw (via_read d number method given is low branch, parties_read d number method given from to x y are, call_read d number method given filled small token are) refl

@@ -10,7 +10,9 @@ behind_routes : (name : List ℕ) (routes : List (List ℕ)) (ls : List Line) �
 behind_routes name [] ls other = refl
 behind_routes name (route ∷ routes) ls other = rw other (behind_routes name routes ls other)
 
-behind_routing : (name : List ℕ) (routes : List (List ℕ)) (sip : Addr) (hops : ℕ) (branch : List ℕ) (ls : List Line) → str_eq_ignore_ascii_case (codes "Via") name ≡ false → str_eq_ignore_ascii_case (codes "Route") name ≡ false → str_eq_ignore_ascii_case (codes "Max-Forwards") name ≡ false → first_value name (routing_lines routes sip hops branch ++ ls) ≡ first_value name ls
+behind_routing : (name : List ℕ) (routes : List (List ℕ)) (sip : Addr) (hops : ℕ) (branch : List ℕ) (ls : List Line) → str_eq_ignore_ascii_case (codes "Via") name ≡ false →
+    str_eq_ignore_ascii_case (codes "Route") name ≡ false → str_eq_ignore_ascii_case (codes "Max-Forwards") name ≡ false →
+    first_value name (routing_lines routes sip hops branch ++ ls) ≡ first_value name ls
 unfolding line
 behind_routing name routes sip hops branch ls via route forwards =
     rw (via, append_assoc (map route_line routes) ((codes "Max-Forwards", decimal hops) ∷ []) ls, behind_routes name routes ((codes "Max-Forwards", decimal hops) ∷ ls) route, forwards) refl

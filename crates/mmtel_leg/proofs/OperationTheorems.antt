@@ -32,8 +32,10 @@ counted_from : (leg : Leg) (ops : List LegOperation) (n : ℕ) → leg.dialogue.
 counted_from leg [] n own few = tt
 counted_from leg (LearnsRemote remote ∷ ops) n own few = counted_from (after_operation leg (LearnsRemote remote)) ops n own few
 counted_from leg (SendsRequest method given ∷ ops) n own few =
-    let next : next_number leg.dialogue.local_cseq ≡ n + 1 = omega arith in
-    ((method, cseq leg.dialogue (next_number leg.dialogue.local_cseq) method given ∙ ap (λ (k : ℕ). Some (cseq_text k method)) next), counted_from (after_operation leg (SendsRequest method given)) ops (n + 1) next (omega arith))
+    let next : next_number leg.dialogue.local_cseq ≡ n + 1 = omega arith in (
+      (method, cseq leg.dialogue (next_number leg.dialogue.local_cseq) method given ∙ ap (λ (k : ℕ). Some (cseq_text k method)) next),
+      counted_from (after_operation leg (SendsRequest method given)) ops (n + 1) next (omega arith),
+    )
 counted_from leg (ReceivesRequest request busy ∷ ops) n own few =
     counted_from (after_operation leg (ReceivesRequest request busy)) ops n (own_stays (receive_result leg.dialogue request busy) leg.dialogue request ∙ own) few
 counted_from leg (SwapsMeter meter ∷ ops) n own few = counted_from (after_operation leg (SwapsMeter meter)) ops n own few

@@ -49,7 +49,8 @@ unfolding number_in
 number_of_request d n method given = ap (λ (o : Option (List ℕ)). o >>= number_at) (cseq d (next_number d.local_cseq) method given)
 
 -- a number that is read is k, which is not less than the one that was received
-in_turn : (o last : Option ℕ) (n k : ℕ) (invite : Bool) → ((j : ℕ) → o ≡ Some j → j ≡ k) → n ≤ k → IsNotBelow last (Some n) → (unless_old o last (unless_busy invite in_flight.None) ≡ Ok tt) × IsNotBelow (last_after o last) (Some k)
+in_turn : (o last : Option ℕ) (n k : ℕ) (invite : Bool) → ((j : ℕ) → o ≡ Some j → j ≡ k) → n ≤ k → IsNotBelow last (Some n) →
+    (unless_old o last (unless_busy invite in_flight.None) ≡ Ok tt) × IsNotBelow (last_after o last) (Some k)
 in_turn None None n k invite is le below = (refl, tt)
 in_turn None (Some l) n k invite is le below = (refl, omega arith)
 in_turn (Some j) None n k invite is le below =
@@ -103,13 +104,15 @@ invited_stays leg (SwapsMeter meter ∷ ops) others = invited_stays (after_opera
 ack_has : (d : Dialogue) (n : ℕ) (ack : RequestPartsView) → d.invite_cseq ≡ Some n → HasNumber n (ack_of d ack)
 ack_has d n ack e = (codes "ACK", cseq d (unwrap_or d.invite_cseq 0) (codes "ACK") ack ∙ ap (λ (o : Option ℕ). Some (cseq_text (unwrap_or o 0) (codes "ACK"))) e)
 
-pub made : (leg : Leg) (invite ack : RequestPartsView) (ops : List LegOperation) → list_all is_not_invite ops ≡ true → HaveOneNumber (request_of leg.dialogue (codes "INVITE") invite) (ack_of (after_operations (after_operation leg (SendsRequest (codes "INVITE") invite)) ops).dialogue ack)
+pub made : (leg : Leg) (invite ack : RequestPartsView) (ops : List LegOperation) → list_all is_not_invite ops ≡ true →
+    HaveOneNumber (request_of leg.dialogue (codes "INVITE") invite) (ack_of (after_operations (after_operation leg (SendsRequest (codes "INVITE") invite)) ops).dialogue ack)
 made leg invite ack ops others =
     let n : ℕ = next_number leg.dialogue.local_cseq in
     let asked : Leg = after_operation leg (SendsRequest (codes "INVITE") invite) in
     (n, ((codes "INVITE", cseq leg.dialogue n (codes "INVITE") invite), ack_has (after_operations asked ops).dialogue n ack (invited_stays asked ops others)))
 
-pub begun : (peer : Peer) (invite : Message Start) (n : ℕ) (meter : Option MeterView) (ack : RequestPartsView) (ops : List LegOperation) → number_in invite.lines ≡ Some n → list_all is_not_invite ops ≡ true → HasNumber n (ack_of (after_operations (record { dialogue = callee_dialogue peer invite; meter = meter }) ops).dialogue ack)
+pub begun : (peer : Peer) (invite : Message Start) (n : ℕ) (meter : Option MeterView) (ack : RequestPartsView) (ops : List LegOperation) → number_in invite.lines ≡ Some n →
+    list_all is_not_invite ops ≡ true → HasNumber n (ack_of (after_operations (record { dialogue = callee_dialogue peer invite; meter = meter }) ops).dialogue ack)
 begun peer invite n meter ack ops number others =
     let leg : Leg = record { dialogue = callee_dialogue peer invite; meter = meter } in
     ack_has (after_operations leg ops).dialogue n ack (invited_stays leg ops others ∙ number)

@@ -48,7 +48,13 @@ pub cseq_again : (n : ℕ) (method : List ℕ) → n < 2 ^ 31 → IsToken method
 unfolding cseq_at
 cseq_again n method small token =
     let fits : n < 2 ^ 64 = omega arith in
-    rw (digits_run n method fits, digits_after n method fits, number_again 2147483647 (decimal n) n (decimal_writes n fits) (omega arith), behind_blank method (token_stops method token.each), whole_token method token) refl
+    rw (
+      digits_run n method fits,
+      digits_after n method fits,
+      number_again 2147483647 (decimal n) n (decimal_writes n fits) (omega arith),
+      behind_blank method (token_stops method token.each),
+      whole_token method token,
+    ) refl
 
 -- a number that is read is the one that was written
 

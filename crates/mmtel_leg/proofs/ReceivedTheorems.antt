@@ -41,7 +41,8 @@ not_below_received None last otherwise done received = not_below_itself last
 not_below_received (Some n) None otherwise done received = tt
 not_below_received (Some n) (Some last) otherwise done received = in_turn n last otherwise done received
 
-not_below_answer : (answer otherwise : Result (Unit {0}) DialogueFault) (d : Dialogue) (request : Message Start) → unless_old (number_in request.lines) d.remote_cseq otherwise ≡ answer → IsNotBelow d.remote_cseq (after_result answer d request).remote_cseq
+not_below_answer : (answer otherwise : Result (Unit {0}) DialogueFault) (d : Dialogue) (request : Message Start) → unless_old (number_in request.lines) d.remote_cseq otherwise ≡ answer →
+    IsNotBelow d.remote_cseq (after_result answer d request).remote_cseq
 not_below_answer (Ok done) otherwise d request e = not_below_received (number_in request.lines) d.remote_cseq otherwise done e
 not_below_answer (Err fault) otherwise d request e = not_below_itself d.remote_cseq
 

@@ -42,21 +42,24 @@ target_with_remote : (target before : List ℕ) → 0 < length target → target
 target_with_remote [] before filled = absurd (omega arith)
 target_with_remote (b ∷ target) before filled = refl
 
-pub tag : (peer : Peer) (invite : Message Start) (meter : Option MeterView) (before later : List LegOperation) (answer : Remote) → list_all is_of_confirmed later ≡ true → (after_operations (record { dialogue = callee_dialogue peer invite; meter = meter }) (before ++ LearnsRemote answer ∷ later)).dialogue.remote_tag ≡ answer.tag
+pub tag : (peer : Peer) (invite : Message Start) (meter : Option MeterView) (before later : List LegOperation) (answer : Remote) → list_all is_of_confirmed later ≡ true →
+    (after_operations (record { dialogue = callee_dialogue peer invite; meter = meter }) (before ++ LearnsRemote answer ∷ later)).dialogue.remote_tag ≡ answer.tag
 tag peer invite meter before later answer is =
     let leg : Leg = record { dialogue = callee_dialogue peer invite; meter = meter } in
     let d : Dialogue = (after_operations leg before).dialogue in
     ap (λ (l : Leg). l.dialogue.remote_tag) (after_both leg before (LearnsRemote answer ∷ later))
     ∙ (tag_stays (after_operation (after_operations leg before) (LearnsRemote answer)) later is ∙ tag_with_remote d answer (side_stays leg before))
 
-pub routes : (peer : Peer) (invite : Message Start) (meter : Option MeterView) (before later : List LegOperation) (answer : Remote) → list_all is_of_confirmed later ≡ true → (after_operations (record { dialogue = callee_dialogue peer invite; meter = meter }) (before ++ LearnsRemote answer ∷ later)).dialogue.routes ≡ answer.routes
+pub routes : (peer : Peer) (invite : Message Start) (meter : Option MeterView) (before later : List LegOperation) (answer : Remote) → list_all is_of_confirmed later ≡ true →
+    (after_operations (record { dialogue = callee_dialogue peer invite; meter = meter }) (before ++ LearnsRemote answer ∷ later)).dialogue.routes ≡ answer.routes
 routes peer invite meter before later answer is =
     let leg : Leg = record { dialogue = callee_dialogue peer invite; meter = meter } in
     let d : Dialogue = (after_operations leg before).dialogue in
     ap (λ (l : Leg). l.dialogue.routes) (after_both leg before (LearnsRemote answer ∷ later))
     ∙ (routes_stay (after_operation (after_operations leg before) (LearnsRemote answer)) later is ∙ routes_with_remote d answer (side_stays leg before))
 
-pub target : (peer : Peer) (invite : Message Start) (meter : Option MeterView) (before later : List LegOperation) (answer : Remote) → list_all is_of_confirmed later ≡ true → 0 < length answer.target → (after_operations (record { dialogue = callee_dialogue peer invite; meter = meter }) (before ++ LearnsRemote answer ∷ later)).dialogue.target ≡ answer.target
+pub target : (peer : Peer) (invite : Message Start) (meter : Option MeterView) (before later : List LegOperation) (answer : Remote) → list_all is_of_confirmed later ≡ true → 0 < length answer.target →
+    (after_operations (record { dialogue = callee_dialogue peer invite; meter = meter }) (before ++ LearnsRemote answer ∷ later)).dialogue.target ≡ answer.target
 target peer invite meter before later answer is filled =
     let leg : Leg = record { dialogue = callee_dialogue peer invite; meter = meter } in
     let d : Dialogue = (after_operations leg before).dialogue in

@@ -67,11 +67,13 @@ values name m = value_of (tag_of (first_value name m.lines)) (tag_is (first_valu
 
 -- ---- what stays of a dialog
 
-received_keeps : {A : Type 0} (f : Dialogue → A) → ((d : Dialogue) (m : Message Start) → f (after_receiving d m) ≡ f d) → (answer : Result (Unit {0}) DialogueFault) (d : Dialogue) (m : Message Start) → f (after_result answer d m) ≡ f d
+received_keeps : {A : Type 0} (f : Dialogue → A) → ((d : Dialogue) (m : Message Start) → f (after_receiving d m) ≡ f d) →
+    (answer : Result (Unit {0}) DialogueFault) (d : Dialogue) (m : Message Start) → f (after_result answer d m) ≡ f d
 received_keeps f hearing (Ok done) d m = hearing d m
 received_keeps f hearing (Err fault) d m = refl
 
-stays : {A : Type 0} (f : Dialogue → A) → ((d : Dialogue) (r : Remote) → f (with_remote d r) ≡ f d) → ((d : Dialogue) (method : List ℕ) → f (after_request d method) ≡ f d) → ((d : Dialogue) (m : Message Start) → f (after_receiving d m) ≡ f d) → (leg : Leg) (ops : List LegOperation) → f (after_operations leg ops).dialogue ≡ f leg.dialogue
+stays : {A : Type 0} (f : Dialogue → A) → ((d : Dialogue) (r : Remote) → f (with_remote d r) ≡ f d) → ((d : Dialogue) (method : List ℕ) → f (after_request d method) ≡ f d) →
+    ((d : Dialogue) (m : Message Start) → f (after_receiving d m) ≡ f d) → (leg : Leg) (ops : List LegOperation) → f (after_operations leg ops).dialogue ≡ f leg.dialogue
 stays f meets asks hearing leg [] = refl
 stays f meets asks hearing leg (LearnsRemote remote ∷ ops) = stays f meets asks hearing (after_operation leg (LearnsRemote remote)) ops ∙ meets leg.dialogue remote
 stays f meets asks hearing leg (SendsRequest method given ∷ ops) = stays f meets asks hearing (after_operation leg (SendsRequest method given)) ops ∙ asks leg.dialogue method
@@ -92,7 +94,8 @@ side_stays leg ops = stays (λ (d : Dialogue). d.side) (λ d r. refl) (λ d meth
 
 -- an empty value is no name-addr, so a field that is absent has no tag
 no_name : (n : NameAddr) → IsNameAddr [] n → ⊥
-no_name n (inl is) = absurd (omega (arith, ap (λ (l : List ℕ). length l) is.whole, length-append n.display (is.gap ++ (60 ∷ (n.uri ++ 62 ∷ params_text n.params))), length-append is.gap (60 ∷ (n.uri ++ 62 ∷ params_text n.params))))
+no_name n (inl is) =
+    absurd (omega (arith, ap (λ (l : List ℕ). length l) is.whole, length-append n.display (is.gap ++ (60 ∷ (n.uri ++ 62 ∷ params_text n.params))), length-append is.gap (60 ∷ (n.uri ++ 62 ∷ params_text n.params))))
 no_name n (inr is) = absurd (omega (arith, is.uri_in.filled, ap (λ (l : List ℕ). length l) is.whole, length-append n.uri (params_text n.params)))
 
 unnamed : (o : Option NameAddr) → name_addr_of [] ≡ o → unwrap_or (o >>= λ n. param_value (codes "tag") n.params) [] ≡ []
@@ -112,26 +115,33 @@ kept_field : (name : List ℕ) (ls : List Line) → unwrap_or (tag_of (Some (fie
 unfolding tag_in field
 kept_field name ls = kept_tag (first_value name ls)
 
-from_reads : (d : Dialogue) (number : ℕ) (method : List ℕ) (given : RequestPartsView) (value : List ℕ) → d.local ≡ value → tag_in (codes "From") (request_numbered d number method given).lines ≡ unwrap_or (tag_of (Some value)) []
+from_reads : (d : Dialogue) (number : ℕ) (method : List ℕ) (given : RequestPartsView) (value : List ℕ) → d.local ≡ value →
+    tag_in (codes "From") (request_numbered d number method given).lines ≡ unwrap_or (tag_of (Some value)) []
 from_reads d number method given value e = reads (codes "From") (request_numbered d number method given).lines value (lines.from d number method given ∙ ap (λ (l : List ℕ). Some l) e)
 
-to_reads : (d : Dialogue) (number : ℕ) (method : List ℕ) (given : RequestPartsView) (value : List ℕ) → to_text d.side d.remote d.remote_tag ≡ value → tag_in (codes "To") (request_numbered d number method given).lines ≡ unwrap_or (tag_of (Some value)) []
+to_reads : (d : Dialogue) (number : ℕ) (method : List ℕ) (given : RequestPartsView) (value : List ℕ) → to_text d.side d.remote d.remote_tag ≡ value →
+    tag_in (codes "To") (request_numbered d number method given).lines ≡ unwrap_or (tag_of (Some value)) []
 to_reads d number method given value e = reads (codes "To") (request_numbered d number method given).lines value (lines.to d number method given ∙ ap (λ (l : List ℕ). Some l) e)
 
-pub caller_from : (peer : Peer) (invite : Message Start) (tag : List ℕ) (meter : Option MeterView) (ops : List LegOperation) (number : ℕ) (method : List ℕ) (given : RequestPartsView) (n : NameAddr) → name_addr_of (field (codes "To") invite.lines) ≡ Some n → IsUntagged n → IsValue tag → tag_in (codes "From") (request_numbered (after_operations (record { dialogue = caller_dialogue peer invite.lines tag; meter = meter }) ops).dialogue number method given).lines ≡ tag
+pub caller_from : (peer : Peer) (invite : Message Start) (tag : List ℕ) (meter : Option MeterView) (ops : List LegOperation) (number : ℕ) (method : List ℕ) (given : RequestPartsView) (n : NameAddr) →
+    name_addr_of (field (codes "To") invite.lines) ≡ Some n → IsUntagged n → IsValue tag →
+    tag_in (codes "From") (request_numbered (after_operations (record { dialogue = caller_dialogue peer invite.lines tag; meter = meter }) ops).dialogue number method given).lines ≡ tag
 caller_from peer invite tag meter ops number method given n e untagged value =
     let leg : Leg = record { dialogue = caller_dialogue peer invite.lines tag; meter = meter } in
     from_reads (after_operations leg ops).dialogue number method given (tagged_value (field (codes "To") invite.lines) tag) (local_stays leg ops)
     ∙ ap (λ (o : Option (List ℕ)). unwrap_or o []) (tag_again (field (codes "To") invite.lines) tag n e untagged value)
 
-pub caller_to : (peer : Peer) (invite : Message Start) (tag : List ℕ) (meter : Option MeterView) (ops : List LegOperation) (number : ℕ) (method : List ℕ) (given : RequestPartsView) → tag_in (codes "To") (request_numbered (after_operations (record { dialogue = caller_dialogue peer invite.lines tag; meter = meter }) ops).dialogue number method given).lines ≡ tag_in (codes "From") invite.lines
+pub caller_to : (peer : Peer) (invite : Message Start) (tag : List ℕ) (meter : Option MeterView) (ops : List LegOperation) (number : ℕ) (method : List ℕ) (given : RequestPartsView) →
+    tag_in (codes "To") (request_numbered (after_operations (record { dialogue = caller_dialogue peer invite.lines tag; meter = meter }) ops).dialogue number method given).lines
+    ≡ tag_in (codes "From") invite.lines
 caller_to peer invite tag meter ops number method given =
     let leg : Leg = record { dialogue = caller_dialogue peer invite.lines tag; meter = meter } in
     let d : Dialogue = (after_operations leg ops).dialogue in
     let to : to_text d.side d.remote d.remote_tag ≡ field (codes "From") invite.lines = ap (λ (side : Side). to_text side d.remote d.remote_tag) (side_stays leg ops) ∙ remote_stays leg ops in
     to_reads d number method given (field (codes "From") invite.lines) to ∙ kept_field (codes "From") invite.lines
 
-pub callee_from : (peer : Peer) (invite : Message Start) (meter : Option MeterView) (ops : List LegOperation) (number : ℕ) (method : List ℕ) (given : RequestPartsView) → tag_in (codes "From") (request_numbered (after_operations (record { dialogue = callee_dialogue peer invite; meter = meter }) ops).dialogue number method given).lines ≡ tag_in (codes "From") invite.lines
+pub callee_from : (peer : Peer) (invite : Message Start) (meter : Option MeterView) (ops : List LegOperation) (number : ℕ) (method : List ℕ) (given : RequestPartsView) →
+    tag_in (codes "From") (request_numbered (after_operations (record { dialogue = callee_dialogue peer invite; meter = meter }) ops).dialogue number method given).lines ≡ tag_in (codes "From") invite.lines
 callee_from peer invite meter ops number method given =
     let leg : Leg = record { dialogue = callee_dialogue peer invite; meter = meter } in
     from_reads (after_operations leg ops).dialogue number method given (field (codes "From") invite.lines) (local_stays leg ops) ∙ kept_field (codes "From") invite.lines
@@ -145,7 +155,11 @@ read_tag value [] n e untagged is = ap (λ (o : Option (List ℕ)). unwrap_or o 
 read_tag value (b ∷ tag) n e untagged (inl none) = absurd cc
 read_tag value (b ∷ tag) n e untagged (inr is) = ap (λ (o : Option (List ℕ)). unwrap_or o []) (tag_again value (b ∷ tag) n e untagged is)
 
-pub callee_to : (peer : Peer) (invite : Message Start) (meter : Option MeterView) (ops : List LegOperation) (number : ℕ) (method : List ℕ) (given : RequestPartsView) (n : NameAddr) → name_addr_of (field (codes "To") invite.lines) ≡ Some n → IsUntagged n → ((after_operations (record { dialogue = callee_dialogue peer invite; meter = meter }) ops).dialogue.remote_tag ≡ []) ⊎ IsValue (after_operations (record { dialogue = callee_dialogue peer invite; meter = meter }) ops).dialogue.remote_tag → tag_in (codes "To") (request_numbered (after_operations (record { dialogue = callee_dialogue peer invite; meter = meter }) ops).dialogue number method given).lines ≡ (after_operations (record { dialogue = callee_dialogue peer invite; meter = meter }) ops).dialogue.remote_tag
+pub callee_to : (peer : Peer) (invite : Message Start) (meter : Option MeterView) (ops : List LegOperation) (number : ℕ) (method : List ℕ) (given : RequestPartsView) (n : NameAddr) →
+    name_addr_of (field (codes "To") invite.lines) ≡ Some n → IsUntagged n → ((after_operations (record { dialogue = callee_dialogue peer invite; meter = meter }) ops).dialogue.remote_tag ≡ [])
+    ⊎ IsValue (after_operations (record { dialogue = callee_dialogue peer invite; meter = meter }) ops).dialogue.remote_tag →
+    tag_in (codes "To") (request_numbered (after_operations (record { dialogue = callee_dialogue peer invite; meter = meter }) ops).dialogue number method given).lines
+    ≡ (after_operations (record { dialogue = callee_dialogue peer invite; meter = meter }) ops).dialogue.remote_tag
 callee_to peer invite meter ops number method given n e untagged is =
     let leg : Leg = record { dialogue = callee_dialogue peer invite; meter = meter } in
     let d : Dialogue = (after_operations leg ops).dialogue in

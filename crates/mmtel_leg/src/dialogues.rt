@@ -1,6 +1,7 @@
 //! The dialog state that a leg of either side keeps (RFC 3261 §12).
 ghost use Rattle.std.specs.Prelude.{◌≡◌, ◌++◌, IfOk, OnErr, OnOk, codes, if◌then◌else◌};
-ghost use Rattle.mmtel_leg.specs.Dialogues.{after_receiving, callee_dialogue, caller_dialogue, caller_dialogue_with_remote, last_after, names_itself, receive_result, target_or, unless_busy, unless_old, with_remote};
+ghost use Rattle.mmtel_leg.specs.Dialogues.{after_receiving, callee_dialogue, caller_dialogue, caller_dialogue_with_remote};
+ghost use Rattle.mmtel_leg.specs.Dialogues.{last_after, names_itself, receive_result, target_or, unless_busy, unless_old, with_remote};
 
 use crate::fields::{field, number_in, request_uri, tag_in};
 use crate::remotes::Remote;

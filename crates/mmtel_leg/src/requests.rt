@@ -4,7 +4,8 @@ ghost use Rattle.std.specs.Option.{unwrap_or};
 ghost use Rattle.mmtel_message.specs.Addresses.{contact_text, via_text};
 ghost use Rattle.mmtel_message.specs.Message.{has_line, line};
 ghost use Rattle.mmtel_leg.specs.Dialogues.{after_request};
-ghost use Rattle.mmtel_leg.specs.Requests.{ack_of, contact_lines, content_lines, cseq_text, dialog_lines, is_contacting, request_numbered, request_of, route_line, routing_lines, to_text};
+ghost use Rattle.mmtel_leg.specs.Requests.{ack_of, contact_lines, content_lines, cseq_text, dialog_lines, is_contacting};
+ghost use Rattle.mmtel_leg.specs.Requests.{request_numbered, request_of, route_line, routing_lines, to_text};
 
 use crate::dialogues::Dialogue;
 use mmtel_base::{List, NoMemory, Text, add_number};

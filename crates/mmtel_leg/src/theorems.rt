@@ -18,7 +18,8 @@ ghost use Rattle.mmtel_leg.specs.Dialogues.{number_in, receive_result};
 ghost use Rattle.mmtel_leg.specs.Remotes.{field, tag_in};
 ghost use Rattle.mmtel_leg.specs.declared.dialogues.DialogueFault.{DialogueFault};
 ghost use Rattle.mmtel_leg.specs.declared.dialogues.InFlight.{InFlight};
-ghost use Rattle.mmtel_leg.specs.Operations.{HasNumber, HaveOneNumber, IsCountedFrom, IsNotBelow, LegOperation, ReadsAs, ReceivesEach, after_operation, after_operations, is_of_confirmed, meters_handed_back};
+ghost use Rattle.mmtel_leg.specs.Operations.{HasNumber, HaveOneNumber, IsCountedFrom, IsNotBelow, LegOperation, ReadsAs};
+ghost use Rattle.mmtel_leg.specs.Operations.{ReceivesEach, after_operation, after_operations, is_of_confirmed, meters_handed_back};
 ghost use Rattle.mmtel_leg.specs.Operations.{is_not_invite, meters_put_in, requests};
 ghost use Rattle.mmtel_leg.specs.Legs.{Leg};
 ghost use Rattle.mmtel_leg.specs.Requests.{RequestPartsView, ack_of, cseq_text, request_numbered, request_of, to_text};
@@ -27,7 +28,8 @@ ghost use Rattle.mmtel_leg.specs.declared.dialogues.Dialogue.{Dialogue};
 
 /// Whatever operations a leg undergoes, the CSeq numbers of its requests rise by one from the last one that it had at its beginning, as long as 64 bits suffice for them.
 pub fn numbers_rise_by_one()
-    ensures counted { (leg : Leg) (ops : List LegOperation) → leg.dialogue.local_cseq + length (requests leg ops) < 2 ^ 64 → IsCountedFrom leg.dialogue.local_cseq (requests leg ops) }
+    ensures counted { (leg : Leg) (ops : List LegOperation) → leg.dialogue.local_cseq + length (requests leg ops) < 2 ^ 64 →
+        IsCountedFrom leg.dialogue.local_cseq (requests leg ops) }
     ensures last { (leg : Leg) (ops : List LegOperation) → leg.dialogue.local_cseq + length (requests leg ops) < 2 ^ 64 →
         (after_operations leg ops).dialogue.local_cseq ≡ leg.dialogue.local_cseq + length (requests leg ops) }
 {}
@@ -43,21 +45,25 @@ pub fn acks_have_their_invites_number()
 
 /// The CSeq of what is built is parsed again as the number and the method, where the number is one of RFC 3261 (below 2^31, §8.1.1.5) and the method a token.
 pub fn numbers_read_back()
-    ensures request { (d : Dialogue) (method : List ℕ) (given : RequestPartsView) → d.local_cseq + 1 < 2 ^ 31 → IsToken method → ReadsAs (d.local_cseq + 1) method (request_of d method given) }
+    ensures request { (d : Dialogue) (method : List ℕ) (given : RequestPartsView) → d.local_cseq + 1 < 2 ^ 31 → IsToken method →
+        ReadsAs (d.local_cseq + 1) method (request_of d method given) }
     ensures ack { (d : Dialogue) (given : RequestPartsView) → unwrap_or d.invite_cseq 0 < 2 ^ 31 → ReadsAs (unwrap_or d.invite_cseq 0) (codes "ACK") (ack_of d given) }
 {}
 
 /// The tags by which the other side finds its dialog (RFC 3261 §12): in what is built in a dialog, From is parsed with the server's tag and To with the other side's, whatever
 /// operations there were since the dialog began, and whether it is a request or an ACK.
 pub fn tags_read_back()
-    ensures caller_from { (peer : Peer) (invite : Message Start) (tag : List ℕ) (meter : Option MeterView) (ops : List LegOperation) (number : ℕ) (method : List ℕ) (given : RequestPartsView)
+    ensures caller_from { (peer : Peer) (invite : Message Start) (tag : List ℕ) (meter : Option MeterView) (ops : List LegOperation)
+        (number : ℕ) (method : List ℕ) (given : RequestPartsView)
         (to : NameAddr) → name_addr_of (field (codes "To") invite.lines) ≡ Some to → IsUntagged to → IsValue tag →
         tag_in (codes "From") (request_numbered (caller_after peer invite tag meter ops) number method given).lines ≡ tag }
-    ensures caller_to { (peer : Peer) (invite : Message Start) (tag : List ℕ) (meter : Option MeterView) (ops : List LegOperation) (number : ℕ) (method : List ℕ) (given : RequestPartsView) →
+    ensures caller_to { (peer : Peer) (invite : Message Start) (tag : List ℕ) (meter : Option MeterView) (ops : List LegOperation)
+        (number : ℕ) (method : List ℕ) (given : RequestPartsView) →
         tag_in (codes "To") (request_numbered (caller_after peer invite tag meter ops) number method given).lines ≡ tag_in (codes "From") invite.lines }
     ensures callee_from { (peer : Peer) (invite : Message Start) (meter : Option MeterView) (ops : List LegOperation) (number : ℕ) (method : List ℕ) (given : RequestPartsView) →
         tag_in (codes "From") (request_numbered (callee_after peer invite meter ops) number method given).lines ≡ tag_in (codes "From") invite.lines }
-    ensures callee_to { (peer : Peer) (invite : Message Start) (meter : Option MeterView) (ops : List LegOperation) (number : ℕ) (method : List ℕ) (given : RequestPartsView) (to : NameAddr) →
+    ensures callee_to { (peer : Peer) (invite : Message Start) (meter : Option MeterView) (ops : List LegOperation) (number : ℕ)
+        (method : List ℕ) (given : RequestPartsView) (to : NameAddr) →
         name_addr_of (field (codes "To") invite.lines) ≡ Some to → IsUntagged to →
         ((callee_after peer invite meter ops).remote_tag ≡ []) ⊎ IsValue (callee_after peer invite meter ops).remote_tag →
         tag_in (codes "To") (request_numbered (callee_after peer invite meter ops) number method given).lines ≡ (callee_after peer invite meter ops).remote_tag }
@@ -92,8 +98,10 @@ pub fn refusals_change_nothing()
 pub fn requests_name_their_dialog()
     ensures cseq { (d : Dialogue) (number : ℕ) (method : List ℕ) (given : RequestPartsView) →
         first_value (codes "CSeq") (request_numbered d number method given).lines ≡ Some (cseq_text number method) }
-    ensures call_id { (d : Dialogue) (number : ℕ) (method : List ℕ) (given : RequestPartsView) → first_value (codes "Call-ID") (request_numbered d number method given).lines ≡ Some d.call_id }
-    ensures from { (d : Dialogue) (number : ℕ) (method : List ℕ) (given : RequestPartsView) → first_value (codes "From") (request_numbered d number method given).lines ≡ Some d.local }
+    ensures call_id { (d : Dialogue) (number : ℕ) (method : List ℕ) (given : RequestPartsView) →
+        first_value (codes "Call-ID") (request_numbered d number method given).lines ≡ Some d.call_id }
+    ensures from { (d : Dialogue) (number : ℕ) (method : List ℕ) (given : RequestPartsView) →
+        first_value (codes "From") (request_numbered d number method given).lines ≡ Some d.local }
     ensures to { (d : Dialogue) (number : ℕ) (method : List ℕ) (given : RequestPartsView) →
         first_value (codes "To") (request_numbered d number method given).lines ≡ Some (to_text d.side d.remote d.remote_tag) }
 {}
@@ -103,9 +111,11 @@ pub fn requests_name_their_dialog()
 pub fn the_last_response_decides()
     ensures tag { (peer : Peer) (invite : Message Start) (meter : Option MeterView) (before later : List LegOperation) (answer : Remote) → list_all is_of_confirmed later ≡ true →
         (callee_after peer invite meter (before ++ LearnsRemote answer ∷ later)).remote_tag ≡ answer.tag }
-    ensures routes { (peer : Peer) (invite : Message Start) (meter : Option MeterView) (before later : List LegOperation) (answer : Remote) → list_all is_of_confirmed later ≡ true →
+    ensures routes { (peer : Peer) (invite : Message Start) (meter : Option MeterView) (before later : List LegOperation) (answer : Remote) →
+        list_all is_of_confirmed later ≡ true →
         (callee_after peer invite meter (before ++ LearnsRemote answer ∷ later)).routes ≡ answer.routes }
-    ensures target { (peer : Peer) (invite : Message Start) (meter : Option MeterView) (before later : List LegOperation) (answer : Remote) → list_all is_of_confirmed later ≡ true →
+    ensures target { (peer : Peer) (invite : Message Start) (meter : Option MeterView) (before later : List LegOperation) (answer : Remote) →
+        list_all is_of_confirmed later ≡ true →
         0 < length answer.target → (callee_after peer invite meter (before ++ LearnsRemote answer ∷ later)).target ≡ answer.target }
 {}
 

@@ -32,7 +32,8 @@ TakesAngle d s n = (n.display ≡ d) × (s ≡ n.uri ++ 62 ∷ params_text n.par
 pub angle_takes : (d s : List ℕ) (n : NameAddr) → angle_of d s ≡ Some n → TakesAngle d s n
 unfolding angle_of
 angle_takes d s n e =
-    let g = unless_some (length (leading_run UriByte s) == 0) (after_byte 62 (after_run UriByte s) >>= λ r. all_params_at r >>= λ ps. at_end (record { display = d; uri = leading_run UriByte s; params = ps.0 }) ps.1) n e in
+    let g =
+    unless_some (length (leading_run UriByte s) == 0) (after_byte 62 (after_run UriByte s) >>= λ r. all_params_at r >>= λ ps. at_end (record { display = d; uri = leading_run UriByte s; params = ps.0 }) ps.1) n e in
     let b = bind_some (after_byte 62 (after_run UriByte s)) (λ r. all_params_at r >>= λ ps. at_end (record { display = d; uri = leading_run UriByte s; params = ps.0 }) ps.1) n g.1 in
     let r : List ℕ = b.0 in
     let f = bind_some (all_params_at r) (λ ps. at_end (record { display = d; uri = leading_run UriByte s; params = ps.0 }) ps.1) n b.2 in
@@ -152,7 +153,14 @@ words_whole d gap tail is gap_in starts =
     let all : IsAll Display (d ++ gap) = all_append Display d gap is.each (wider Blank Display blank_display gap gap_in) in
     let grouped : d ++ (gap ++ 60 ∷ tail) ≡ (d ++ gap) ++ 60 ∷ tail = sym (append_assoc d gap (60 ∷ tail)) in
     let none : length (leading_run Blank ((d ++ gap) ++ 60 ∷ tail)) ≡ 0 = rw grouped at (no_run Blank (d ++ (gap ++ 60 ∷ tail)) starts) in
-    rw (grouped, no_quote_display (d ++ gap) tail all, after_run_again Display (d ++ gap) (60 ∷ tail) all angle_stops_display, none, run_again Display (d ++ gap) (60 ∷ tail) all angle_stops_display, trimmed_again Blank d gap gap_in is.ends) refl
+    rw (
+      grouped,
+      no_quote_display (d ++ gap) tail all,
+      after_run_again Display (d ++ gap) (60 ∷ tail) all angle_stops_display,
+      none,
+      run_again Display (d ++ gap) (60 ∷ tail) all angle_stops_display,
+      trimmed_again Blank d gap gap_in is.ends,
+    ) refl
 
 opens : (d r : List ℕ) → IsQuoted d → (t : List ℕ) × (after_byte 34 (d ++ r) ≡ Some t)
 opens d r is = ((is.inner ++ 34 ∷ []) ++ r, rw is.whole refl)
@@ -196,7 +204,8 @@ words_by s (Some u) n e h =
     let tr = trimmed_takes Blank (leading_run Display s) in
     let tail : after_run Display s ≡ 60 ∷ (n.uri ++ 62 ∷ params_text n.params) = after_byte_whole 60 (after_run Display s) u e ∙ ap (λ (l : List ℕ). 60 ∷ l) is.1 in
     let front : s ≡ (without_trailing Blank (leading_run Display s) ++ tr.back) ++ after_run Display s = run_whole Display s ∙ ap (λ (l : List ℕ). l ++ after_run Display s) tr.whole in
-    let whole : s ≡ without_trailing Blank (leading_run Display s) ++ (tr.back ++ (60 ∷ (n.uri ++ 62 ∷ params_text n.params))) = front ∙ append_assoc (without_trailing Blank (leading_run Display s)) tr.back (after_run Display s) ∙ ap (λ (l : List ℕ). without_trailing Blank (leading_run Display s) ++ (tr.back ++ l)) tail in
+    let whole : s ≡ without_trailing Blank (leading_run Display s) ++ (tr.back ++ (60 ∷ (n.uri ++ 62 ∷ params_text n.params))) =
+    front ∙ append_assoc (without_trailing Blank (leading_run Display s)) tr.back (after_run Display s) ∙ ap (λ (l : List ℕ). without_trailing Blank (leading_run Display s) ++ (tr.back ++ l)) tail in
     let each : IsAll Display (without_trailing Blank (leading_run Display s)) = all_front Display (without_trailing Blank (leading_run Display s)) tr.back (rw tr.whole at (run_each Display s)) in
     let words : IsWords (without_trailing Blank (leading_run Display s)) = record { each = each; ends = tr.ends } in
     inl (record { gap = tr.back; whole = rw is.0 whole; starts = stops_by_run Blank s g.0; display_in = inl (rw is.0 words); gap_in = tr.back_in; uri_in = is.2; params_in = is.3 })

@@ -35,7 +35,8 @@ at_suc : (front : List Param) (n : ℕ) (rest tail : List ℕ) → after_byte 59
 unfolding params_at
 at_suc front n rest tail e = rw e refl
 
-step : (front : List Param) (n : ℕ) (rest tail after whole : List ℕ) (p : Param) → length rest ≤ n → with_front front (params_at n rest) ≡ all_params_at whole → after_byte 59 rest ≡ Some tail → param_at tail ≡ Some (p, after) → length after ≤ length tail → ReadsOn (front ++ p ∷ []) after whole
+step : (front : List Param) (n : ℕ) (rest tail after whole : List ℕ) (p : Param) → length rest ≤ n → with_front front (params_at n rest) ≡ all_params_at whole → after_byte 59 rest ≡ Some tail →
+    param_at tail ≡ Some (p, after) → length after ≤ length tail → ReadsOn (front ++ p ∷ []) after whole
 step front zero rest tail after whole p le so_far e h shorter = absurd (omega (arith, tail_of 59 rest tail e))
 step front (suc n) rest tail after whole p le so_far e h shorter = record {
   count = n;
@@ -43,10 +44,12 @@ step front (suc n) rest tail after whole p le so_far e h shorter = record {
   same = sym (at_suc front n rest tail e ∙ rw h (regroup front p (params_at n after))) ∙ so_far;
 }
 
-pub goes_on : (front : List Param) (rest tail after whole : List ℕ) (p : Param) → ReadsOn front rest whole → after_byte 59 rest ≡ Some tail → param_at tail ≡ Some (p, after) → length after ≤ length tail → ReadsOn (front ++ p ∷ []) after whole
+pub goes_on : (front : List Param) (rest tail after whole : List ℕ) (p : Param) → ReadsOn front rest whole → after_byte 59 rest ≡ Some tail → param_at tail ≡ Some (p, after) →
+    length after ≤ length tail → ReadsOn (front ++ p ∷ []) after whole
 goes_on front rest tail after whole p so_far e h shorter = step front so_far.count rest tail after whole p so_far.enough so_far.same e h shorter
 
-fails_at : (front : List Param) (n : ℕ) (rest tail whole : List ℕ) → length rest ≤ n → with_front front (params_at n rest) ≡ all_params_at whole → after_byte 59 rest ≡ Some tail → param_at tail ≡ None → all_params_at whole ≡ None
+fails_at : (front : List Param) (n : ℕ) (rest tail whole : List ℕ) → length rest ≤ n → with_front front (params_at n rest) ≡ all_params_at whole → after_byte 59 rest ≡ Some tail →
+    param_at tail ≡ None → all_params_at whole ≡ None
 fails_at front zero rest tail whole le so_far e h = absurd (omega (arith, tail_of 59 rest tail e))
 fails_at front (suc n) rest tail whole le so_far e h = sym so_far ∙ (at_suc front n rest tail e ∙ rw h refl)
 

@@ -63,11 +63,13 @@ seek_begins name whole e = record { count = length whole; enough = omega arith; 
 abbrev with_first : Param → Option (List Param × List ℕ) → Option (List Param × List ℕ)
 with_first p read = read >>= λ x. Some (p ∷ x.0, x.1)
 
-over : (name : List ℕ) (p : Param) (read : Option (List Param × List ℕ)) (found : Option Param) → str_eq_ignore_ascii_case p.name name ≡ false → is_some (with_first p read) ≡ true → found ≡ first_param name (params_of_reading (with_first p read)) → (is_some read ≡ true) × (found ≡ first_param name (params_of_reading read))
+over : (name : List ℕ) (p : Param) (read : Option (List Param × List ℕ)) (found : Option Param) → str_eq_ignore_ascii_case p.name name ≡ false → is_some (with_first p read) ≡ true →
+    found ≡ first_param name (params_of_reading (with_first p read)) → (is_some read ≡ true) × (found ≡ first_param name (params_of_reading read))
 over name p (Some x) found e readable same = (refl, rw e at same)
 over name p None found e readable same = absurd cc
 
-here : (name : List ℕ) (p : Param) (read : Option (List Param × List ℕ)) (found : Option Param) → str_eq_ignore_ascii_case p.name name ≡ true → is_some (with_first p read) ≡ true → found ≡ first_param name (params_of_reading (with_first p read)) → found ≡ Some p
+here : (name : List ℕ) (p : Param) (read : Option (List Param × List ℕ)) (found : Option Param) → str_eq_ignore_ascii_case p.name name ≡ true → is_some (with_first p read) ≡ true →
+    found ≡ first_param name (params_of_reading (with_first p read)) → found ≡ Some p
 here name p (Some x) found e readable same = rw e at same
 here name p None found e readable same = absurd cc
 
@@ -75,23 +77,29 @@ at_first : (n : ℕ) (rest tail after : List ℕ) (p : Param) → after_byte 59 
 unfolding params_at
 at_first n rest tail after p e h = rw (e, h) refl
 
-over_at : (name : List ℕ) (n : ℕ) (rest tail after whole : List ℕ) (p : Param) → length rest ≤ n → is_some (params_at n rest) ≡ true → first_param name (params_in whole) ≡ first_param name (params_of_reading (params_at n rest)) → after_byte 59 rest ≡ Some tail → param_at tail ≡ Some (p, after) → length after ≤ length tail → str_eq_ignore_ascii_case p.name name ≡ false → SeeksOn name after whole
+over_at : (name : List ℕ) (n : ℕ) (rest tail after whole : List ℕ) (p : Param) → length rest ≤ n → is_some (params_at n rest) ≡ true →
+    first_param name (params_in whole) ≡ first_param name (params_of_reading (params_at n rest)) → after_byte 59 rest ≡ Some tail → param_at tail ≡ Some (p, after) → length after ≤ length tail →
+    str_eq_ignore_ascii_case p.name name ≡ false → SeeksOn name after whole
 over_at name zero rest tail after whole p le readable same e h shorter other = absurd (omega (arith, tail_of 59 rest tail e))
 over_at name (suc n) rest tail after whole p le readable same e h shorter other =
     let first = at_first n rest tail after p e h in
     let next = over name p (params_at n after) (first_param name (params_in whole)) other (rw first at readable) (rw first at same) in
     record { count = n; enough = omega (arith, tail_of 59 rest tail e); readable = next.0; same = next.1 }
 
-pub seek_over : (name rest tail after whole : List ℕ) (p : Param) → SeeksOn name rest whole → after_byte 59 rest ≡ Some tail → param_at tail ≡ Some (p, after) → length after ≤ length tail → str_eq_ignore_ascii_case p.name name ≡ false → SeeksOn name after whole
+pub seek_over : (name rest tail after whole : List ℕ) (p : Param) → SeeksOn name rest whole → after_byte 59 rest ≡ Some tail → param_at tail ≡ Some (p, after) → length after ≤ length tail →
+    str_eq_ignore_ascii_case p.name name ≡ false → SeeksOn name after whole
 seek_over name rest tail after whole p so_far e h shorter other = over_at name so_far.count rest tail after whole p so_far.enough so_far.readable so_far.same e h shorter other
 
-here_at : (name : List ℕ) (n : ℕ) (rest tail after whole : List ℕ) (p : Param) → length rest ≤ n → is_some (params_at n rest) ≡ true → first_param name (params_in whole) ≡ first_param name (params_of_reading (params_at n rest)) → after_byte 59 rest ≡ Some tail → param_at tail ≡ Some (p, after) → str_eq_ignore_ascii_case p.name name ≡ true → first_param name (params_in whole) ≡ Some p
+here_at : (name : List ℕ) (n : ℕ) (rest tail after whole : List ℕ) (p : Param) → length rest ≤ n → is_some (params_at n rest) ≡ true →
+    first_param name (params_in whole) ≡ first_param name (params_of_reading (params_at n rest)) → after_byte 59 rest ≡ Some tail → param_at tail ≡ Some (p, after) →
+    str_eq_ignore_ascii_case p.name name ≡ true → first_param name (params_in whole) ≡ Some p
 here_at name zero rest tail after whole p le readable same e h it = absurd (omega (arith, tail_of 59 rest tail e))
 here_at name (suc n) rest tail after whole p le readable same e h it =
     let first = at_first n rest tail after p e h in
     here name p (params_at n after) (first_param name (params_in whole)) it (rw first at readable) (rw first at same)
 
-pub seek_here : (name rest tail after whole : List ℕ) (p : Param) → SeeksOn name rest whole → after_byte 59 rest ≡ Some tail → param_at tail ≡ Some (p, after) → str_eq_ignore_ascii_case p.name name ≡ true → first_param name (params_in whole) ≡ Some p
+pub seek_here : (name rest tail after whole : List ℕ) (p : Param) → SeeksOn name rest whole → after_byte 59 rest ≡ Some tail → param_at tail ≡ Some (p, after) →
+    str_eq_ignore_ascii_case p.name name ≡ true → first_param name (params_in whole) ≡ Some p
 seek_here name rest tail after whole p so_far e h it = here_at name so_far.count rest tail after whole p so_far.enough so_far.readable so_far.same e h it
 
 fails_at : (n : ℕ) (rest tail : List ℕ) → length rest ≤ n → is_some (params_at n rest) ≡ true → after_byte 59 rest ≡ Some tail → param_at tail ≡ None → ⊥

@@ -47,7 +47,8 @@ byte_first n p (Some t) = refl
 two_digits : (a b high low : ℕ) (rest : List ℕ) → hex_value a ≡ Some high → hex_value b ≡ Some low → unescaped_part (a ∷ b ∷ rest) ≡ Some ((high * 16 + low) ∷ rest)
 two_digits a b high low rest e f = rw (e, f) refl
 
-escaped_by : (a b high low : ℕ) (ps : List (List ℕ)) → Filled ps → hex_value a ≡ Some high → hex_value b ≡ Some low → decoded_parts ([] ∷ onto_first a (onto_first b ps)) ≡ option_map (λ t. (high * 16 + low) ∷ t) (decoded_parts ps)
+escaped_by : (a b high low : ℕ) (ps : List (List ℕ)) → Filled ps → hex_value a ≡ Some high → hex_value b ≡ Some low →
+    decoded_parts ([] ∷ onto_first a (onto_first b ps)) ≡ option_map (λ t. (high * 16 + low) ∷ t) (decoded_parts ps)
 escaped_by a b high low ps is e f = rw (is.2, two_digits a b high low is.0 e f) (byte_first (high * 16 + low) is.0 (unescaped_parts is.1))
 
 pub escaped : (a b high low : ℕ) (s : List ℕ) → hex_value a ≡ Some high → hex_value b ≡ Some low → percent_decoded_text (37 ∷ a ∷ b ∷ s) ≡ option_map (λ t. (high * 16 + low) ∷ t) (percent_decoded_text s)

@@ -29,7 +29,8 @@ IsPlus bytes = (digits : List ℕ) × (bytes ≡ 43 ∷ digits) × IsAll Digit d
 same_bytes : (user : Option (List ℕ)) (a b : List ℕ) → user ≡ Some a → user ≡ Some b → a ≡ b
 same_bytes user a b e f = cc
 
-pub joined : (user : Option (List ℕ)) (bytes : List ℕ) (ps : List Param) (number : List ℕ) (r : Bool) → user ≡ Some bytes → IsPlus bytes → has_user_phone ps ≡ true → (IsTrue r ↔ (without_separators bytes ≡ without_separators number)) → IsTrue r ↔ IsPhone user ps (without_separators number)
+pub joined : (user : Option (List ℕ)) (bytes : List ℕ) (ps : List Param) (number : List ℕ) (r : Bool) → user ≡ Some bytes → IsPlus bytes → has_user_phone ps ≡ true →
+    (IsTrue r ↔ (without_separators bytes ≡ without_separators number)) → IsTrue r ↔ IsPhone user ps (without_separators number)
 joined user bytes ps number r is plus phone same = (
   λ t. (plus.0, is ∙ ap (λ (l : List ℕ). Some l) plus.1, plus.2, phone, sym (same.0 t) ∙ ap without_separators plus.1 ∙ plus_kept plus.0 plus.2),
   λ p. same.1 (ap without_separators (same_bytes user bytes (43 ∷ p.0) is p.1) ∙ plus_kept p.0 p.2 ∙ sym p.4),

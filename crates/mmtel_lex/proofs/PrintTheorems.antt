@@ -56,7 +56,8 @@ pub all_parts : (k : Class) (a b : List ℕ) → IsAll k (a ++ b) → IsAll k a 
 all_parts k a b all = and_true (list_all (in_class k) a) (list_all (in_class k) b) (rw list_all-append at all)
 
 -- the port may be spelled otherwise
-sip_visible : (user : Option (List ℕ)) (host text : List ℕ) (p : Option ℕ) (r : List ℕ) → IsPort text p → IsAll UriByte (user_text user ++ (host ++ (text ++ r))) → IsAll UriByte (user_text user ++ (host ++ (port_text p ++ r)))
+sip_visible : (user : Option (List ℕ)) (host text : List ℕ) (p : Option ℕ) (r : List ℕ) → IsPort text p → IsAll UriByte (user_text user ++ (host ++ (text ++ r))) →
+    IsAll UriByte (user_text user ++ (host ++ (port_text p ++ r)))
 sip_visible user host text p r is all =
     let front = all_parts UriByte (user_text user) (host ++ (text ++ r)) all in
     let outer = all_parts UriByte host (text ++ r) front.1 in
@@ -79,7 +80,18 @@ printed_again s (Sip user host port params headers) is =
       rest = _;
       begins = record { whole = refl; name_in = sip_name };
       named = refl;
-      rest_in = record { bytes_in = sip_visible user host had.port_text port (params_text params ++ headers_text headers) had.port_in (rw had.whole at had.bytes_in); port_text = port_text port; whole = refl; user_in = had.user_in; lone = lone_by host had.port_text port (params_text params ++ headers_text headers) had.port_in had.lone; host_in = had.host_in; host_fits = had.host_fits; port_in = port_by had.port_text port had.port_in; params_in = had.params_in; headers_in = had.headers_in };
+      rest_in = record {
+        bytes_in = sip_visible user host had.port_text port (params_text params ++ headers_text headers) had.port_in (rw had.whole at had.bytes_in);
+        port_text = port_text port;
+        whole = refl;
+        user_in = had.user_in;
+        lone = lone_by host had.port_text port (params_text params ++ headers_text headers) had.port_in had.lone;
+        host_in = had.host_in;
+        host_fits = had.host_fits;
+        port_in = port_by had.port_text port had.port_in;
+        params_in = had.params_in;
+        headers_in = had.headers_in;
+      };
     }
 printed_again s (Tel number params) is =
     let had : IsTel is.rest number params = is.rest_in in

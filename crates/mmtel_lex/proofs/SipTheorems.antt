@@ -197,7 +197,18 @@ sip_takes s u e =
     let has_params = all_params_takes p.1 ps f.1 in
     let has_headers = headers_takes ps.1 hs g.1 in
     let whole = chained s (user_text user.0) user.1 h.0 h.1 has_port.0 p.1 (params_text ps.0) ps.1 (headers_text hs) has_user.0 has_host.0 has_port.1 has_params.0 has_headers.0 in
-    let is : IsSip s user.0 h.0 p.0 ps.0 hs = record { bytes_in = within.0; port_text = has_port.0; whole = whole.0; user_in = has_user.1; lone = subst (λ (l : List ℕ). IsFree 64 l) whole.1 has_user.2; host_in = has_host.1; host_fits = has_host.2; port_in = has_port.2; params_in = has_params.1; headers_in = has_headers.1 } in
+    let is : IsSip s user.0 h.0 p.0 ps.0 hs = record {
+      bytes_in = within.0;
+      port_text = has_port.0;
+      whole = whole.0;
+      user_in = has_user.1;
+      lone = subst (λ (l : List ℕ). IsFree 64 l) whole.1 has_user.2;
+      host_in = has_host.1;
+      host_fits = has_host.2;
+      port_in = has_port.2;
+      params_in = has_params.1;
+      headers_in = has_headers.1;
+    } in
     subst (λ (v : Uri). TakesSip s v) (some_is (Sip user.0 h.0 p.0 ps.0 hs) u g.2) (is, λ name n. n)
 
 -- ---- what is spelled so is read
@@ -245,7 +256,8 @@ no_semicolon : (h : List ℕ) → after_byte 59 (headers_text h) ≡ None
 no_semicolon [] = refl
 no_semicolon (b ∷ h) = refl
 
-pub sip_again : (s : List ℕ) (user : Option (List ℕ)) (host : List ℕ) (port : Option ℕ) (params : List Param) (headers : List ℕ) → IsSip s user host port params headers → sip_of s ≡ Some (Sip user host port params headers)
+pub sip_again : (s : List ℕ) (user : Option (List ℕ)) (host : List ℕ) (port : Option ℕ) (params : List Param) (headers : List ℕ) → IsSip s user host port params headers →
+    sip_of s ≡ Some (Sip user host port params headers)
 unfolding sip_of
 sip_again s user host port params headers is =
     let tail : List ℕ = params_text params ++ headers_text headers in

@@ -33,7 +33,8 @@ taken_at : (s : List ℕ) (k : ℕ) → k ≡ length s - length (after_run Phone
 unfolding number_at
 taken_at s k k_is any = rw any (ap (λ (x : List ℕ × List ℕ). Some x) (front_taken s ((sign_of s).0 ++ leading_run Phone (sign_of s).1) (after_run Phone (sign_of s).1) k (number_from s (after_byte 43 s) refl) k_is))
 
-pub number_taken : (s tail marks rest : List ℕ) (k : ℕ) → tail ≡ (sign_of s).1 → marks ≡ leading_run Phone tail → rest ≡ after_run Phone tail → list_any (in_class Digit) marks ≡ true → k ≡ length s - length rest → Some (take k s, drop k s) ≡ number_at s
+pub number_taken : (s tail marks rest : List ℕ) (k : ℕ) → tail ≡ (sign_of s).1 → marks ≡ leading_run Phone tail → rest ≡ after_run Phone tail → list_any (in_class Digit) marks ≡ true →
+    k ≡ length s - length rest → Some (take k s, drop k s) ≡ number_at s
 number_taken s tail marks rest k tail_is marks_is rest_is any k_is =
     let all : marks ≡ leading_run Phone (sign_of s).1 = marks_is ∙ ap (λ (l : List ℕ). leading_run Phone l) tail_is in
     let after : rest ≡ after_run Phone (sign_of s).1 = rest_is ∙ ap (λ (l : List ℕ). after_run Phone l) tail_is in

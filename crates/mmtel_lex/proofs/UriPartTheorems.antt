@@ -1,5 +1,6 @@
 -- Where the parts of a URI are: the last '@', and the parts of a text.
-use Rattle.std.proofs.Common.{◌≡◌, ◌==◌, Bool, true, false, not, ℕ, suc, ◌+◌, ◌-◌, ◌≤◌, ◌<◌, List, [], ◌∷◌, ◌++◌, length, take, drop, get_or, reverse, Option, Some, None, refl, sym, ap, subst, ◌∙◌, arith, inl, inr, nat_lt}
+use Rattle.std.proofs.Common.{◌≡◌, ◌==◌, Bool, true, false, not, ℕ, suc, ◌+◌, ◌-◌, ◌≤◌, ◌<◌, List, [], ◌∷◌, ◌++◌, length, take}
+use Rattle.std.proofs.Common.{drop, get_or, reverse, Option, Some, None, refl, sym, ap, subst, ◌∙◌, arith, inl, inr, nat_lt}
 use Rattle.std.specs.Prelude.{IfSome, MatchOption}
 use Rattle.std.specs.Option.{option_map}
 use Rattle.std.specs.List.{list_all, prefix_len, suffix_len, onto_first}

@@ -77,8 +77,10 @@ number_by : (s : List ℕ) (o : Option (List ℕ)) (x : List ℕ × List ℕ) �
     → TakesNumber s ((sign_from o s).0 ++ leading_run Phone (sign_from o s).1, after_run Phone (sign_from o s).1)
 unfolding in_class
 number_by s None x e any = (run_whole Phone s, record { sign = []; phone_digits = leading_run Phone s; whole = refl; sign_in = inl refl; phone_digits_in = run_each Phone s; digit_in = any })
-number_by s (Some t) x e any =
-    (after_byte_whole 43 s t e ∙ ap (λ (l : List ℕ). 43 ∷ l) (run_whole Phone t), record { sign = 43 ∷ []; phone_digits = leading_run Phone t; whole = refl; sign_in = inr refl; phone_digits_in = run_each Phone t; digit_in = any })
+number_by s (Some t) x e any = (
+  after_byte_whole 43 s t e ∙ ap (λ (l : List ℕ). 43 ∷ l) (run_whole Phone t),
+  record { sign = 43 ∷ []; phone_digits = leading_run Phone t; whole = refl; sign_in = inr refl; phone_digits_in = run_each Phone t; digit_in = any },
+)
 
 number_takes : (s : List ℕ) (x : List ℕ × List ℕ) → number_at s ≡ Some x → TakesNumber s x
 unfolding number_at

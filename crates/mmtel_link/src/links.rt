@@ -2,7 +2,8 @@
 ghost use Rattle.std.specs.Prelude.{◌≡◌, ◌≤◌, ◌<◌, ℕ, length, Option, IfOk};
 ghost use Rattle.mmtel_environment.specs.Counts.{HasCause};
 ghost use Rattle.mmtel_link.specs.Causes.{HasSendCause};
-ghost use Rattle.mmtel_link.specs.LinkStates.{LinkInput, LinkOutput, LinkCalls, NextIfExposed, ReadIfExposed, DeliversIfExposed, IsCountedCall, IsCountedBind, IsCountedDelivery, with_offer, with_reply};
+ghost use Rattle.mmtel_link.specs.LinkStates.{LinkInput, LinkOutput, LinkCalls, NextIfExposed, ReadIfExposed, DeliversIfExposed};
+ghost use Rattle.mmtel_link.specs.LinkStates.{IsCountedCall, IsCountedBind, IsCountedDelivery, with_offer, with_reply};
 
 use mmtel_base::{NoMemory, Text};
 use mmtel_types::{Addr, Failed, Moment};

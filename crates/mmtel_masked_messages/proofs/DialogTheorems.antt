@@ -22,7 +22,8 @@ use Rattle.mmtel_trust.proofs.ParsedTheorems.{call_id_kept, cseq_kept, way_kept}
 use Rattle.mmtel_trust.proofs.IndexKeeping.{changed, first-masked, first_named, from_tag-masked, from_value, head_value, to_tag-masked, values-masked}
 use Rattle.mmtel_trust.proofs.Masked.{hidden_uris}
 use Rattle.mmtel_types.specs.declared.sides.Side.TheVariants.{Caller, Callee}
-use Rattle.mmtel_masked_messages.specs.Dialogs.{ContactDecides, DialogsDifferInRemote, EquivalentDialogsDifferInRemote, EquivalentSendersHaveOneName, NumbersStay, RemotesDifferInTarget, RoutesStay, TagsStay, TargetsAreAnonymous, with_remote_value}
+use Rattle.mmtel_masked_messages.specs.Dialogs.{ContactDecides, DialogsDifferInRemote, EquivalentDialogsDifferInRemote, EquivalentSendersHaveOneName}
+use Rattle.mmtel_masked_messages.specs.Dialogs.{NumbersStay, RemotesDifferInTarget, RoutesStay, TagsStay, TargetsAreAnonymous, with_remote_value}
 use Rattle.mmtel_masked_messages.proofs.ResponseTheorems.{request_to, to_kept}
 
 -- ---- tags, routes and numbers
@@ -83,7 +84,8 @@ nobody p ls v n e alone first read =
 -- ---- a caller's dialog
 
 none_hidden : (b : Bool) → [] ≡ hide_if b []
-unfolding hidden_value Scanning.closing_quote_from Reading.name_addr_of Reading.words_of Reading.quoted_of Reading.angle_of Reading.bare_of Reading.all_params_at Reading.params_at Reading.param_at Reading.token_at Reading.value_at Reading.text_at Classes.in_class Scanning.leading_run Scanning.after_run Scanning.without_trailing Scanning.split_once_at
+unfolding hidden_value Scanning.closing_quote_from Reading.name_addr_of Reading.words_of Reading.quoted_of Reading.angle_of Reading.bare_of Reading.all_params_at Reading.params_at Reading.param_at
+    Reading.token_at Reading.value_at Reading.text_at Classes.in_class Scanning.leading_run Scanning.after_run Scanning.without_trailing Scanning.split_once_at
 none_hidden true = refl
 none_hidden false = refl
 
@@ -106,10 +108,12 @@ dialogs p peer ls tag e =
 -- ---- two messages
 
 -- what does not depend on what is private is the same of both
-seen_equal : {B : Type 0} (f : List Line → B) → ((p : PrivateFields) (ls : List Line) → f (masked_lines p ls) ≡ f ls) → (p q : PrivateFields) (m n : Message Start) → masked_message p m ≡ masked_message q n → f m.lines ≡ f n.lines
+seen_equal : {B : Type 0} (f : List Line → B) → ((p : PrivateFields) (ls : List Line) → f (masked_lines p ls) ≡ f ls) → (p q : PrivateFields) (m n : Message Start) →
+    masked_message p m ≡ masked_message q n → f m.lines ≡ f n.lines
 seen_equal f law p q m n e = sym (law (private_fields_in m.start p) m.lines) ∙ (ap (λ (x : Message Start). f x.lines) e ∙ law (private_fields_in n.start q) n.lines)
 
-target_equal : (p q : PrivateFields) (m n : Message Start) → masked_message p m ≡ masked_message q n → (private_fields_in m.start p).contact ≡ false → (private_fields_in n.start q).contact ≡ false → contact_uri m.lines ≡ contact_uri n.lines
+target_equal : (p q : PrivateFields) (m n : Message Start) → masked_message p m ≡ masked_message q n → (private_fields_in m.start p).contact ≡ false → (private_fields_in n.start q).contact ≡ false →
+    contact_uri m.lines ≡ contact_uri n.lines
 target_equal p q m n e a b = sym (target (private_fields_in m.start p) m.lines a) ∙ (ap (λ (x : Message Start). contact_uri x.lines) e ∙ target (private_fields_in n.start q) n.lines b)
 
 pub equal_dialogs : EquivalentSendersHaveOneName

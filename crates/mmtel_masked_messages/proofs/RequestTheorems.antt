@@ -17,7 +17,8 @@ use Rattle.mmtel_trust.specs.declared.header_table.Facing.{Facing}
 use Rattle.mmtel_trust.proofs.IndexKeeping.{from-entries, passed-entries}
 use Rattle.mmtel_trust.proofs.Masked.{passed-masked}
 use Rattle.mmtel_trust.proofs.TableTheorems.{own_shown, shown_equal}
-use Rattle.mmtel_masked_messages.specs.Requests.{AttemptsAreHidden, AttemptsHaveOneHead, EntriesAreHidden, EntriesHaveNoHead, NoOwnFieldsAreNoHead, RelayedAreHidden, ShownLinesHaveNoHead, attempt_request, with_attempt_from, with_lines, with_shown_lines}
+use Rattle.mmtel_masked_messages.specs.Requests.{AttemptsAreHidden, AttemptsHaveOneHead, EntriesAreHidden, EntriesHaveNoHead, NoOwnFieldsAreNoHead}
+use Rattle.mmtel_masked_messages.specs.Requests.{RelayedAreHidden, ShownLinesHaveNoHead, attempt_request, with_attempt_from, with_lines, with_shown_lines}
 use Rattle.mmtel_masked_messages.specs.Responses.{AreNoOwnFields}
 use Rattle.mmtel_masked_messages.proofs.ResponseTheorems.{later, same_if, unseen}
 
@@ -61,15 +62,18 @@ restricted_from f tag m n r = rw r refl
 entries_named : (es : Entries) (restricted : Bool) (tag : List ℕ) (m : Message Start) → attempt_from restricted tag (masked_message (only_entries es) m).lines ≡ attempt_from restricted tag m.lines
 entries_named es restricted tag m = ap (λ (p : PrivateFields). attempt_from restricted tag (masked_lines p m.lines)) (entries_inserted m.start es) ∙ from-entries es restricted tag m.lines
 
-entries_from : (es other : Entries) (restricted : Bool) (tag : List ℕ) (m n : Message Start) → masked_message (only_entries es) m ≡ masked_message (only_entries other) n → attempt_from restricted tag m.lines ≡ attempt_from restricted tag n.lines
+entries_from : (es other : Entries) (restricted : Bool) (tag : List ℕ) (m n : Message Start) → masked_message (only_entries es) m ≡ masked_message (only_entries other) n →
+    attempt_from restricted tag m.lines ≡ attempt_from restricted tag n.lines
 entries_from es other restricted tag m n e = sym (entries_named es restricted tag m) ∙ (ap (λ (x : Message Start). attempt_from restricted tag x.lines) e ∙ entries_named other restricted tag n)
 
 -- ---- requests
 
-with_shown : (d : Dialogue) (number : ℕ) (method : List ℕ) (given : RequestPartsView) (xs ys : List Line) → xs ≡ ys → request_numbered d number method (with_lines xs given) ≡ request_numbered d number method (with_lines ys given)
+with_shown : (d : Dialogue) (number : ℕ) (method : List ℕ) (given : RequestPartsView) (xs ys : List Line) → xs ≡ ys →
+    request_numbered d number method (with_lines xs given) ≡ request_numbered d number method (with_lines ys given)
 with_shown d number method given xs ys e = ap (λ (l : List Line). request_numbered d number method (with_lines l given)) e
 
-with_local : (d : Dialogue) (number : ℕ) (method : List ℕ) (given : RequestPartsView) (v w : List ℕ) → v ≡ w → request_numbered (record d { local = v }) number method given ≡ request_numbered (record d { local = w }) number method given
+with_local : (d : Dialogue) (number : ℕ) (method : List ℕ) (given : RequestPartsView) (v w : List ℕ) → v ≡ w →
+    request_numbered (record d { local = v }) number method given ≡ request_numbered (record d { local = w }) number method given
 with_local d number method given v w e = ap (λ (x : List ℕ). request_numbered (record d { local = x }) number method given) e
 
 pub relayed_hidden : RelayedAreHidden
@@ -99,7 +103,8 @@ no_contact : (name method : List ℕ) (g : RequestPartsView) → is_line name (c
 unfolding line
 no_contact name method g e = none_if (is_contacting method && not (has_line (codes "Contact") g.shown)) name (codes "Contact", contact_text g.sip) e
 
-shown_named : (d : Dialogue) (number : ℕ) (method : List ℕ) (given : RequestPartsView) (xs ys : List Line) (name : List ℕ) → is_line name (codes "Contact", contact_text given.sip) ≡ false → lines_named name xs ≡ [] → lines_named name ys ≡ []
+shown_named : (d : Dialogue) (number : ℕ) (method : List ℕ) (given : RequestPartsView) (xs ys : List Line) (name : List ℕ) → is_line name (codes "Contact", contact_text given.sip) ≡ false →
+    lines_named name xs ≡ [] → lines_named name ys ≡ []
     → lines_named name (request_numbered d number method (with_lines xs given)).lines ≡ lines_named name (request_numbered d number method (with_lines ys given)).lines
 shown_named d number method given xs ys name other x y =
     let tail : List Line = line (codes "Content-Length") (decimal (length given.body)) in

@@ -7,7 +7,8 @@ use Rattle.std.proofs.lemmas.Grind.{flat_map-append}
 use Rattle.std.proofs.lemmas.List.Elements.{filter-append}
 use Rattle.mmtel_message.specs.Faults.{is_request}
 use Rattle.mmtel_message.specs.Message.{Line, Message, has_line, is_line, line, lines_named}
-use Rattle.mmtel_message.specs.Responses.{AddsNo, Reply, added_lines, call_lines, completed_line, completed_lines, contact_lines, copied_lines, makes_dialog, names_contact, own_fields, party_lines, response, route_lines, tag_of_response, to_line, to_value, via_lines}
+use Rattle.mmtel_message.specs.Responses.{AddsNo, Reply, added_lines, call_lines, completed_line, completed_lines, contact_lines, copied_lines, makes_dialog}
+use Rattle.mmtel_message.specs.Responses.{names_contact, own_fields, party_lines, response, route_lines, tag_of_response, to_line, to_value, via_lines}
 use Rattle.mmtel_message.specs.Vias.{completed_value}
 use Rattle.mmtel_message.specs.declared.messages.Start.{Start}
 use Rattle.mmtel_message.specs.declared.messages.Start.TheVariants.{Status}
@@ -24,7 +25,8 @@ use Rattle.mmtel_trust.proofs.IndexKeeping.{from_value, kind_like, named-masked}
 use Rattle.mmtel_trust.proofs.Masked.{lines_again}
 use Rattle.mmtel_base.proofs.Runs.{and_true}
 use Rattle.mmtel_masked_messages.specs.Heads.{LinesKeepTheirHead, message_of_lines}
-use Rattle.mmtel_masked_messages.specs.Responses.{AreNoOwnFields, EquivalentResponsesAreEqual, EquivalentResponsesHaveOneHead, RelayedHaveOneHead, ResponsesAreMasked, ResponsesSeeOnlyFrom, private_from, with_passed_lines}
+use Rattle.mmtel_masked_messages.specs.Responses.{AreNoOwnFields, EquivalentResponsesAreEqual, EquivalentResponsesHaveOneHead}
+use Rattle.mmtel_masked_messages.specs.Responses.{RelayedHaveOneHead, ResponsesAreMasked, ResponsesSeeOnlyFrom, private_from, with_passed_lines}
 
 -- ---- which lines of a request stay
 
@@ -45,7 +47,8 @@ pub request_to : (p : PrivateFields) (start : Start) → is_request start ≡ tr
 request_to p start e = rw e refl
 
 -- a response depends on the lines of six names of its request
-by_names : (start : Start) (ls ks : List Line) (r : Reply) → lines_named (codes "Via") ls ≡ lines_named (codes "Via") ks → lines_named (codes "From") ls ≡ lines_named (codes "From") ks → lines_named (codes "To") ls ≡ lines_named (codes "To") ks
+by_names : (start : Start) (ls ks : List Line) (r : Reply) → lines_named (codes "Via") ls ≡ lines_named (codes "Via") ks → lines_named (codes "From") ls ≡ lines_named (codes "From") ks →
+    lines_named (codes "To") ls ≡ lines_named (codes "To") ks
     → lines_named (codes "Call-ID") ls ≡ lines_named (codes "Call-ID") ks → lines_named (codes "CSeq") ls ≡ lines_named (codes "CSeq") ks → lines_named (codes "Record-Route") ls
     ≡ lines_named (codes "Record-Route") ks → response start ls r ≡ response start ks r
 unfolding response copied_lines added_lines via_lines party_lines call_lines route_lines
@@ -205,7 +208,8 @@ parties b tag ls = two (private_from b) (lines_named (codes "From") ls) (map (to
 
 calls : (b : Bool) (ls : List Line) → masked_lines (private_from b) (call_lines ls) ≡ call_lines (masked_lines (private_from b) ls)
 unfolding call_lines
-calls b ls = two (private_from b) (lines_named (codes "Call-ID") ls) (lines_named (codes "CSeq") ls) (lines_named (codes "Call-ID") (masked_lines (private_from b) ls)) (lines_named (codes "CSeq") (masked_lines (private_from b) ls))
+calls b ls = two (private_from b) (lines_named (codes "Call-ID") ls) (lines_named (codes "CSeq") ls) (lines_named (codes "Call-ID") (masked_lines (private_from b) ls))
+    (lines_named (codes "CSeq") (masked_lines (private_from b) ls))
     (sym (named_inside (private_from b) (codes "Call-ID") ls)) (sym (named_inside (private_from b) (codes "CSeq") ls))
 
 routes : (b : Bool) (code : ℕ) (start : Start) (ls : List Line) → masked_lines (private_from b) (route_lines code start ls) ≡ route_lines code start (masked_lines (private_from b) ls)
@@ -360,7 +364,8 @@ module _ (keep : LinesKeepTheirHead) (five : HeadsRestOnFiveNames) where
       ∙ (ap (λ (x : Message Start). head_of (response x.start x.lines r)) same
       ∙ masked_head q n r (ap (λ (x : Message Start). is_request x.start) (sym same) ∙ e))
 
-  passed_head : (start : Start) (ls : List Line) (r : Reply) (xs ys : List Line) → AreNoOwnFields xs → AreNoOwnFields ys → head_of (response start ls (with_passed_lines xs r)) ≡ head_of (response start ls (with_passed_lines ys r))
+  passed_head : (start : Start) (ls : List Line) (r : Reply) (xs ys : List Line) → AreNoOwnFields xs → AreNoOwnFields ys →
+      head_of (response start ls (with_passed_lines xs r)) ≡ head_of (response start ls (with_passed_lines ys r))
   passed_head start ls r xs ys x y = (five (response start ls (with_passed_lines xs r)) (response start ls (with_passed_lines ys r)) (record {
     start = ap start_read (response_starts start ls (with_passed_lines xs r) ∙ sym (response_starts start ls (with_passed_lines ys r)));
     via = passed_named start ls r xs ys (codes "Via") (x (codes "Via") refl) (y (codes "Via") refl);

@@ -30,19 +30,27 @@ use Rattle.mmtel_masked_messages.specs.WorkedExample.{HeadsOfInvites, MaskedInvi
 -- ---- what remains
 
 erin_masked : masked_message private_in_opening restricted_invite ≡ anonymous_invite (codes "a")
-unfolding Scanning.closing_quote_from masked_line kind_of hidden_name_addr hidden_value served_value is_marked_value masked_value_text Reading.name_addr_of Reading.words_of Reading.quoted_of Reading.angle_of Reading.bare_of Reading.all_params_at Reading.params_at Reading.param_at Reading.token_at Reading.value_at Reading.text_at Classes.in_class Scanning.leading_run Scanning.after_run Scanning.without_trailing Scanning.split_once_at
+unfolding Scanning.closing_quote_from masked_line kind_of hidden_name_addr hidden_value served_value is_marked_value masked_value_text Reading.name_addr_of Reading.words_of Reading.quoted_of
+    Reading.angle_of Reading.bare_of Reading.all_params_at Reading.params_at Reading.param_at Reading.token_at Reading.value_at Reading.text_at Classes.in_class Scanning.leading_run Scanning.after_run
+    Scanning.without_trailing Scanning.split_once_at
 erin_masked = refl
 
 frank_masked : masked_message private_in_opening (invite_of_frank (codes "a")) ≡ anonymous_invite (codes "a")
-unfolding Scanning.closing_quote_from masked_line kind_of hidden_name_addr hidden_value served_value is_marked_value masked_value_text Reading.name_addr_of Reading.words_of Reading.quoted_of Reading.angle_of Reading.bare_of Reading.all_params_at Reading.params_at Reading.param_at Reading.token_at Reading.value_at Reading.text_at Classes.in_class Scanning.leading_run Scanning.after_run Scanning.without_trailing Scanning.split_once_at
+unfolding Scanning.closing_quote_from masked_line kind_of hidden_name_addr hidden_value served_value is_marked_value masked_value_text Reading.name_addr_of Reading.words_of Reading.quoted_of
+    Reading.angle_of Reading.bare_of Reading.all_params_at Reading.params_at Reading.param_at Reading.token_at Reading.value_at Reading.text_at Classes.in_class Scanning.leading_run Scanning.after_run
+    Scanning.without_trailing Scanning.split_once_at
 frank_masked = refl
 
 other_masked : masked_message private_in_opening (invite_of_frank (codes "b")) ≡ anonymous_invite (codes "b")
-unfolding Scanning.closing_quote_from masked_line kind_of hidden_name_addr hidden_value served_value is_marked_value masked_value_text Reading.name_addr_of Reading.words_of Reading.quoted_of Reading.angle_of Reading.bare_of Reading.all_params_at Reading.params_at Reading.param_at Reading.token_at Reading.value_at Reading.text_at Classes.in_class Scanning.leading_run Scanning.after_run Scanning.without_trailing Scanning.split_once_at
+unfolding Scanning.closing_quote_from masked_line kind_of hidden_name_addr hidden_value served_value is_marked_value masked_value_text Reading.name_addr_of Reading.words_of Reading.quoted_of
+    Reading.angle_of Reading.bare_of Reading.all_params_at Reading.params_at Reading.param_at Reading.token_at Reading.value_at Reading.text_at Classes.in_class Scanning.leading_run Scanning.after_run
+    Scanning.without_trailing Scanning.split_once_at
 other_masked = refl
 
 shown_masked : masked_message (only_entries MarkedEntries) unrestricted_invite ≡ unrestricted_invite
-unfolding Scanning.closing_quote_from masked_line kind_of hidden_name_addr hidden_value served_value is_marked_value masked_value_text Reading.name_addr_of Reading.words_of Reading.quoted_of Reading.angle_of Reading.bare_of Reading.all_params_at Reading.params_at Reading.param_at Reading.token_at Reading.value_at Reading.text_at Classes.in_class Scanning.leading_run Scanning.after_run Scanning.without_trailing Scanning.split_once_at
+unfolding Scanning.closing_quote_from masked_line kind_of hidden_name_addr hidden_value served_value is_marked_value masked_value_text Reading.name_addr_of Reading.words_of Reading.quoted_of
+    Reading.angle_of Reading.bare_of Reading.all_params_at Reading.params_at Reading.param_at Reading.token_at Reading.value_at Reading.text_at Classes.in_class Scanning.leading_run Scanning.after_run
+    Scanning.without_trailing Scanning.split_once_at
 shown_masked = refl
 
 pub invites : MaskedInvites
@@ -102,51 +110,69 @@ unfolding next_separator
 one_via = ap (λ (ps : List (List ℕ)). trim (first_in ps)) (one_part Plain via_text refl)
 
 at_via : via_at (trim via_text) ≡ Some via
-unfolding Classes.in_class Numbers.value_up_to Numbers.number_of Scanning.leading_run Scanning.after_run Scanning.split_once_at Scanning.closing_quote_from Scanning.without_trailing Reading.token_at Reading.text_at Reading.value_at Reading.param_at Reading.params_at Reading.all_params_at Reading.angle_of Reading.bare_of Reading.words_of Reading.quoted_of Reading.name_addr_of Reading.host_at Reading.port_number Reading.port_at via_at
+unfolding Classes.in_class Numbers.value_up_to Numbers.number_of Scanning.leading_run Scanning.after_run Scanning.split_once_at Scanning.closing_quote_from Scanning.without_trailing Reading.token_at
+    Reading.text_at Reading.value_at Reading.param_at Reading.params_at Reading.all_params_at Reading.angle_of Reading.bare_of Reading.words_of Reading.quoted_of Reading.name_addr_of Reading.host_at
+    Reading.port_number Reading.port_at via_at
 at_via = refl
 
 via_of : via_at (first_part via_text) ≡ Some via
 via_of = ap via_at one_via ∙ at_via
 
 erin_parties : parties_in restricted_invite.lines ≡ Some (erin, bob)
-unfolding Classes.in_class Numbers.value_up_to Numbers.number_of Scanning.leading_run Scanning.after_run Scanning.split_once_at Scanning.closing_quote_from Scanning.without_trailing Reading.token_at Reading.text_at Reading.value_at Reading.param_at Reading.params_at Reading.all_params_at Reading.angle_of Reading.bare_of Reading.words_of Reading.quoted_of Reading.name_addr_of Reading.host_at Reading.port_number Reading.port_at parties_in
+unfolding Classes.in_class Numbers.value_up_to Numbers.number_of Scanning.leading_run Scanning.after_run Scanning.split_once_at Scanning.closing_quote_from Scanning.without_trailing Reading.token_at
+    Reading.text_at Reading.value_at Reading.param_at Reading.params_at Reading.all_params_at Reading.angle_of Reading.bare_of Reading.words_of Reading.quoted_of Reading.name_addr_of Reading.host_at
+    Reading.port_number Reading.port_at parties_in
 erin_parties = refl
 
 erin_call : call_in restricted_invite.lines ≡ Some (codes "c1", seven)
-unfolding Classes.in_class Numbers.value_up_to Numbers.number_of Scanning.leading_run Scanning.after_run Scanning.split_once_at Scanning.closing_quote_from Scanning.without_trailing Reading.token_at Reading.text_at Reading.value_at Reading.param_at Reading.params_at Reading.all_params_at Reading.angle_of Reading.bare_of Reading.words_of Reading.quoted_of Reading.name_addr_of Reading.host_at Reading.port_number Reading.port_at call_in cseq_at
+unfolding Classes.in_class Numbers.value_up_to Numbers.number_of Scanning.leading_run Scanning.after_run Scanning.split_once_at Scanning.closing_quote_from Scanning.without_trailing Reading.token_at
+    Reading.text_at Reading.value_at Reading.param_at Reading.params_at Reading.all_params_at Reading.angle_of Reading.bare_of Reading.words_of Reading.quoted_of Reading.name_addr_of Reading.host_at
+    Reading.port_number Reading.port_at call_in cseq_at
 erin_call = refl
 
 erin_head : head_of restricted_invite ≡ head_with_tag (codes "a")
 erin_head = head_by restricted_invite via (erin) bob (codes "c1") seven via_of erin_parties erin_call
 
 shown_parties : parties_in unrestricted_invite.lines ≡ Some (erin, bob)
-unfolding Classes.in_class Numbers.value_up_to Numbers.number_of Scanning.leading_run Scanning.after_run Scanning.split_once_at Scanning.closing_quote_from Scanning.without_trailing Reading.token_at Reading.text_at Reading.value_at Reading.param_at Reading.params_at Reading.all_params_at Reading.angle_of Reading.bare_of Reading.words_of Reading.quoted_of Reading.name_addr_of Reading.host_at Reading.port_number Reading.port_at parties_in
+unfolding Classes.in_class Numbers.value_up_to Numbers.number_of Scanning.leading_run Scanning.after_run Scanning.split_once_at Scanning.closing_quote_from Scanning.without_trailing Reading.token_at
+    Reading.text_at Reading.value_at Reading.param_at Reading.params_at Reading.all_params_at Reading.angle_of Reading.bare_of Reading.words_of Reading.quoted_of Reading.name_addr_of Reading.host_at
+    Reading.port_number Reading.port_at parties_in
 shown_parties = refl
 
 shown_call : call_in unrestricted_invite.lines ≡ Some (codes "c1", seven)
-unfolding Classes.in_class Numbers.value_up_to Numbers.number_of Scanning.leading_run Scanning.after_run Scanning.split_once_at Scanning.closing_quote_from Scanning.without_trailing Reading.token_at Reading.text_at Reading.value_at Reading.param_at Reading.params_at Reading.all_params_at Reading.angle_of Reading.bare_of Reading.words_of Reading.quoted_of Reading.name_addr_of Reading.host_at Reading.port_number Reading.port_at call_in cseq_at
+unfolding Classes.in_class Numbers.value_up_to Numbers.number_of Scanning.leading_run Scanning.after_run Scanning.split_once_at Scanning.closing_quote_from Scanning.without_trailing Reading.token_at
+    Reading.text_at Reading.value_at Reading.param_at Reading.params_at Reading.all_params_at Reading.angle_of Reading.bare_of Reading.words_of Reading.quoted_of Reading.name_addr_of Reading.host_at
+    Reading.port_number Reading.port_at call_in cseq_at
 shown_call = refl
 
 shown_head : head_of unrestricted_invite ≡ head_with_tag (codes "a")
 shown_head = head_by unrestricted_invite via (erin) bob (codes "c1") seven via_of shown_parties shown_call
 
 nobody_parties : parties_in (anonymous_invite (codes "a")).lines ≡ Some (from [] anonymous (codes "a"), bob)
-unfolding Classes.in_class Numbers.value_up_to Numbers.number_of Scanning.leading_run Scanning.after_run Scanning.split_once_at Scanning.closing_quote_from Scanning.without_trailing Reading.token_at Reading.text_at Reading.value_at Reading.param_at Reading.params_at Reading.all_params_at Reading.angle_of Reading.bare_of Reading.words_of Reading.quoted_of Reading.name_addr_of Reading.host_at Reading.port_number Reading.port_at parties_in
+unfolding Classes.in_class Numbers.value_up_to Numbers.number_of Scanning.leading_run Scanning.after_run Scanning.split_once_at Scanning.closing_quote_from Scanning.without_trailing Reading.token_at
+    Reading.text_at Reading.value_at Reading.param_at Reading.params_at Reading.all_params_at Reading.angle_of Reading.bare_of Reading.words_of Reading.quoted_of Reading.name_addr_of Reading.host_at
+    Reading.port_number Reading.port_at parties_in
 nobody_parties = refl
 
 nobody_call : call_in (anonymous_invite (codes "a")).lines ≡ Some (codes "c1", seven)
-unfolding Classes.in_class Numbers.value_up_to Numbers.number_of Scanning.leading_run Scanning.after_run Scanning.split_once_at Scanning.closing_quote_from Scanning.without_trailing Reading.token_at Reading.text_at Reading.value_at Reading.param_at Reading.params_at Reading.all_params_at Reading.angle_of Reading.bare_of Reading.words_of Reading.quoted_of Reading.name_addr_of Reading.host_at Reading.port_number Reading.port_at call_in cseq_at
+unfolding Classes.in_class Numbers.value_up_to Numbers.number_of Scanning.leading_run Scanning.after_run Scanning.split_once_at Scanning.closing_quote_from Scanning.without_trailing Reading.token_at
+    Reading.text_at Reading.value_at Reading.param_at Reading.params_at Reading.all_params_at Reading.angle_of Reading.bare_of Reading.words_of Reading.quoted_of Reading.name_addr_of Reading.host_at
+    Reading.port_number Reading.port_at call_in cseq_at
 nobody_call = refl
 
 nobody_head : head_of (anonymous_invite (codes "a")) ≡ head_with_tag (codes "a")
 nobody_head = head_by (anonymous_invite (codes "a")) via (from [] anonymous (codes "a")) bob (codes "c1") seven via_of nobody_parties nobody_call
 
 other_parties : parties_in (anonymous_invite (codes "b")).lines ≡ Some (from [] anonymous (codes "b"), bob)
-unfolding Classes.in_class Numbers.value_up_to Numbers.number_of Scanning.leading_run Scanning.after_run Scanning.split_once_at Scanning.closing_quote_from Scanning.without_trailing Reading.token_at Reading.text_at Reading.value_at Reading.param_at Reading.params_at Reading.all_params_at Reading.angle_of Reading.bare_of Reading.words_of Reading.quoted_of Reading.name_addr_of Reading.host_at Reading.port_number Reading.port_at parties_in
+unfolding Classes.in_class Numbers.value_up_to Numbers.number_of Scanning.leading_run Scanning.after_run Scanning.split_once_at Scanning.closing_quote_from Scanning.without_trailing Reading.token_at
+    Reading.text_at Reading.value_at Reading.param_at Reading.params_at Reading.all_params_at Reading.angle_of Reading.bare_of Reading.words_of Reading.quoted_of Reading.name_addr_of Reading.host_at
+    Reading.port_number Reading.port_at parties_in
 other_parties = refl
 
 other_call : call_in (anonymous_invite (codes "b")).lines ≡ Some (codes "c1", seven)
-unfolding Classes.in_class Numbers.value_up_to Numbers.number_of Scanning.leading_run Scanning.after_run Scanning.split_once_at Scanning.closing_quote_from Scanning.without_trailing Reading.token_at Reading.text_at Reading.value_at Reading.param_at Reading.params_at Reading.all_params_at Reading.angle_of Reading.bare_of Reading.words_of Reading.quoted_of Reading.name_addr_of Reading.host_at Reading.port_number Reading.port_at call_in cseq_at
+unfolding Classes.in_class Numbers.value_up_to Numbers.number_of Scanning.leading_run Scanning.after_run Scanning.split_once_at Scanning.closing_quote_from Scanning.without_trailing Reading.token_at
+    Reading.text_at Reading.value_at Reading.param_at Reading.params_at Reading.all_params_at Reading.angle_of Reading.bare_of Reading.words_of Reading.quoted_of Reading.name_addr_of Reading.host_at
+    Reading.port_number Reading.port_at call_in cseq_at
 other_call = refl
 
 other_head : head_of (anonymous_invite (codes "b")) ≡ head_with_tag (codes "b")
@@ -170,7 +196,9 @@ unfolding Classes.in_class Scanning.leading_run Scanning.after_run Scanning.spli
 nobody_contact = one_value (codes "<sip:anonymous@anonymous.invalid>") refl refl
 
 nobody_uri : first_uri (((codes "<sip:anonymous@anonymous.invalid>") ∷ []) ++ []) ≡ codes "sip:anonymous@anonymous.invalid"
-unfolding Classes.in_class Numbers.value_up_to Numbers.number_of Scanning.leading_run Scanning.after_run Scanning.split_once_at Scanning.closing_quote_from Scanning.without_trailing Reading.token_at Reading.text_at Reading.value_at Reading.param_at Reading.params_at Reading.all_params_at Reading.angle_of Reading.bare_of Reading.words_of Reading.quoted_of Reading.name_addr_of Reading.host_at Reading.port_number Reading.port_at
+unfolding Classes.in_class Numbers.value_up_to Numbers.number_of Scanning.leading_run Scanning.after_run Scanning.split_once_at Scanning.closing_quote_from Scanning.without_trailing Reading.token_at
+    Reading.text_at Reading.value_at Reading.param_at Reading.params_at Reading.all_params_at Reading.angle_of Reading.bare_of Reading.words_of Reading.quoted_of Reading.name_addr_of Reading.host_at
+    Reading.port_number Reading.port_at
 nobody_uri = refl
 
 nobody_target : contact_uri (anonymous_invite (codes "a")).lines ≡ codes "sip:anonymous@anonymous.invalid"
@@ -178,7 +206,9 @@ unfolding contact_uri
 nobody_target = ap (λ (vs : List (List ℕ)). first_uri (vs ++ [])) nobody_contact ∙ nobody_uri
 
 nobody_tag : tag_in (codes "From") (anonymous_invite (codes "a")).lines ≡ codes "a"
-unfolding Classes.in_class Numbers.value_up_to Numbers.number_of Scanning.leading_run Scanning.after_run Scanning.split_once_at Scanning.closing_quote_from Scanning.without_trailing Reading.token_at Reading.text_at Reading.value_at Reading.param_at Reading.params_at Reading.all_params_at Reading.angle_of Reading.bare_of Reading.words_of Reading.quoted_of Reading.name_addr_of Reading.host_at Reading.port_number Reading.port_at tag_in
+unfolding Classes.in_class Numbers.value_up_to Numbers.number_of Scanning.leading_run Scanning.after_run Scanning.split_once_at Scanning.closing_quote_from Scanning.without_trailing Reading.token_at
+    Reading.text_at Reading.value_at Reading.param_at Reading.params_at Reading.all_params_at Reading.angle_of Reading.bare_of Reading.words_of Reading.quoted_of Reading.name_addr_of Reading.host_at
+    Reading.port_number Reading.port_at tag_in
 nobody_tag = refl
 
 nobody_routes : route_set Caller (anonymous_invite (codes "a")).lines ≡ []
@@ -193,7 +223,9 @@ unfolding Classes.in_class Scanning.leading_run Scanning.after_run Scanning.spli
 shown_contact = one_value (codes "<sip:erin@127.0.0.1:5071>") refl refl
 
 shown_uri : first_uri (((codes "<sip:erin@127.0.0.1:5071>") ∷ []) ++ []) ≡ codes "sip:erin@127.0.0.1:5071"
-unfolding Classes.in_class Numbers.value_up_to Numbers.number_of Scanning.leading_run Scanning.after_run Scanning.split_once_at Scanning.closing_quote_from Scanning.without_trailing Reading.token_at Reading.text_at Reading.value_at Reading.param_at Reading.params_at Reading.all_params_at Reading.angle_of Reading.bare_of Reading.words_of Reading.quoted_of Reading.name_addr_of Reading.host_at Reading.port_number Reading.port_at
+unfolding Classes.in_class Numbers.value_up_to Numbers.number_of Scanning.leading_run Scanning.after_run Scanning.split_once_at Scanning.closing_quote_from Scanning.without_trailing Reading.token_at
+    Reading.text_at Reading.value_at Reading.param_at Reading.params_at Reading.all_params_at Reading.angle_of Reading.bare_of Reading.words_of Reading.quoted_of Reading.name_addr_of Reading.host_at
+    Reading.port_number Reading.port_at
 shown_uri = refl
 
 shown_target : contact_uri unrestricted_invite.lines ≡ codes "sip:erin@127.0.0.1:5071"
@@ -201,7 +233,9 @@ unfolding contact_uri
 shown_target = ap (λ (vs : List (List ℕ)). first_uri (vs ++ [])) shown_contact ∙ shown_uri
 
 shown_tag : tag_in (codes "From") unrestricted_invite.lines ≡ codes "a"
-unfolding Classes.in_class Numbers.value_up_to Numbers.number_of Scanning.leading_run Scanning.after_run Scanning.split_once_at Scanning.closing_quote_from Scanning.without_trailing Reading.token_at Reading.text_at Reading.value_at Reading.param_at Reading.params_at Reading.all_params_at Reading.angle_of Reading.bare_of Reading.words_of Reading.quoted_of Reading.name_addr_of Reading.host_at Reading.port_number Reading.port_at tag_in
+unfolding Classes.in_class Numbers.value_up_to Numbers.number_of Scanning.leading_run Scanning.after_run Scanning.split_once_at Scanning.closing_quote_from Scanning.without_trailing Reading.token_at
+    Reading.text_at Reading.value_at Reading.param_at Reading.params_at Reading.all_params_at Reading.angle_of Reading.bare_of Reading.words_of Reading.quoted_of Reading.name_addr_of Reading.host_at
+    Reading.port_number Reading.port_at tag_in
 shown_tag = refl
 
 shown_routes : route_set Caller unrestricted_invite.lines ≡ []
@@ -212,7 +246,9 @@ shown_remote : remote_of Caller unrestricted_invite.lines ≡ erin_at (codes "si
 shown_remote = remote_by unrestricted_invite.lines (erin_at (codes "sip:erin@127.0.0.1:5071")) shown_tag shown_target shown_routes
 
 nobody_number : number_in (anonymous_invite (codes "a")).lines ≡ Some 7
-unfolding Classes.in_class Numbers.value_up_to Numbers.number_of Scanning.leading_run Scanning.after_run Scanning.split_once_at Scanning.closing_quote_from Scanning.without_trailing Reading.token_at Reading.text_at Reading.value_at Reading.param_at Reading.params_at Reading.all_params_at Reading.angle_of Reading.bare_of Reading.words_of Reading.quoted_of Reading.name_addr_of Reading.host_at Reading.port_number Reading.port_at number_at number_in cseq_at
+unfolding Classes.in_class Numbers.value_up_to Numbers.number_of Scanning.leading_run Scanning.after_run Scanning.split_once_at Scanning.closing_quote_from Scanning.without_trailing Reading.token_at
+    Reading.text_at Reading.value_at Reading.param_at Reading.params_at Reading.all_params_at Reading.angle_of Reading.bare_of Reading.words_of Reading.quoted_of Reading.name_addr_of Reading.host_at
+    Reading.port_number Reading.port_at number_at number_in cseq_at
 nobody_number = refl
 
 pub remotes : RemotesOfInvites

@@ -33,7 +33,8 @@ with_remote_target target r = record r { target = target }
 
 -- of the sender the target alone may differ
 abbrev pub RemotesDifferInTarget : Type 0
-RemotesDifferInTarget = (p : PrivateFields) (side : Side) (ls : List Line) → remote_of side (masked_lines p ls) ≡ with_remote_target (contact_uri (masked_lines p ls)) (remote_of side ls)
+RemotesDifferInTarget = (p : PrivateFields) (side : Side) (ls : List Line) →
+    remote_of side (masked_lines p ls) ≡ with_remote_target (contact_uri (masked_lines p ls)) (remote_of side ls)
 
 -- it stays where Contact is not private
 abbrev pub ContactDecides : Type 0

@@ -17,7 +17,8 @@ message_of_lines start ls body = record { start = start; lines = ls; body = body
 
 -- so have lines that are masked by any places, such as those of a response in a request, and with any body
 abbrev pub LinesKeepTheirHead : Type 0
-LinesKeepTheirHead = (p : PrivateFields) (start : Start) (ls : List Line) (body other : List ℕ) → head_of (message_of_lines start (masked_lines p ls) body) ≡ head_of (message_of_lines start ls other)
+LinesKeepTheirHead = (p : PrivateFields) (start : Start) (ls : List Line) (body other : List ℕ) →
+    head_of (message_of_lines start (masked_lines p ls) body) ≡ head_of (message_of_lines start ls other)
 
 -- two messages that are equal when masked, each by its own places, have the same head
 abbrev pub EquivalentMessagesHaveOneHead : Type 0

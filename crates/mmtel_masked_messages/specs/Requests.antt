@@ -39,7 +39,8 @@ attempt_request f to_trusted h tag m d number method given = relayed_request f t
 
 -- from messages that are equal when masked an untrusted peer gets the same attempt, where the calls' lists are the same as far as it may see them
 abbrev pub AttemptsAreHidden : Type 0
-AttemptsAreHidden = (p q : PrivateFields) (f : Facing) (h k : List Entry) (tag : List ℕ) (m n : Message Start) (d : Dialogue) (number : ℕ) (method : List ℕ) (given : RequestPartsView) →
+AttemptsAreHidden = (p q : PrivateFields) (f : Facing) (h k : List Entry) (tag : List ℕ) (m n : Message Start) (d : Dialogue) (number : ℕ)
+    (method : List ℕ) (given : RequestPartsView) →
     f.restricted ≡ true → masked_message p m ≡ masked_message q n → masked_list f.mask_all h ≡ masked_list f.mask_all k →
     attempt_request f false h tag m d number method given ≡ attempt_request f false k tag n d number method given
 
@@ -68,7 +69,8 @@ ShownLinesHaveNoHead = (f g : Facing) (b c : Bool) (h k : List Entry) (m n : Mes
 
 -- where only entries of History-Info are private an untrusted peer gets the same attempt
 abbrev pub EntriesAreHidden : Type 0
-EntriesAreHidden = (es other : Entries) (f : Facing) (h k : List Entry) (tag : List ℕ) (m n : Message Start) (d : Dialogue) (number : ℕ) (method : List ℕ) (given : RequestPartsView) →
+EntriesAreHidden = (es other : Entries) (f : Facing) (h k : List Entry) (tag : List ℕ) (m n : Message Start) (d : Dialogue) (number : ℕ)
+    (method : List ℕ) (given : RequestPartsView) →
     masked_message (only_entries es) m ≡ masked_message (only_entries other) n → masked_list f.mask_all h ≡ masked_list f.mask_all k →
     attempt_request f false h tag m d number method given ≡ attempt_request f false k tag n d number method given
 
@@ -76,4 +78,5 @@ EntriesAreHidden = (es other : Entries) (f : Facing) (h k : List Entry) (tag : L
 abbrev pub EntriesHaveNoHead : Type 0
 EntriesHaveNoHead = (es other : Entries) (f : Facing) (b c : Bool) (h k : List Entry) (tag : List ℕ) (m n : Message Start) (d : Dialogue) (number : ℕ) (method : List ℕ)
     (given : RequestPartsView) →
-    masked_message (only_entries es) m ≡ masked_message (only_entries other) n → head_of (attempt_request f b h tag m d number method given) ≡ head_of (attempt_request f c k tag n d number method given)
+    masked_message (only_entries es) m ≡ masked_message (only_entries other) n →
+    head_of (attempt_request f b h tag m d number method given) ≡ head_of (attempt_request f c k tag n d number method given)

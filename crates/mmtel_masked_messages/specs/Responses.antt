@@ -38,10 +38,12 @@ with_passed_lines ls r = record r { passed = ls }
 
 -- so have those that pass on such lines of a response that the server received, whatever these are
 abbrev pub RelayedHaveOneHead : Type 0
-RelayedHaveOneHead = (p q : PrivateFields) (m n : Message Start) (r : Reply) (ls ks : List Line) → is_request m.start ≡ true → masked_message p m ≡ masked_message q n → AreNoOwnFields ls → AreNoOwnFields ks →
+RelayedHaveOneHead = (p q : PrivateFields) (m n : Message Start) (r : Reply) (ls ks : List Line) → is_request m.start ≡ true →
+    masked_message p m ≡ masked_message q n → AreNoOwnFields ls → AreNoOwnFields ks →
     head_of (response m.start m.lines (with_passed_lines ls r)) ≡ head_of (response n.start n.lines (with_passed_lines ks r))
 
 -- and they are equal where From is not private
 abbrev pub EquivalentResponsesAreEqual : Type 0
-EquivalentResponsesAreEqual = (p q : PrivateFields) (m n : Message Start) (r : Reply) → is_request m.start ≡ true → p.from ≡ false → q.from ≡ false → masked_message p m ≡ masked_message q n →
+EquivalentResponsesAreEqual = (p q : PrivateFields) (m n : Message Start) (r : Reply) → is_request m.start ≡ true → p.from ≡ false →
+    q.from ≡ false → masked_message p m ≡ masked_message q n →
     response m.start m.lines r ≡ response n.start n.lines r

@@ -83,7 +83,8 @@ fits_more rest x v (Some n) e f =
 
 -- ---- the message
 
-more_message : (start : Start) (five : Five) (hs : List Line) (rest x v : List ℕ) → first_value (codes "Content-Length") hs ≡ Some v → first_fault start five (length rest) hs ≡ None → after_faults start hs (rest ++ x) (first_fault start five (length (rest ++ x)) hs) ≡ Ok (message_of start hs rest)
+more_message : (start : Start) (five : Five) (hs : List Line) (rest x v : List ℕ) → first_value (codes "Content-Length") hs ≡ Some v → first_fault start five (length rest) hs ≡ None →
+    after_faults start hs (rest ++ x) (first_fault start five (length (rest ++ x)) hs) ≡ Ok (message_of start hs rest)
 more_message start five hs rest x v there e =
     let f = fault_parts start five (length rest) hs e in
     let o = absent_parts start hs (fault_from start five (length rest) [] hs) f.1 in
@@ -95,21 +96,24 @@ more_message start five hs rest x v there e =
     let body : body_of hs (rest ++ x) ≡ body_of hs rest = rw there (body_more rest x v (number_of (length rest) v) refl fits) in
     rw (f.0, here, o.1, body) refl
 
-said : (hs : List Line) (start : Start) (five : Five) (rest v : List ℕ) → first_fault start five (length rest) hs ≡ None → first_value (codes "Content-Length") (expanded_lines hs) ≡ Some v → first_value (codes "Content-Length") hs ≡ Some v
+said : (hs : List Line) (start : Start) (five : Five) (rest v : List ℕ) → first_fault start five (length rest) hs ≡ None → first_value (codes "Content-Length") (expanded_lines hs) ≡ Some v →
+    first_value (codes "Content-Length") hs ≡ Some v
 said hs start five rest v e there =
     let f = fault_parts start five (length rest) hs e in
     let o = absent_parts start hs (fault_from start five (length rest) [] hs) f.1 in
     let clean = clean_from start five (length rest) [] hs o.0 in
     sym (length_kept (privacy_text hs) (allow_text hs) start five (length rest) hs clean) ∙ there
 
-by_faults : (start : Start) (five : Five) (hs : List Line) (rest x v : List ℕ) (m : Message Start) (o : Option ℕ) → first_fault start five (length rest) hs ≡ o → after_faults start hs rest o ≡ Ok m → first_value (codes "Content-Length") m.lines ≡ Some v → after_faults start hs (rest ++ x) (first_fault start five (length (rest ++ x)) hs) ≡ Ok m
+by_faults : (start : Start) (five : Five) (hs : List Line) (rest x v : List ℕ) (m : Message Start) (o : Option ℕ) → first_fault start five (length rest) hs ≡ o → after_faults start hs rest o ≡ Ok m →
+    first_value (codes "Content-Length") m.lines ≡ Some v → after_faults start hs (rest ++ x) (first_fault start five (length (rest ++ x)) hs) ≡ Ok m
 by_faults start five hs rest x v m (Some n) is e there = absurd cc
 by_faults start five hs rest x v m None is e there =
     let same : message_of start hs rest ≡ m = ok_is (message_of start hs rest) m e in
     let in_hs : first_value (codes "Content-Length") (expanded_lines hs) ≡ Some v = subst (λ (k : Message Start). first_value (codes "Content-Length") k.lines ≡ Some v) (sym same) there in
     more_message start five hs rest x v (said hs start five rest v is in_hs) is ∙ e
 
-by_five : (start : Start) (hs : List Line) (rest x v : List ℕ) (m : Message Start) (o : Option Five) → after_head (with_five start hs o) rest ≡ Ok m → first_value (codes "Content-Length") m.lines ≡ Some v → after_head (with_five start hs o) (rest ++ x) ≡ Ok m
+by_five : (start : Start) (hs : List Line) (rest x v : List ℕ) (m : Message Start) (o : Option Five) → after_head (with_five start hs o) rest ≡ Ok m →
+    first_value (codes "Content-Length") m.lines ≡ Some v → after_head (with_five start hs o) (rest ++ x) ≡ Ok m
 by_five start hs rest x v m None e there = absurd cc
 by_five start hs rest x v m (Some five) e there =
     elim (cases_Bool (nat_lt most_lines (length hs))) [
@@ -121,11 +125,13 @@ by_start : (hs : List Line) (rest x v : List ℕ) (m : Message Start) (o : Optio
 by_start hs rest x v m None e there = absurd cc
 by_start hs rest x v m (Some start) e there = by_five start hs rest x v m (five_at hs) e there
 
-by_lines : (ls : List (List ℕ)) (rest x v : List ℕ) (m : Message Start) → after_head (head_in_lines ls) rest ≡ Ok m → first_value (codes "Content-Length") m.lines ≡ Some v → after_head (head_in_lines ls) (rest ++ x) ≡ Ok m
+by_lines : (ls : List (List ℕ)) (rest x v : List ℕ) (m : Message Start) → after_head (head_in_lines ls) rest ≡ Ok m → first_value (codes "Content-Length") m.lines ≡ Some v →
+    after_head (head_in_lines ls) (rest ++ x) ≡ Ok m
 by_lines [] rest x v m e there = absurd cc
 by_lines (l ∷ ls) rest x v m e there = by_start (map header_line ls) rest x v m (start_at l) e there
 
-by_head : (s x v : List ℕ) (m : Message Start) (o : Option ℕ) → first_break Head s ≡ o → read_split_at s o ≡ Ok m → first_value (codes "Content-Length") m.lines ≡ Some v → read_split_at (s ++ x) (first_break Head (s ++ x)) ≡ Ok m
+by_head : (s x v : List ℕ) (m : Message Start) (o : Option ℕ) → first_break Head s ≡ o → read_split_at s o ≡ Ok m → first_value (codes "Content-Length") m.lines ≡ Some v →
+    read_split_at (s ++ x) (first_break Head (s ++ x)) ≡ Ok m
 by_head s x v m None is e there = absurd cc
 by_head s x v m (Some n) is e there =
     let fits = break_fits s n is in

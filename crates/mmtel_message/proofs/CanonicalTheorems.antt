@@ -1,5 +1,6 @@
 -- Each message that is read is canonical.
-use Rattle.std.proofs.Common.{◌≡◌, ◌==◌, ◌||◌, Bool, true, false, ℕ, ◌<◌, ◌≤◌, List, [], ◌∷◌, ◌++◌, length, take, Option, Some, None, refl, sym, ap, subst, ◌∙◌, inl, inr, map, arith, append-nil, codes, count_by, length-take}
+use Rattle.std.proofs.Common.{◌≡◌, ◌==◌, ◌||◌, Bool, true, false, ℕ, ◌<◌, ◌≤◌, List, [], ◌∷◌, ◌++◌, length, take, Option, Some}
+use Rattle.std.proofs.Common.{None, refl, sym, ap, subst, ◌∙◌, inl, inr, map, arith, append-nil, codes, count_by, length-take}
 use Rattle.std.specs.Prelude.{if◌then◌else◌, is_none}
 use Rattle.std.proofs.lemmas.Bool.{cases_Bool}
 use Rattle.std.proofs.lemmas.List.{take_all}
@@ -205,7 +206,8 @@ five_kept p a start five room hs e =
       only_kept (codes "CSeq") L hs (named_kept (codes "CSeq") p a start five room [] hs cseq_plain e),
     ) refl
 
-pub length_kept : (p a : List ℕ) (start : Start) (five : Five) (room : ℕ) (hs : List Line) → Clean start five room [] hs → first_value (codes "Content-Length") (expanded_from p a [] hs) ≡ first_value (codes "Content-Length") hs
+pub length_kept : (p a : List ℕ) (start : Start) (five : Five) (room : ℕ) (hs : List Line) → Clean start five room [] hs →
+    first_value (codes "Content-Length") (expanded_from p a [] hs) ≡ first_value (codes "Content-Length") hs
 length_kept p a start five room hs e =
     first_kept (codes "Content-Length") (expanded_from p a [] hs) hs (named_kept (codes "Content-Length") p a start five room [] hs length_plain e)
 
@@ -234,7 +236,8 @@ allow_once p a B h named y =
 has_after : (X : List ℕ) (B : List Line) (h : Line) → has_line X (B ++ h ∷ []) ≡ (has_line X B || is_line X h)
 has_after X B h = has_more X B h
 
-texts_once : (X p a text : List ℕ) (start : Start) (five : Five) (room : ℕ) (B hs : List Line) → IsOnce X p a text → Clean start five room B hs → line_texts X (expanded_from p a B hs) ≡ once (has_line X B) (has_line X hs) text
+texts_once : (X p a text : List ℕ) (start : Start) (five : Five) (room : ℕ) (B hs : List Line) → IsOnce X p a text → Clean start five room B hs →
+    line_texts X (expanded_from p a B hs) ≡ once (has_line X B) (has_line X hs) text
 unfolding expanded_from
 texts_once X p a text start five room B [] is e = elim (cases_Bool (has_line X B)) [ inl y ↦ rw y refl | inr n ↦ rw n refl ]
 texts_once X p a text start five room B (h ∷ hs) is e =
@@ -264,7 +267,9 @@ no_texts X (h ∷ hs) e =
     ]
 
 -- merged lines are not changed by merging
-merged_kept : (k : Mode) (c d : ℕ) (blanks X p a : List ℕ) (start : Start) (five : Five) (room : ℕ) (hs : List Line) → base k ≡ k → is_separator k c ≡ true → IsAll Blank blanks → IsOnce X p a (merged_text k (d ∷ []) (c ∷ blanks) (line_texts X hs)) → Clean start five room [] hs → merged_text k (d ∷ []) (c ∷ blanks) (line_texts X (expanded_from p a [] hs)) ≡ merged_text k (d ∷ []) (c ∷ blanks) (line_texts X hs)
+merged_kept : (k : Mode) (c d : ℕ) (blanks X p a : List ℕ) (start : Start) (five : Five) (room : ℕ) (hs : List Line) → base k ≡ k →
+    is_separator k c ≡ true → IsAll Blank blanks → IsOnce X p a (merged_text k (d ∷ []) (c ∷ blanks) (line_texts X hs)) → Clean start five room [] hs →
+    merged_text k (d ∷ []) (c ∷ blanks) (line_texts X (expanded_from p a [] hs)) ≡ merged_text k (d ∷ []) (c ∷ blanks) (line_texts X hs)
 merged_kept k c d blanks X p a start five room hs is f each once_is e =
     let t : List ℕ = merged_text k (d ∷ []) (c ∷ blanks) (line_texts X hs) in
     let texts = texts_once X p a t start five room [] hs once_is e in
@@ -290,7 +295,8 @@ allow_kept start five room hs e =
     merged_kept Plain 44 44 (32 ∷ []) (codes "Allow") (privacy_text hs) (allow_text hs) start five room hs refl refl blank_space (allow_once (privacy_text hs) (allow_text hs)) e
 
 -- expanded lines are not changed by expansion
-pub expanded_again : (start : Start) (five : Five) (room : ℕ) (hs : List Line) → Clean start five room [] hs → expanded_from (privacy_text hs) (allow_text hs) [] (expanded_lines hs) ≡ expanded_lines hs → expanded_lines (expanded_lines hs) ≡ expanded_lines hs
+pub expanded_again : (start : Start) (five : Five) (room : ℕ) (hs : List Line) → Clean start five room [] hs →
+    expanded_from (privacy_text hs) (allow_text hs) [] (expanded_lines hs) ≡ expanded_lines hs → expanded_lines (expanded_lines hs) ≡ expanded_lines hs
 expanded_again start five room hs e same = rw (privacy_kept start five room hs e, allow_kept start five room hs e) same
 
 -- ---- the body
@@ -306,7 +312,9 @@ body_cut rest v (Some n) e =
     let again : number_of (length (take n rest)) v ≡ Some n = number_same (length (take n rest)) (length rest) v n e (omega arith) in
     rw again (take_all n (take n rest) (omega arith))
 
-body_by : (rest : List ℕ) (o : Option (List ℕ)) → cut_body (cut_body rest (o >>= λ v. number_of (length rest) v)) (o >>= λ v. number_of (length (cut_body rest (o >>= λ w. number_of (length rest) w))) v) ≡ cut_body rest (o >>= λ v. number_of (length rest) v)
+body_by : (rest : List ℕ) (o : Option (List ℕ)) →
+    cut_body (cut_body rest (o >>= λ v. number_of (length rest) v)) (o >>= λ v. number_of (length (cut_body rest (o >>= λ w. number_of (length rest) w))) v)
+    ≡ cut_body rest (o >>= λ v. number_of (length rest) v)
 body_by rest None = refl
 body_by rest (Some v) = body_cut rest v (number_of (length rest) v) refl
 
@@ -324,12 +332,14 @@ abbrev pub Fits : ℕ → Option (List ℕ) → Type 0
 Fits less None = Unit {0}
 Fits less (Some v) = is_none (number_of less v) ≡ false
 
-length_clean : (start : Start) (five : Five) (less : ℕ) (B : List Line) (h : Line) → (length h.0 == 0) ≡ false → is_line (codes "Content-Length") h ≡ true → has_line (codes "Content-Length") B ≡ false → is_none (number_of less h.1) ≡ false → line_fault start five less B h ≡ false
+length_clean : (start : Start) (five : Five) (less : ℕ) (B : List Line) (h : Line) → (length h.0 == 0) ≡ false → is_line (codes "Content-Length") h ≡ true →
+    has_line (codes "Content-Length") B ≡ false → is_none (number_of less h.1) ≡ false → line_fault start five less B h ≡ false
 length_clean start five less B h named y fresh fits =
     let q : str_to_ascii_lowercase h.0 ≡ codes "content-length" = line_named (codes "Content-Length") h y in
     rw (named, q, fresh, fits) refl
 
-length_twice : (start : Start) (five : Five) (room : ℕ) (B : List Line) (h : Line) → (length h.0 == 0) ≡ false → is_line (codes "Content-Length") h ≡ true → has_line (codes "Content-Length") B ≡ true → line_fault start five room B h ≡ false → ⊥
+length_twice : (start : Start) (five : Five) (room : ℕ) (B : List Line) (h : Line) → (length h.0 == 0) ≡ false → is_line (codes "Content-Length") h ≡ true →
+    has_line (codes "Content-Length") B ≡ true → line_fault start five room B h ≡ false → ⊥
 length_twice start five room B h named y has e =
     let q : str_to_ascii_lowercase h.0 ≡ codes "content-length" = line_named (codes "Content-Length") h y in
     let f : true ≡ false = rw (named, q, has) at e in

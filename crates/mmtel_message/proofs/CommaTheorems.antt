@@ -1,5 +1,6 @@
 -- The bytes that separate values.
-use Rattle.std.proofs.Common.{◌≡◌, ◌==◌, true, false, ℕ, suc, ◌+◌, ◌<◌, List, [], ◌∷◌, ◌++◌, length, take, drop, get_or, Option, Some, None, refl, sym, ap, subst, ◌∙◌, arith, drop-cons, add-one, inl, inr, append_assoc, map}
+use Rattle.std.proofs.Common.{◌≡◌, ◌==◌, true, false, ℕ, suc, ◌+◌, ◌<◌, List, [], ◌∷◌, ◌++◌, length, take, drop, get_or, Option}
+use Rattle.std.proofs.Common.{Some, None, refl, sym, ap, subst, ◌∙◌, arith, drop-cons, add-one, inl, inr, append_assoc, map}
 use Rattle.std.proofs.lemmas.List.{drop_all}
 use Rattle.std.specs.Option.{option_map}
 use Rattle.std.proofs.lemmas.Bool.{cases_Bool}
@@ -100,7 +101,8 @@ parts_none m (b ∷ t) e =
       | inr n ↦ rw (n, parts_none (mode_after m b) t (unmapped (next_separator (mode_after m b) t) (rw n at e))) refl
     ]
 
-parts_later : (m : Mode) (b : ℕ) (t : List ℕ) (k n : ℕ) → is_separator m b ≡ false → suc k ≡ n → parts (mode_after m b) t ≡ take k t ∷ parts (base m) (drop (k + 1) t) → parts m (b ∷ t) ≡ take n (b ∷ t) ∷ parts (base m) (drop (n + 1) (b ∷ t))
+parts_later : (m : Mode) (b : ℕ) (t : List ℕ) (k n : ℕ) → is_separator m b ≡ false → suc k ≡ n → parts (mode_after m b) t ≡ take k t ∷ parts (base m) (drop (k + 1) t) →
+    parts m (b ∷ t) ≡ take n (b ∷ t) ∷ parts (base m) (drop (n + 1) (b ∷ t))
 unfolding parts
 parts_later m b t k n other e more =
     let one : suc k + 1 ≡ suc (k + 1) = omega arith in
@@ -125,5 +127,6 @@ parts_some m (b ∷ t) n e =
 
 -- ---- the loop over parts
 
-pub goes_on : (m : Mode) (whole made : List (List ℕ)) (part s : List ℕ) (after : Option (List ℕ)) → parts m s ≡ part ∷ rest_parts m after → whole ≡ made ++ map trim (parts m s) → whole ≡ (made ++ trim part ∷ []) ++ map trim (rest_parts m after)
+pub goes_on : (m : Mode) (whole made : List (List ℕ)) (part s : List ℕ) (after : Option (List ℕ)) → parts m s ≡ part ∷ rest_parts m after → whole ≡ made ++ map trim (parts m s) →
+    whole ≡ (made ++ trim part ∷ []) ++ map trim (rest_parts m after)
 goes_on m whole made part s after e so_far = (rw e at so_far) ∙ sym (append_assoc made (trim part ∷ []) (map trim (rest_parts m after)))

@@ -1,5 +1,6 @@
 -- Loops over a message's lines, and edits of them.
-use Rattle.std.proofs.Common.{◌≡◌, Bool, true, false, ℕ, zero, suc, ◌+◌, ◌<◌, List, [], ◌∷◌, ◌++◌, length, take, drop, get_or, Option, Some, None, refl, sym, ap, subst, nat_lt, length-take, take-suc, slice_set, append_assoc, arith, drop-cons, add-one, inl, inr}
+use Rattle.std.proofs.Common.{◌≡◌, Bool, true, false, ℕ, zero, suc, ◌+◌, ◌<◌, List, [], ◌∷◌, ◌++◌, length, take, drop, get_or, Option, Some, None}
+use Rattle.std.proofs.Common.{refl, sym, ap, subst, nat_lt, length-take, take-suc, slice_set, append_assoc, arith, drop-cons, add-one, inl, inr}
 use Rattle.std.proofs.lemmas.Bool.{cases_Bool}
 use Rattle.std.proofs.lemmas.List.{drop_all}
 use Rattle.std.specs.Prelude.{position}
@@ -16,14 +17,16 @@ use Rattle.mmtel_message.specs.declared.messages.Start.{Start}
 
 -- ---- the first fault
 
-pub fault_here : (start : Start) (five : Five) (room : ℕ) (ls : List Line) (i : ℕ) (x : Line) (whole : Option ℕ) → slice_get ls i ≡ Some x → drop i ls ≡ x ∷ drop (i + 1) ls → line_fault start five room (take i ls) x ≡ true → whole ≡ fault_from start five room (take i ls) (drop i ls) → whole ≡ Some (i + 1)
+pub fault_here : (start : Start) (five : Five) (room : ℕ) (ls : List Line) (i : ℕ) (x : Line) (whole : Option ℕ) → slice_get ls i ≡ Some x → drop i ls ≡ x ∷ drop (i + 1) ls →
+    line_fault start five room (take i ls) x ≡ true → whole ≡ fault_from start five room (take i ls) (drop i ls) → whole ≡ Some (i + 1)
 unfolding fault_from
 fault_here start five room ls i x whole item first e so_far =
     let within : i < length ls = slice_get_within ls i x item in
     let cut : length (take i ls) ≡ i = omega (arith, length-take i ls, within) in
     rw (first, e, cut) at so_far
 
-pub fault_over : (start : Start) (five : Five) (room : ℕ) (ls : List Line) (i : ℕ) (x : Line) (whole : Option ℕ) → drop i ls ≡ x ∷ drop (i + 1) ls → take (i + 1) ls ≡ take i ls ++ x ∷ [] → line_fault start five room (take i ls) x ≡ false → whole ≡ fault_from start five room (take i ls) (drop i ls) → whole ≡ fault_from start five room (take (i + 1) ls) (drop (i + 1) ls)
+pub fault_over : (start : Start) (five : Five) (room : ℕ) (ls : List Line) (i : ℕ) (x : Line) (whole : Option ℕ) → drop i ls ≡ x ∷ drop (i + 1) ls → take (i + 1) ls ≡ take i ls ++ x ∷ [] →
+    line_fault start five room (take i ls) x ≡ false → whole ≡ fault_from start five room (take i ls) (drop i ls) → whole ≡ fault_from start five room (take (i + 1) ls) (drop (i + 1) ls)
 unfolding fault_from
 fault_over start five room ls i x whole first last e so_far = rw (first, e, sym last) at so_far
 
@@ -43,7 +46,9 @@ set_none name value (l ∷ ls) e =
           rw (other, set_none name value ls f) refl
     ]
 
-set_later : (name value : List ℕ) (l : Line) (ls : List Line) (m n : ℕ) → is_line name l ≡ false → suc m ≡ n → lines_with name value ls ≡ take m ls ++ (name, value) ∷ lines_without name (drop (m + 1) ls) → lines_with name value (l ∷ ls) ≡ take n (l ∷ ls) ++ (name, value) ∷ lines_without name (drop (n + 1) (l ∷ ls))
+set_later : (name value : List ℕ) (l : Line) (ls : List Line) (m n : ℕ) → is_line name l ≡ false → suc m ≡ n →
+    lines_with name value ls ≡ take m ls ++ (name, value) ∷ lines_without name (drop (m + 1) ls) →
+    lines_with name value (l ∷ ls) ≡ take n (l ∷ ls) ++ (name, value) ∷ lines_without name (drop (n + 1) (l ∷ ls))
 set_later name value l ls m n other e more =
     let one : suc m + 1 ≡ suc (m + 1) = omega arith in
     subst (λ (k : ℕ). lines_with name value (l ∷ ls) ≡ take k (l ∷ ls) ++ (name, value) ∷ lines_without name (drop (k + 1) (l ∷ ls))) e (rw (other, more, one) refl)
@@ -53,7 +58,8 @@ set_some name value [] n e = absurd cc
 set_some name value (l ∷ ls) n e =
     elim (cases_Bool (is_line name l)) [
       | inl y ↦
-          subst (λ (k : ℕ). lines_with name value (l ∷ ls) ≡ take k (l ∷ ls) ++ (name, value) ∷ lines_without name (drop (k + 1) (l ∷ ls))) (same_some 0 n (rw (position_yes (λ m. is_line name m) l ls y) at e)) (rw y refl)
+          subst (λ (k : ℕ). lines_with name value (l ∷ ls) ≡ take k (l ∷ ls) ++ (name, value) ∷ lines_without name (drop (k + 1) (l ∷ ls)))
+          (same_some 0 n (rw (position_yes (λ m. is_line name m) l ls y) at e)) (rw y refl)
       | inr other ↦
           let p = mapped (position (λ m. is_line name m) ls) n (rw (position_no (λ m. is_line name m) l ls other) at e) in
           set_later name value l ls p.0 n other p.2 (set_some name value ls p.0 p.1)
@@ -66,7 +72,8 @@ set_back (l ∷ ls) (suc n) y =
     let one : suc n + 1 ≡ suc (n + 1) = omega arith in
     rw (one, set_back ls n y) refl
 
-pub set_there : (name value : List ℕ) (ls : List Line) (n : ℕ) → n < length ls → position (λ l. is_line name l) ls ≡ Some n → take (n + 1) (slice_set ls n (name, value)) ++ lines_without name (drop (n + 1) (slice_set ls n (name, value))) ≡ lines_with name value ls
+pub set_there : (name value : List ℕ) (ls : List Line) (n : ℕ) → n < length ls → position (λ l. is_line name l) ls ≡ Some n →
+    take (n + 1) (slice_set ls n (name, value)) ++ lines_without name (drop (n + 1) (slice_set ls n (name, value))) ≡ lines_with name value ls
 set_there name value ls n lt e =
     rw (set_some name value ls n e, set_back ls n (name, value), take-set_at ls n (n + 1) (name, value) refl lt) (append_assoc (take n ls) ((name, value) ∷ []) (lines_without name (drop (n + 1) ls)))
 

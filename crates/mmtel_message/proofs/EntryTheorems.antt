@@ -21,7 +21,8 @@ abbrev histories : List Line → List (List ℕ)
 histories ls = values_named Plain (codes "History-Info") ls
 
 -- a line of History-Info in which nothing is wrong
-history_of : (start : Start) (five : Five) (room : ℕ) (B : List Line) (h : Line) → line_fault start five room B h ≡ false → is_line (codes "History-Info") h ≡ true → (are_entries (values_of h.1) ≡ true) × (nat_lt 32 (length (histories B) + length (values_of h.1)) ≡ false)
+history_of : (start : Start) (five : Five) (room : ℕ) (B : List Line) (h : Line) → line_fault start five room B h ≡ false → is_line (codes "History-Info") h ≡ true →
+    (are_entries (values_of h.1) ≡ true) × (nat_lt 32 (length (histories B) + length (values_of h.1)) ≡ false)
 history_of start five room B h e y =
     let q : str_to_ascii_lowercase h.0 ≡ codes "history-info" = line_named (codes "History-Info") h y in
     history_parts (are_entries (values_of h.1)) (nat_lt 32 (length (histories B) + length (values_of h.1))) (rw (named_by start five room B h e, q) at e)

@@ -132,7 +132,8 @@ kept_as start five room p a B B' h N e k =
     record { clean = k'.0; same = k'.1; rel = k'.2 }
 
 -- a line of Privacy or Allow after the first is replaced by nothing
-kept_none : (start : Start) (five : Five) (room : ℕ) (p a : List ℕ) (B B' : List Line) (h : Line) (P : List ℕ) → Rel B B' → is_line P h ≡ true → has_line P B ≡ true → is_line (codes "History-Info") h ≡ false → KeptAs start five room p a B B' h []
+kept_none : (start : Start) (five : Five) (room : ℕ) (p a : List ℕ) (B B' : List Line) (h : Line) (P : List ℕ) → Rel B B' → is_line P h ≡ true → has_line P B ≡ true →
+    is_line (codes "History-Info") h ≡ false → KeptAs start five room p a B B' h []
 unfolding expanded_from
 kept_none start five room p a B B' h P rel e f n =
     let nil : B' ++ [] ≡ B' = append-nil B' in (
@@ -145,7 +146,8 @@ kept_none start five room p a B B' h P rel e f n =
     )
 
 -- a line is replaced by one line of the same name
-kept_one : (start : Start) (five : Five) (room : ℕ) (p a : List ℕ) (B B' : List Line) (h : Line) (text : List ℕ) → Rel B B' → line_fault start five room B' (h.0, text) ≡ false → lines_for p a B' (h.0, text) ≡ (h.0, text) ∷ [] → is_line (codes "History-Info") h ≡ false → KeptAs start five room p a B B' h ((h.0, text) ∷ [])
+kept_one : (start : Start) (five : Five) (room : ℕ) (p a : List ℕ) (B B' : List Line) (h : Line) (text : List ℕ) → Rel B B' → line_fault start five room B' (h.0, text) ≡ false →
+    lines_for p a B' (h.0, text) ≡ (h.0, text) ∷ [] → is_line (codes "History-Info") h ≡ false → KeptAs start five room p a B B' h ((h.0, text) ∷ [])
 unfolding expanded_from
 kept_one start five room p a B B' h text rel clean same n = (
   (clean, tt),
@@ -162,13 +164,15 @@ IsPrivacy h = str_to_ascii_lowercase h.0 ≡ codes "privacy"
 abbrev IsAllow : Line → Type 0
 IsAllow h = str_to_ascii_lowercase h.0 ≡ codes "allow"
 
-privacy_clean : (start : Start) (five : Five) (room : ℕ) (B : List Line) (n text : List ℕ) → (length n == 0) ≡ false → str_to_ascii_lowercase n ≡ codes "privacy" → are_words (values_in Words text) ≡ true → line_fault start five room B (n, text) ≡ false
+privacy_clean : (start : Start) (five : Five) (room : ℕ) (B : List Line) (n text : List ℕ) → (length n == 0) ≡ false → str_to_ascii_lowercase n ≡ codes "privacy" →
+    are_words (values_in Words text) ≡ true → line_fault start five room B (n, text) ≡ false
 privacy_clean start five room B n text named q words = rw (named, q, words) refl
 
 allow_clean : (start : Start) (five : Five) (room : ℕ) (B : List Line) (n text : List ℕ) → (length n == 0) ≡ false → str_to_ascii_lowercase n ≡ codes "allow" → line_fault start five room B (n, text) ≡ false
 allow_clean start five room B n text named q = rw (named, q) refl
 
-kept_privacy : (start : Start) (five : Five) (room : ℕ) (p a : List ℕ) (B B' : List Line) (h : Line) → Rel B B' → (length h.0 == 0) ≡ false → is_line (codes "Privacy") h ≡ true → are_words (values_in Words p) ≡ true → Kept start five room p a B B' h
+kept_privacy : (start : Start) (five : Five) (room : ℕ) (p a : List ℕ) (B B' : List Line) (h : Line) → Rel B B' → (length h.0 == 0) ≡ false → is_line (codes "Privacy") h ≡ true →
+    are_words (values_in Words p) ≡ true → Kept start five room p a B B' h
 kept_privacy start five room p a B B' h rel named e words =
     let q : IsPrivacy h = line_named (codes "Privacy") h e in
     let n : is_line (codes "History-Info") h ≡ false = rw q refl in
@@ -180,7 +184,8 @@ kept_privacy start five room p a B B' h rel named e words =
           (kept_one start five room p a B B' h p rel (privacy_clean start five room B' h.0 p named q words) (rw (named, e, fresh') refl) n)
     ]
 
-kept_allow : (start : Start) (five : Five) (room : ℕ) (p a : List ℕ) (B B' : List Line) (h : Line) → Rel B B' → (length h.0 == 0) ≡ false → is_line (codes "Privacy") h ≡ false → is_line (codes "Allow") h ≡ true → Kept start five room p a B B' h
+kept_allow : (start : Start) (five : Five) (room : ℕ) (p a : List ℕ) (B B' : List Line) (h : Line) → Rel B B' → (length h.0 == 0) ≡ false → is_line (codes "Privacy") h ≡ false →
+    is_line (codes "Allow") h ≡ true → Kept start five room p a B B' h
 kept_allow start five room p a B B' h rel named other e =
     let q : IsAllow h = line_named (codes "Allow") h e in
     let n : is_line (codes "History-Info") h ≡ false = rw q refl in
@@ -247,7 +252,8 @@ listed_has X B B' h rel =
     list_any-append (λ (l : Line). is_line X l) B' (lines_of h.0 (values_of h.1)) ∙ rw (mine, rel.has X, has_more X B h) refl
 
 -- a listed name whose values are checked one by one
-run_clean : (start : Start) (five : Five) (room : ℕ) (n : List ℕ) (P : List ℕ → Type 0) → ((B : List Line) (v : List ℕ) → P v → line_fault start five room B (n, v) ≡ false) → (vs : List (List ℕ)) → AllOf P vs → (B : List Line) → Clean start five room B (lines_of n vs)
+run_clean : (start : Start) (five : Five) (room : ℕ) (n : List ℕ) (P : List ℕ → Type 0) → ((B : List Line) (v : List ℕ) → P v → line_fault start five room B (n, v) ≡ false) → (vs : List (List ℕ)) →
+    AllOf P vs → (B : List Line) → Clean start five room B (lines_of n vs)
 run_clean start five room n P one [] each B = tt
 run_clean start five room n P one (v ∷ vs) each B = (one B v each.0, run_clean start five room n P one vs each.1 (B ++ (n, v) ∷ []))
 
@@ -265,7 +271,8 @@ readable_each (v ∷ vs) each e =
     ((each.0, both.0), readable_each vs each.1 both.1)
 
 -- Via: only the first of all values is checked
-via_behind : (start : Start) (five : Five) (room : ℕ) (n : List ℕ) (vs : List (List ℕ)) (B : List Line) → (length n == 0) ≡ false → str_to_ascii_lowercase n ≡ codes "via" → has_line (codes "Via") B ≡ true → Clean start five room B (lines_of n vs)
+via_behind : (start : Start) (five : Five) (room : ℕ) (n : List ℕ) (vs : List (List ℕ)) (B : List Line) → (length n == 0) ≡ false → str_to_ascii_lowercase n ≡ codes "via" →
+    has_line (codes "Via") B ≡ true → Clean start five room B (lines_of n vs)
 via_behind start five room n [] B named q has = tt
 via_behind start five room n (v ∷ vs) B named q has =
     let more : has_line (codes "Via") (B ++ (n, v) ∷ []) ≡ true = has_more (codes "Via") B (n, v) ∙ rw has refl in
@@ -273,7 +280,8 @@ via_behind start five room n (v ∷ vs) B named q has =
     (rw (named, q, has, none) refl, via_behind start five room n vs (B ++ (n, v) ∷ []) named q more)
 
 -- History-Info: the values before are counted too
-entries_clean : (start : Start) (five : Five) (room : ℕ) (n : List ℕ) (vs : List (List ℕ)) (B : List Line) → (length n == 0) ≡ false → str_to_ascii_lowercase n ≡ codes "history-info" → AllOf IsSingle vs → are_entries vs ≡ true → nat_lt 32 (length (values_named Plain (codes "History-Info") B) + length vs) ≡ false → Clean start five room B (lines_of n vs)
+entries_clean : (start : Start) (five : Five) (room : ℕ) (n : List ℕ) (vs : List (List ℕ)) (B : List Line) → (length n == 0) ≡ false → str_to_ascii_lowercase n ≡ codes "history-info" →
+    AllOf IsSingle vs → are_entries vs ≡ true → nat_lt 32 (length (values_named Plain (codes "History-Info") B) + length vs) ≡ false → Clean start five room B (lines_of n vs)
 entries_clean start five room n [] B named q each e few = tt
 entries_clean start five room n (v ∷ vs) B named q each e few =
     let both = and_true (is_entry v) (are_entries vs) e in
@@ -291,10 +299,12 @@ contact_parts true true one e = absurd cc
 contact_parts true false true e = inr (refl, refl)
 contact_parts true false false e = absurd cc
 
-no_invite : (start : Start) (five : Five) (room : ℕ) (B : List Line) (n v : List ℕ) → (length n == 0) ≡ false → str_to_ascii_lowercase n ≡ codes "contact" → is_method (codes "INVITE") start ≡ false → line_fault start five room B (n, v) ≡ false
+no_invite : (start : Start) (five : Five) (room : ℕ) (B : List Line) (n v : List ℕ) → (length n == 0) ≡ false → str_to_ascii_lowercase n ≡ codes "contact" → is_method (codes "INVITE") start ≡ false →
+    line_fault start five room B (n, v) ≡ false
 no_invite start five room B n v named q e = rw (named, q, e) refl
 
-one_contact : (start : Start) (five : Five) (room : ℕ) (n : List ℕ) (vs : List (List ℕ)) (B : List Line) → (length n == 0) ≡ false → str_to_ascii_lowercase n ≡ codes "contact" → AllOf IsSingle vs → (length vs == 1 && are_readable vs) ≡ true → has_line (codes "Contact") B ≡ false → Clean start five room B (lines_of n vs)
+one_contact : (start : Start) (five : Five) (room : ℕ) (n : List ℕ) (vs : List (List ℕ)) (B : List Line) → (length n == 0) ≡ false → str_to_ascii_lowercase n ≡ codes "contact" → AllOf IsSingle vs →
+    (length vs == 1 && are_readable vs) ≡ true → has_line (codes "Contact") B ≡ false → Clean start five room B (lines_of n vs)
 one_contact start five room n [] B named q each e has = tt
 one_contact start five room n (v ∷ []) B named q each e has =
     let none : (is_method (codes "INVITE") start && false) ≡ false = (elim (cases_Bool (is_method (codes "INVITE") start)) [ inl y ↦ rw y refl | inr z ↦ rw z refl ]) in
@@ -305,7 +315,8 @@ one_contact start five room n (v ∷ w ∷ vs) B named q each e has =
     absurd cc
 
 -- Contact: there is one value, or the message is no INVITE
-contact_clean : (start : Start) (five : Five) (room : ℕ) (n : List ℕ) (vs : List (List ℕ)) (B : List Line) → (length n == 0) ≡ false → str_to_ascii_lowercase n ≡ codes "contact" → AllOf IsSingle vs → (is_method (codes "INVITE") start && (has_line (codes "Contact") B || not (length vs == 1 && are_readable vs))) ≡ false → Clean start five room B (lines_of n vs)
+contact_clean : (start : Start) (five : Five) (room : ℕ) (n : List ℕ) (vs : List (List ℕ)) (B : List Line) → (length n == 0) ≡ false → str_to_ascii_lowercase n ≡ codes "contact" → AllOf IsSingle vs →
+    (is_method (codes "INVITE") start && (has_line (codes "Contact") B || not (length vs == 1 && are_readable vs))) ≡ false → Clean start five room B (lines_of n vs)
 contact_clean start five room n vs B named q each e =
     elim (contact_parts (is_method (codes "INVITE") start) (has_line (codes "Contact") B) (length vs == 1 && are_readable vs) e) [
       | inl other ↦ run_clean start five room n (λ v. Unit {0}) (λ C v t. no_invite start five room C n v named q other) vs (anything vs) B
@@ -318,11 +329,13 @@ via_parts true false true e = inr refl
 via_parts true false false e = absurd cc
 via_parts false false cookie e = inr refl
 
-via_one : (start : Start) (five : Five) (room : ℕ) (B : List Line) (n v : List ℕ) → (length n == 0) ≡ false → str_to_ascii_lowercase n ≡ codes "via" → (is_request start && not (has_line (codes "Via") B) && not (has_cookie (param_value (codes "branch") five.via.params))) ≡ false → line_fault start five room B (n, v) ≡ false
+via_one : (start : Start) (five : Five) (room : ℕ) (B : List Line) (n v : List ℕ) → (length n == 0) ≡ false → str_to_ascii_lowercase n ≡ codes "via" →
+    (is_request start && not (has_line (codes "Via") B) && not (has_cookie (param_value (codes "branch") five.via.params))) ≡ false → line_fault start five room B (n, v) ≡ false
 via_one start five room B n v named q e = rw (named, q, e) refl
 
 -- Via: the first value of all is checked
-via_clean : (start : Start) (five : Five) (room : ℕ) (n : List ℕ) (vs : List (List ℕ)) (B : List Line) → (length n == 0) ≡ false → str_to_ascii_lowercase n ≡ codes "via" → (is_request start && not (has_line (codes "Via") B) && not (has_cookie (param_value (codes "branch") five.via.params))) ≡ false → Clean start five room B (lines_of n vs)
+via_clean : (start : Start) (five : Five) (room : ℕ) (n : List ℕ) (vs : List (List ℕ)) (B : List Line) → (length n == 0) ≡ false → str_to_ascii_lowercase n ≡ codes "via" →
+    (is_request start && not (has_line (codes "Via") B) && not (has_cookie (param_value (codes "branch") five.via.params))) ≡ false → Clean start five room B (lines_of n vs)
 via_clean start five room n [] B named q e = tt
 via_clean start five room n (v ∷ vs) B named q e =
     let is : is_line (codes "Via") (n, v) ≡ true = rw q refl in
@@ -330,12 +343,14 @@ via_clean start five room n (v ∷ vs) B named q e =
     let has : has_line (codes "Via") (B ++ (n, v) ∷ []) ≡ true = has_more (codes "Via") B (n, v) ∙ rw is or_true in
     (via_one start five room B n v named q e, via_behind start five room n vs (B ++ (n, v) ∷ []) named q has)
 
-readable_one : (start : Start) (five : Five) (room : ℕ) (B : List Line) (n v : List ℕ) → (length n == 0) ≡ false → (str_to_ascii_lowercase n ≡ codes "route") ⊎ ((str_to_ascii_lowercase n ≡ codes "record-route") ⊎ (str_to_ascii_lowercase n ≡ codes "p-asserted-identity")) → IsReadableOne v → line_fault start five room B (n, v) ≡ false
+readable_one : (start : Start) (five : Five) (room : ℕ) (B : List Line) (n v : List ℕ) → (length n == 0) ≡ false → (str_to_ascii_lowercase n ≡ codes "route")
+    ⊎ ((str_to_ascii_lowercase n ≡ codes "record-route") ⊎ (str_to_ascii_lowercase n ≡ codes "p-asserted-identity")) → IsReadableOne v → line_fault start five room B (n, v) ≡ false
 readable_one start five room B n v named (inl q) each = rw (named, q, each.0, each.1) refl
 readable_one start five room B n v named (inr (inl q)) each = rw (named, q, each.0, each.1) refl
 readable_one start five room B n v named (inr (inr q)) each = rw (named, q, each.0, each.1) refl
 
-option_one : (start : Start) (five : Five) (room : ℕ) (B : List Line) (n v : List ℕ) → (length n == 0) ≡ false → (str_to_ascii_lowercase n ≡ codes "supported") ⊎ (str_to_ascii_lowercase n ≡ codes "require") → line_fault start five room B (n, v) ≡ false
+option_one : (start : Start) (five : Five) (room : ℕ) (B : List Line) (n v : List ℕ) → (length n == 0) ≡ false →
+    (str_to_ascii_lowercase n ≡ codes "supported") ⊎ (str_to_ascii_lowercase n ≡ codes "require") → line_fault start five room B (n, v) ≡ false
 option_one start five room B n v named (inl q) = rw (named, q) refl
 option_one start five room B n v named (inr q) = rw (named, q) refl
 
@@ -380,27 +395,33 @@ history_parts true many e = (refl, e)
 history_parts false many e = absurd cc
 
 -- the values of a line in which nothing is wrong
-listed_clean : (start : Start) (five : Five) (room : ℕ) (B : List Line) (h : Line) → (length h.0 == 0) ≡ false → line_fault start five room B h ≡ false → ListedName h → Clean start five room B (lines_of h.0 (values_of h.1))
+listed_clean : (start : Start) (five : Five) (room : ℕ) (B : List Line) (h : Line) → (length h.0 == 0) ≡ false → line_fault start five room B h ≡ false → ListedName h →
+    Clean start five room B (lines_of h.0 (values_of h.1))
 listed_clean start five room B h named e (via q) = via_clean start five room h.0 (values_of h.1) B named q (rw (named, q) at e)
 listed_clean start five room B h named e (route q) =
-    run_clean start five room h.0 IsReadableOne (λ C v r. readable_one start five room C h.0 v named (inl q) r) (values_of h.1) (readable_each (values_of h.1) (singles h.1) (not_false (are_readable (values_of h.1)) (rw (named, q) at e))) B
+    run_clean start five room h.0 IsReadableOne (λ C v r. readable_one start five room C h.0 v named (inl q) r) (values_of h.1)
+    (readable_each (values_of h.1) (singles h.1) (not_false (are_readable (values_of h.1)) (rw (named, q) at e))) B
 listed_clean start five room B h named e (record_route q) =
-    run_clean start five room h.0 IsReadableOne (λ C v r. readable_one start five room C h.0 v named (inr (inl q)) r) (values_of h.1) (readable_each (values_of h.1) (singles h.1) (not_false (are_readable (values_of h.1)) (rw (named, q) at e))) B
+    run_clean start five room h.0 IsReadableOne (λ C v r. readable_one start five room C h.0 v named (inr (inl q)) r) (values_of h.1)
+    (readable_each (values_of h.1) (singles h.1) (not_false (are_readable (values_of h.1)) (rw (named, q) at e))) B
 listed_clean start five room B h named e (contact q) = contact_clean start five room h.0 (values_of h.1) B named q (singles h.1) (rw (named, q) at e)
 listed_clean start five room B h named e (asserted q) =
-    run_clean start five room h.0 IsReadableOne (λ C v r. readable_one start five room C h.0 v named (inr (inr q)) r) (values_of h.1) (readable_each (values_of h.1) (singles h.1) (not_false (are_readable (values_of h.1)) (rw (named, q) at e))) B
+    run_clean start five room h.0 IsReadableOne (λ C v r. readable_one start five room C h.0 v named (inr (inr q)) r) (values_of h.1)
+    (readable_each (values_of h.1) (singles h.1) (not_false (are_readable (values_of h.1)) (rw (named, q) at e))) B
 listed_clean start five room B h named e (history q) =
     let both = history_parts (are_entries (values_of h.1)) (nat_lt 32 (length (values_named Plain (codes "History-Info") B) + length (values_of h.1))) (rw (named, q) at e) in
     entries_clean start five room h.0 (values_of h.1) B named q (singles h.1) both.0 both.1
 listed_clean start five room B h named e (supported q) = run_clean start five room h.0 (λ v. Unit {0}) (λ C v t. option_one start five room C h.0 v named (inl q)) (values_of h.1) (anything (values_of h.1)) B
 listed_clean start five room B h named e (require q) = run_clean start five room h.0 (λ v. Unit {0}) (λ C v t. option_one start five room C h.0 v named (inr q)) (values_of h.1) (anything (values_of h.1)) B
 
-lines_same : (p a n : List ℕ) (vs : List (List ℕ)) (B : List Line) → (length n == 0) ≡ false → is_line (codes "Privacy") (n, []) ≡ false → is_line (codes "Allow") (n, []) ≡ false → is_listed (n, []) ≡ true → AllOf IsSingle vs → expanded_from p a B (lines_of n vs) ≡ lines_of n vs
+lines_same : (p a n : List ℕ) (vs : List (List ℕ)) (B : List Line) → (length n == 0) ≡ false → is_line (codes "Privacy") (n, []) ≡ false → is_line (codes "Allow") (n, []) ≡ false →
+    is_listed (n, []) ≡ true → AllOf IsSingle vs → expanded_from p a B (lines_of n vs) ≡ lines_of n vs
 unfolding expanded_from
 lines_same p a n [] B named x y l each = refl
 lines_same p a n (v ∷ vs) B named x y l each = rw (named, x, y, l, each.0, lines_same p a n vs (B ++ (n, v) ∷ []) named x y l each.1) refl
 
-kept_listed : (start : Start) (five : Five) (room : ℕ) (p a : List ℕ) (B B' : List Line) (h : Line) → Rel B B' → (length h.0 == 0) ≡ false → line_fault start five room B h ≡ false → is_line (codes "Privacy") h ≡ false → is_line (codes "Allow") h ≡ false → is_listed h ≡ true → Kept start five room p a B B' h
+kept_listed : (start : Start) (five : Five) (room : ℕ) (p a : List ℕ) (B B' : List Line) (h : Line) → Rel B B' → (length h.0 == 0) ≡ false → line_fault start five room B h ≡ false →
+    is_line (codes "Privacy") h ≡ false → is_line (codes "Allow") h ≡ false → is_listed h ≡ true → Kept start five room p a B B' h
 kept_listed start five room p a B B' h rel named e x y l =
     kept_as start five room p a B B' h (lines_of h.0 (values_of h.1)) (rw (named, x, y, l) refl) (
       listed_clean start five room B' h named (line_same start five room B B' h rel ∙ e) (listed_name h l),
@@ -408,7 +429,8 @@ kept_listed start five room p a B B' h rel named e x y l =
       record { has = λ X. listed_has X B B' h rel; hist = listed_hist B B' h rel },
     )
 
-kept_other : (start : Start) (five : Five) (room : ℕ) (p a : List ℕ) (B B' : List Line) (h : Line) → Rel B B' → (length h.0 == 0) ≡ false → line_fault start five room B h ≡ false → is_line (codes "Privacy") h ≡ false → is_line (codes "Allow") h ≡ false → is_listed h ≡ false → Kept start five room p a B B' h
+kept_other : (start : Start) (five : Five) (room : ℕ) (p a : List ℕ) (B B' : List Line) (h : Line) → Rel B B' → (length h.0 == 0) ≡ false → line_fault start five room B h ≡ false →
+    is_line (codes "Privacy") h ≡ false → is_line (codes "Allow") h ≡ false → is_listed h ≡ false → Kept start five room p a B B' h
 unfolding expanded_from
 kept_other start five room p a B B' h rel named e x y l =
     kept_as start five room p a B B' h (h ∷ []) (rw (named, x, y, l) refl) (
@@ -424,7 +446,8 @@ named_by start five room B h e =
       | inr n ↦ n
     ]
 
-kept : (start : Start) (five : Five) (room : ℕ) (p a : List ℕ) (B B' : List Line) (h : Line) → Rel B B' → line_fault start five room B h ≡ false → (is_line (codes "Privacy") h ≡ true → are_words (values_in Words p) ≡ true) → Kept start five room p a B B' h
+kept : (start : Start) (five : Five) (room : ℕ) (p a : List ℕ) (B B' : List Line) (h : Line) → Rel B B' → line_fault start five room B h ≡ false →
+    (is_line (codes "Privacy") h ≡ true → are_words (values_in Words p) ≡ true) → Kept start five room p a B B' h
 kept start five room p a B B' h rel e words =
     let named = named_by start five room B h e in
     elim (cases_Bool (is_line (codes "Privacy") h)) [

@@ -79,7 +79,8 @@ unfolds_on : (current line s : List ℕ) (others : List (List ℕ)) → split s 
 unfolding logical_lines_from
 unfolds_on current line s others e blank = rw (e, split_blank s line others e ∙ blank) refl
 
-pub joins_on : (total : List (List ℕ)) (front gap piece line s : List ℕ) (others : List (List ℕ)) → split s ≡ line ∷ others → starts_blank s ≡ true → ReadsOn total front gap piece (split s) → ReadsOn total (without_trailing Blank (front ++ gap ++ piece)) (32 ∷ []) (after_run Blank line) others
+pub joins_on : (total : List (List ℕ)) (front gap piece line s : List ℕ) (others : List (List ℕ)) → split s ≡ line ∷ others → starts_blank s ≡ true → ReadsOn total front gap piece (split s) →
+    ReadsOn total (without_trailing Blank (front ++ gap ++ piece)) (32 ∷ []) (after_run Blank line) others
 unfolding in_class
 joins_on total front gap piece line s others e blank so_far =
     let takes : Trims Blank (front ++ gap ++ piece) (without_trailing Blank (front ++ gap ++ piece)) = trimmed_takes Blank (front ++ gap ++ piece) in
@@ -101,7 +102,8 @@ unfolding logical_lines_from
 stands_alone current s None e = refl
 stands_alone current s (Some n) e = new_line current (drop n s) e
 
-pub done_on : (total : List (List ℕ)) (front gap piece s : List ℕ) (next : Option ℕ) → continues s next ≡ false → ReadsOn total front gap piece (rest_at s next) → total ≡ (front ++ gap ++ piece) ∷ logical_lines (rest_at s next)
+pub done_on : (total : List (List ℕ)) (front gap piece s : List ℕ) (next : Option ℕ) → continues s next ≡ false → ReadsOn total front gap piece (rest_at s next) →
+    total ≡ (front ++ gap ++ piece) ∷ logical_lines (rest_at s next)
 done_on total front gap piece s next e so_far = so_far.lines ∙ stands_alone (front ++ gap ++ piece) s next e
 
 pub still_after : (next : Option ℕ) (s : List ℕ) (first from : ℕ) → first ≤ from → IfSome next (λ n. IsBehind from s n) → IfSome next (λ n. (first ≤ n) × (n ≤ length s))
@@ -124,13 +126,17 @@ still_within : (next : Option ℕ) (s : List ℕ) (from : ℕ) → IfSome next (
 still_within None s from later = tt
 still_within (Some n) s from later = later.1
 
-pub adds_line : (total : List ℕ) (end from : ℕ) (made : List HeldValue) (line : HeldValue) (next : Option ℕ) → ReadsLines total (take end total) made (Some from) → logical_lines (split (drop from (take end total))) ≡ value_of (take end total) line ∷ logical_lines (rest_at (take end total) next) → IsWithin (take end total) line → IfSome next (λ n. IsBehind from (take end total) n) → ReadsLines total (take end total) (made ++ line ∷ []) next
+pub adds_line : (total : List ℕ) (end from : ℕ) (made : List HeldValue) (line : HeldValue) (next : Option ℕ) → ReadsLines total (take end total) made (Some from) →
+    logical_lines (split (drop from (take end total))) ≡ value_of (take end total) line ∷ logical_lines (rest_at (take end total) next) → IsWithin (take end total) line →
+    IfSome next (λ n. IsBehind from (take end total) n) → ReadsLines total (take end total) (made ++ line ∷ []) next
 adds_line total end from made line next so_far e within later =
     let s : List ℕ = take end total in
     let one : logical_lines (split (drop from (take end total))) ≡ value_of total line ∷ logical_lines (rest_at (take end total) next) = rw (among total end line within) at e in
     let pushed : map (value_of total) (made ++ line ∷ []) ≡ map (value_of total) made ++ value_of total line ∷ [] = map-append (value_of total) made (line ∷ []) in
     record {
-      lines = so_far.lines ∙ ap (λ (l : List (List ℕ)). map (value_of total) made ++ l) one ∙ sym (append_assoc (map (value_of total) made) (value_of total line ∷ []) (logical_lines (rest_at (take end total) next))) ∙ ap (λ (l : List (List ℕ)). l ++ logical_lines (rest_at (take end total) next)) (sym pushed);
+      lines = so_far.lines ∙ ap (λ (l : List (List ℕ)). map (value_of total) made ++ l) one
+          ∙ sym (append_assoc (map (value_of total) made) (value_of total line ∷ []) (logical_lines (rest_at (take end total) next)))
+          ∙ ap (λ (l : List (List ℕ)). l ++ logical_lines (rest_at (take end total) next)) (sym pushed);
       within = still_within next (take end total) from later;
     }
 

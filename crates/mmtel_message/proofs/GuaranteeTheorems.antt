@@ -1,5 +1,6 @@
 -- What holds of each message that was read.
-use Rattle.std.proofs.Common.{◌≡◌, ◌==◌, ◌&&◌, ◌||◌, not, cond, Bool, true, false, ℕ, ◌<◌, ◌≤◌, List, [], ◌∷◌, ◌++◌, length, take, Option, Some, None, Ok, refl, sym, ap, subst, ◌∙◌, inl, inr, map, arith, append-nil, codes, count_by, length-take, nat_lt}
+use Rattle.std.proofs.Common.{◌≡◌, ◌==◌, ◌&&◌, ◌||◌, not, cond, Bool, true, false, ℕ, ◌<◌, ◌≤◌, List, [], ◌∷◌, ◌++◌, length, take, Option, Some}
+use Rattle.std.proofs.Common.{None, Ok, refl, sym, ap, subst, ◌∙◌, inl, inr, map, arith, append-nil, codes, count_by, length-take, nat_lt}
 use Rattle.std.specs.Prelude.{is_none, is_some}
 use Rattle.std.proofs.lemmas.Bool.{cases_Bool}
 use Rattle.std.proofs.lemmas.Bool.Decides.{nat_tests}
@@ -138,7 +139,8 @@ fields_are ls five e =
 abbrev HoldsOf : Mode → (List ℕ → Bool) → List ℕ → Start → Five → ℕ → Type 0
 HoldsOf m p X start five room = (B : List Line) (h : Line) → line_fault start five room B h ≡ false → is_line X h ≡ true → list_all p (values_in m h.1) ≡ true
 
-values_hold : (m : Mode) (p : List ℕ → Bool) (X : List ℕ) (start : Start) (five : Five) (room : ℕ) → HoldsOf m p X start five room → (B hs : List Line) → Clean start five room B hs → list_all p (values_named m X hs) ≡ true
+values_hold : (m : Mode) (p : List ℕ → Bool) (X : List ℕ) (start : Start) (five : Five) (room : ℕ) → HoldsOf m p X start five room → (B hs : List Line) → Clean start five room B hs →
+    list_all p (values_named m X hs) ≡ true
 values_hold m p X start five room each B [] e = refl
 values_hold m p X start five room each B (h ∷ hs) e =
     let more = values_hold m p X start five room each (B ++ h ∷ []) hs e.1 in
@@ -185,7 +187,8 @@ none_more X start five room once B (h ∷ hs) there e =
     ]
 
 -- after the first there is none
-none_behind : (X : List ℕ) (start : Start) (five : Five) (room : ℕ) → IsOnce X start five room → (B : List Line) (h : Line) (hs : List Line) → is_line X h ≡ true → Clean start five room (B ++ h ∷ []) hs → has_line X hs ≡ false
+none_behind : (X : List ℕ) (start : Start) (five : Five) (room : ℕ) → IsOnce X start five room → (B : List Line) (h : Line) (hs : List Line) → is_line X h ≡ true →
+    Clean start five room (B ++ h ∷ []) hs → has_line X hs ≡ false
 none_behind X start five room once B h hs y e =
     none_more X start five room once (B ++ h ∷ []) hs (has_more X B h ∙ rw y (or_true (has_line X B))) e
 
@@ -232,27 +235,32 @@ has_first X v (l ∷ ls) e =
 
 -- ---- what each row says where nothing is wrong
 
-cseq_row : (start : Start) (five : Five) (room : ℕ) (B : List Line) (h : Line) → line_fault start five room B h ≡ false → is_line (codes "CSeq") h ≡ true → (is_request start && not (is_method five.cseq.method start)) ≡ false
+cseq_row : (start : Start) (five : Five) (room : ℕ) (B : List Line) (h : Line) → line_fault start five room B h ≡ false → is_line (codes "CSeq") h ≡ true →
+    (is_request start && not (is_method five.cseq.method start)) ≡ false
 cseq_row start five room B h e y =
     let q : str_to_ascii_lowercase h.0 ≡ codes "cseq" = line_named (codes "CSeq") h y in
     rw (named_by start five room B h e, q) at e
 
-from_row : (start : Start) (five : Five) (room : ℕ) (B : List Line) (h : Line) → line_fault start five room B h ≡ false → is_line (codes "From") h ≡ true → (is_request start && is_none (param_value (codes "tag") five.from.params)) ≡ false
+from_row : (start : Start) (five : Five) (room : ℕ) (B : List Line) (h : Line) → line_fault start five room B h ≡ false → is_line (codes "From") h ≡ true →
+    (is_request start && is_none (param_value (codes "tag") five.from.params)) ≡ false
 from_row start five room B h e y =
     let q : str_to_ascii_lowercase h.0 ≡ codes "from" = line_named (codes "From") h y in
     rw (named_by start five room B h e, q) at e
 
-via_row : (start : Start) (five : Five) (room : ℕ) (B : List Line) (h : Line) → line_fault start five room B h ≡ false → is_line (codes "Via") h ≡ true → (is_request start && not (has_line (codes "Via") B) && not (has_cookie (param_value (codes "branch") five.via.params))) ≡ false
+via_row : (start : Start) (five : Five) (room : ℕ) (B : List Line) (h : Line) → line_fault start five room B h ≡ false → is_line (codes "Via") h ≡ true →
+    (is_request start && not (has_line (codes "Via") B) && not (has_cookie (param_value (codes "branch") five.via.params))) ≡ false
 via_row start five room B h e y =
     let q : str_to_ascii_lowercase h.0 ≡ codes "via" = line_named (codes "Via") h y in
     rw (named_by start five room B h e, q) at e
 
-hops_row : (start : Start) (five : Five) (room : ℕ) (B : List Line) (h : Line) → line_fault start five room B h ≡ false → is_line (codes "Max-Forwards") h ≡ true → (is_request start && (has_line (codes "Max-Forwards") B || is_none (number_of 255 h.1))) ≡ false
+hops_row : (start : Start) (five : Five) (room : ℕ) (B : List Line) (h : Line) → line_fault start five room B h ≡ false → is_line (codes "Max-Forwards") h ≡ true →
+    (is_request start && (has_line (codes "Max-Forwards") B || is_none (number_of 255 h.1))) ≡ false
 hops_row start five room B h e y =
     let q : str_to_ascii_lowercase h.0 ≡ codes "max-forwards" = line_named (codes "Max-Forwards") h y in
     rw (named_by start five room B h e, q) at e
 
-contact_row : (start : Start) (five : Five) (room : ℕ) (B : List Line) (h : Line) → line_fault start five room B h ≡ false → is_line (codes "Contact") h ≡ true → (is_method (codes "INVITE") start && (has_line (codes "Contact") B || not (is_one_readable (values_of h.1)))) ≡ false
+contact_row : (start : Start) (five : Five) (room : ℕ) (B : List Line) (h : Line) → line_fault start five room B h ≡ false → is_line (codes "Contact") h ≡ true →
+    (is_method (codes "INVITE") start && (has_line (codes "Contact") B || not (is_one_readable (values_of h.1)))) ≡ false
 contact_row start five room B h e y =
     let q : str_to_ascii_lowercase h.0 ≡ codes "contact" = line_named (codes "Contact") h y in
     rw (named_by start five room B h e, q) at e
@@ -322,7 +330,8 @@ cookie_by (Some v) e =
     let p = some_of (after_text (codes "z9hG4bK") v) e in
     (p.0, ap (λ (x : List ℕ). Some x) (after_text_whole (codes "z9hG4bK") v p.0 p.1))
 
-pub read_branch : (s : List ℕ) (m : Message Start) (five : Five) → read_result s ≡ Ok m → is_request m.start ≡ true → five_at m.lines ≡ Some five → (branch : List ℕ) × (param_value (codes "branch") five.via.params ≡ Some (codes "z9hG4bK" ++ branch))
+pub read_branch : (s : List ℕ) (m : Message Start) (five : Five) → read_result s ≡ Ok m → is_request m.start ≡ true → five_at m.lines ≡ Some five →
+    (branch : List ℕ) × (param_value (codes "branch") five.via.params ≡ Some (codes "z9hG4bK" ++ branch))
 read_branch s m five e request found =
     let v = (fields_are m.lines five found).via in
     let l = first_line (codes "Via") m.start five (length m.body) [] m.lines refl (has_first (codes "Via") v.0 m.lines v.1) (clean_with s m five e found) in
@@ -334,7 +343,8 @@ read_target s m method uri e is = subst (λ (x : Start). start_fault x ≡ false
 
 -- ---- Max-Forwards
 
-hops_parts : (start : Start) (five : Five) (room : ℕ) (B : List Line) (h : Line) → is_request start ≡ true → line_fault start five room B h ≡ false → is_line (codes "Max-Forwards") h ≡ true → (has_line (codes "Max-Forwards") B ≡ false) × (is_none (number_of 255 h.1) ≡ false)
+hops_parts : (start : Start) (five : Five) (room : ℕ) (B : List Line) (h : Line) → is_request start ≡ true → line_fault start five room B h ≡ false → is_line (codes "Max-Forwards") h ≡ true →
+    (has_line (codes "Max-Forwards") B ≡ false) × (is_none (number_of 255 h.1) ≡ false)
 hops_parts start five room B h request e y =
     or_left (has_line (codes "Max-Forwards") B) (is_none (number_of 255 h.1)) (rw request at (hops_row start five room B h e y))
 
@@ -370,7 +380,8 @@ read_refer s m e = let c = clean_read s m e in texts_hold is_readable (codes "Re
 
 -- ---- Contact of an INVITE
 
-contact_both : (start : Start) (five : Five) (room : ℕ) (B : List Line) (h : Line) → is_method (codes "INVITE") start ≡ true → line_fault start five room B h ≡ false → is_line (codes "Contact") h ≡ true → (has_line (codes "Contact") B ≡ false) × (is_one_readable (values_of h.1) ≡ true)
+contact_both : (start : Start) (five : Five) (room : ℕ) (B : List Line) (h : Line) → is_method (codes "INVITE") start ≡ true → line_fault start five room B h ≡ false →
+    is_line (codes "Contact") h ≡ true → (has_line (codes "Contact") B ≡ false) × (is_one_readable (values_of h.1) ≡ true)
 contact_both start five room B h invite e y =
     let both = or_left (has_line (codes "Contact") B) (not (is_one_readable (values_of h.1))) (rw invite at (contact_row start five room B h e y)) in
     (both.0, not_false (is_one_readable (values_of h.1)) both.1)
@@ -378,7 +389,8 @@ contact_both start five room B h invite e y =
 contact_once : (start : Start) (five : Five) (room : ℕ) → is_method (codes "INVITE") start ≡ true → IsOnce (codes "Contact") start five room
 contact_once start five room invite B h e y = (contact_both start five room B h invite e y).0
 
-contact_from : (start : Start) (five : Five) (room : ℕ) (B hs : List Line) → is_method (codes "INVITE") start ≡ true → has_line (codes "Contact") hs ≡ true → Clean start five room B hs → is_one_readable (values_named Plain (codes "Contact") hs) ≡ true
+contact_from : (start : Start) (five : Five) (room : ℕ) (B hs : List Line) → is_method (codes "INVITE") start ≡ true → has_line (codes "Contact") hs ≡ true → Clean start five room B hs →
+    is_one_readable (values_named Plain (codes "Contact") hs) ≡ true
 contact_from start five room B [] invite there e = absurd cc
 contact_from start five room B (h ∷ hs) invite there e =
     elim (cases_Bool (is_line (codes "Contact") h)) [
@@ -567,7 +579,8 @@ first_by (h ∷ hs) e =
     let p = some_of (name_addr_of h.1) (and_true (is_readable h.1) (are_readable texts) readable).0 in
     (h.1, p.0, refl, p.1)
 
-pub read_contact_line : (s : List ℕ) (m : Message Start) → read_result s ≡ Ok m → is_method (codes "INVITE") m.start ≡ true → (v : List ℕ) × (name : NameAddr) × (first_value (codes "Contact") m.lines ≡ Some v) × (name_addr_of v ≡ Some name)
+pub read_contact_line : (s : List ℕ) (m : Message Start) → read_result s ≡ Ok m → is_method (codes "INVITE") m.start ≡ true →
+    (v : List ℕ) × (name : NameAddr) × (first_value (codes "Contact") m.lines ≡ Some v) × (name_addr_of v ≡ Some name)
 read_contact_line s m e invite =
     let one : is_one_readable (line_texts (codes "Contact") m.lines) ≡ true = subst (λ (x : List (List ℕ)). is_one_readable x ≡ true) (contact_alone s m e) (read_contact s m e invite) in
     let f = first_by (lines_named (codes "Contact") m.lines) one in

@@ -50,13 +50,15 @@ behind_colon line name rest tail name_is rest_is colon =
     let blanks : Ends name rest = rw rest_is (ends_run Blank name) in
     ends_at line tail (ends_behind line rest tail (ends_behind line name rest named blanks) (ends_byte 58 rest tail (sym colon)))
 
-pub value_there : (line behind rest tail value : List ℕ) → behind ≡ after_run Token line → rest ≡ after_run Blank behind → Some tail ≡ after_byte 58 rest → value ≡ trim (take (length line - (length line - length tail)) (drop (length line - length tail) line)) → value ≡ trim tail
+pub value_there : (line behind rest tail value : List ℕ) → behind ≡ after_run Token line → rest ≡ after_run Blank behind → Some tail ≡ after_byte 58 rest →
+    value ≡ trim (take (length line - (length line - length tail)) (drop (length line - length tail) line)) → value ≡ trim tail
 value_there line behind rest tail value behind_is rest_is colon value_is =
     value_is ∙ ap (λ (l : List ℕ). trim l) (take_rest line (length line - length tail) ∙ behind_colon line behind rest tail behind_is rest_is colon)
 
 -- ---- what is scanned is what the definition says
 
-pub scanned : (line name behind rest : List ℕ) → name ≡ leading_run Token line → behind ≡ after_run Token line → rest ≡ after_run Blank behind → (length name == 0) ≡ false → header_at line ≡ header_of name (after_byte 58 rest)
+pub scanned : (line name behind rest : List ℕ) → name ≡ leading_run Token line → behind ≡ after_run Token line → rest ≡ after_run Blank behind → (length name == 0) ≡ false →
+    header_at line ≡ header_of name (after_byte 58 rest)
 unfolding header_at
 scanned line name behind rest name_is behind_is rest_is filled =
     let some : (length (leading_run Token line) == 0) ≡ false = rw name_is at filled in
@@ -71,13 +73,15 @@ unnamed line name name_is none =
 pub no_colon : (line name rest : List ℕ) → header_at line ≡ header_of name (after_byte 58 rest) → None ≡ after_byte 58 rest → None ≡ header_at line
 no_colon line name rest is none = sym (is ∙ ap (λ (o : Option (List ℕ)). header_of name o) (sym none))
 
-pub bad_value : (line name rest tail value : List ℕ) → header_at line ≡ header_of name (after_byte 58 rest) → Some tail ≡ after_byte 58 rest → value ≡ trim tail → list_all is_value_byte value ≡ false → None ≡ header_at line
+pub bad_value : (line name rest tail value : List ℕ) → header_at line ≡ header_of name (after_byte 58 rest) → Some tail ≡ after_byte 58 rest → value ≡ trim tail →
+    list_all is_value_byte value ≡ false → None ≡ header_at line
 bad_value line name rest tail value is colon value_is other =
     let bad : list_all is_value_byte (trim tail) ≡ false = rw value_is at other in
     let known : header_of name (Some tail) ≡ None = rw bad refl in
     sym (is ∙ ap (λ (o : Option (List ℕ)). header_of name o) (sym colon) ∙ known)
 
-pub good_value : (line name rest tail value : List ℕ) → header_at line ≡ header_of name (after_byte 58 rest) → Some tail ≡ after_byte 58 rest → value ≡ trim tail → list_all is_value_byte value ≡ true → Some (long_name name, value) ≡ header_at line
+pub good_value : (line name rest tail value : List ℕ) → header_at line ≡ header_of name (after_byte 58 rest) → Some tail ≡ after_byte 58 rest → value ≡ trim tail →
+    list_all is_value_byte value ≡ true → Some (long_name name, value) ≡ header_at line
 good_value line name rest tail value is colon value_is fine =
     let good : list_all is_value_byte (trim tail) ≡ true = rw value_is at fine in
     let known : header_of name (Some tail) ≡ Some (long_name name, trim tail) = rw good refl in

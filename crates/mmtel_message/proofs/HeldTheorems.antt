@@ -1,5 +1,6 @@
 -- Lines as they are held: prefixes of them, and edits, first among the received lines and then among the added ones.
-use Rattle.std.proofs.Common.{◌≡◌, ℕ, zero, suc, slice_set, inl, inr, ◌+◌, ◌-◌, ◌≤◌, ◌<◌, not, List, [], ◌∷◌, ◌++◌, length, take, drop, filter, Some, None, refl, sym, ap, subst, get_or, slice_get, drop-cons, take-suc, add-one, append-nil, ◌∙◌, arith}
+use Rattle.std.proofs.Common.{◌≡◌, ℕ, zero, suc, slice_set, inl, inr, ◌+◌, ◌-◌, ◌≤◌, ◌<◌, not, List, [], ◌∷◌, ◌++◌, length, take, drop, filter}
+use Rattle.std.proofs.Common.{Some, None, refl, sym, ap, subst, get_or, slice_get, drop-cons, take-suc, add-one, append-nil, ◌∙◌, arith}
 use Rattle.std.proofs.lemmas.Option.{slice_get_within, unwrap_or-slice_get}
 use Rattle.std.proofs.lemmas.Bool.{cases_Bool}
 use Rattle.std.proofs.lemmas.List.{drop_all, drop-map, length-map, map-append, take-append-le, take-map}
@@ -64,7 +65,8 @@ named_held s name (h ∷ hs) =
     ]
 
 -- the lines of a name from a place on: those among the received lines, then those among the added lines
-named_split : (s name : List ℕ) (hs : List (List ℕ × HeldValue)) (added : List Line) (n : ℕ) → lines_named name (drop n (lines_of s hs added)) ≡ held_lines s (filter (λ h. str_eq_ignore_ascii_case h.0 name) (drop n hs)) ++ lines_named name (drop (n - length hs) added)
+named_split : (s name : List ℕ) (hs : List (List ℕ × HeldValue)) (added : List Line) (n : ℕ) →
+    lines_named name (drop n (lines_of s hs added)) ≡ held_lines s (filter (λ h. str_eq_ignore_ascii_case h.0 name) (drop n hs)) ++ lines_named name (drop (n - length hs) added)
 named_split s name hs added n =
     let many : length (held_lines s hs) ≡ length hs = length-map hs (λ h. held_line s h) in
     let front : drop n (held_lines s hs) ≡ held_lines s (drop n hs) = drop-map (λ h. held_line s h) n hs in
@@ -75,15 +77,19 @@ named_split s name hs added n =
     ∙ ap (λ (ls : List Line). ls ++ lines_named name (drop (n - length hs) added)) (named_held s name (drop n hs))
 
 -- the next one is among the received lines
-pub next_received : (s name : List ℕ) (hs : List (List ℕ × HeldValue)) (added : List Line) (from : ℕ) (h : List ℕ × HeldValue) (after : ℕ) → from < after → after ≤ length hs → filter (λ x. str_eq_ignore_ascii_case x.0 name) (drop from hs) ≡ h ∷ filter (λ x. str_eq_ignore_ascii_case x.0 name) (drop after hs) → lines_named name (drop from (lines_of s hs added)) ≡ held_line s h ∷ lines_named name (drop after (lines_of s hs added))
+pub next_received : (s name : List ℕ) (hs : List (List ℕ × HeldValue)) (added : List Line) (from : ℕ) (h : List ℕ × HeldValue) (after : ℕ) → from < after →
+    after ≤ length hs → filter (λ x. str_eq_ignore_ascii_case x.0 name) (drop from hs) ≡ h ∷ filter (λ x. str_eq_ignore_ascii_case x.0 name) (drop after hs) →
+    lines_named name (drop from (lines_of s hs added)) ≡ held_line s h ∷ lines_named name (drop after (lines_of s hs added))
 next_received s name hs added from h after later within found =
     let same : from - length hs ≡ after - length hs = omega arith in
-    let first : held_lines s (filter (λ x. str_eq_ignore_ascii_case x.0 name) (drop from hs)) ++ lines_named name (drop (from - length hs) added) ≡ held_line s h ∷ (held_lines s (filter (λ x. str_eq_ignore_ascii_case x.0 name) (drop after hs)) ++ lines_named name (drop (after - length hs) added)) =
+    let first : held_lines s (filter (λ x. str_eq_ignore_ascii_case x.0 name) (drop from hs)) ++ lines_named name (drop (from - length hs) added)
+    ≡ held_line s h ∷ (held_lines s (filter (λ x. str_eq_ignore_ascii_case x.0 name) (drop after hs)) ++ lines_named name (drop (after - length hs) added)) =
     ap (λ (k : ℕ). held_lines s (filter (λ x. str_eq_ignore_ascii_case x.0 name) (drop from hs)) ++ lines_named name (drop k added)) same
     ∙ ap (λ (xs : List (List ℕ × HeldValue)). held_lines s xs ++ lines_named name (drop (after - length hs) added)) found in
     named_split s name hs added from ∙ first ∙ ap (λ (ls : List Line). held_line s h ∷ ls) (sym (named_split s name hs added after))
 
-none_received : (s name : List ℕ) (hs : List (List ℕ × HeldValue)) (added : List Line) (from : ℕ) → filter (λ x. str_eq_ignore_ascii_case x.0 name) (drop from hs) ≡ [] → lines_named name (drop from (lines_of s hs added)) ≡ lines_named name (drop (from - length hs) added)
+none_received : (s name : List ℕ) (hs : List (List ℕ × HeldValue)) (added : List Line) (from : ℕ) → filter (λ x. str_eq_ignore_ascii_case x.0 name) (drop from hs) ≡ [] →
+    lines_named name (drop from (lines_of s hs added)) ≡ lines_named name (drop (from - length hs) added)
 none_received s name hs added from none = named_split s name hs added from ∙ ap (λ (xs : List (List ℕ × HeldValue)). held_lines s xs ++ lines_named name (drop (from - length hs) added)) none
 
 -- the added lines follow the received ones
@@ -94,12 +100,15 @@ behind_received s name hs added n =
     ∙ ap (λ (k : ℕ). lines_named name (drop k added)) rest
 
 -- the next one is among the added lines
-pub next_added : (s name : List ℕ) (hs : List (List ℕ × HeldValue)) (added : List Line) (from : ℕ) (l : Line) (after : ℕ) → filter (λ x. str_eq_ignore_ascii_case x.0 name) (drop from hs) ≡ [] → lines_named name (drop (from - length hs) added) ≡ l ∷ lines_named name (drop after added) → lines_named name (drop from (lines_of s hs added)) ≡ l ∷ lines_named name (drop (length hs + after) (lines_of s hs added))
+pub next_added : (s name : List ℕ) (hs : List (List ℕ × HeldValue)) (added : List Line) (from : ℕ) (l : Line) (after : ℕ) →
+    filter (λ x. str_eq_ignore_ascii_case x.0 name) (drop from hs) ≡ [] → lines_named name (drop (from - length hs) added) ≡ l ∷ lines_named name (drop after added) →
+    lines_named name (drop from (lines_of s hs added)) ≡ l ∷ lines_named name (drop (length hs + after) (lines_of s hs added))
 next_added s name hs added from l after none found =
     none_received s name hs added from none ∙ found ∙ ap (λ (ls : List Line). l ∷ ls) (sym (behind_received s name hs added after))
 
 -- there is none
-pub next_nowhere : (s name : List ℕ) (hs : List (List ℕ × HeldValue)) (added : List Line) (from : ℕ) → filter (λ x. str_eq_ignore_ascii_case x.0 name) (drop from hs) ≡ [] → lines_named name (drop (from - length hs) added) ≡ [] → lines_named name (drop from (lines_of s hs added)) ≡ []
+pub next_nowhere : (s name : List ℕ) (hs : List (List ℕ × HeldValue)) (added : List Line) (from : ℕ) → filter (λ x. str_eq_ignore_ascii_case x.0 name) (drop from hs) ≡ [] →
+    lines_named name (drop (from - length hs) added) ≡ [] → lines_named name (drop from (lines_of s hs added)) ≡ []
 next_nowhere s name hs added from none nothing = none_received s name hs added from none ∙ nothing
 
 -- ---- edits
@@ -113,7 +122,8 @@ dropped_held s name (h ∷ hs) =
     ]
 
 -- without the lines of a name: the received and the added lines, each without them
-pub dropped_lines : (s name : List ℕ) (hs : List (List ℕ × HeldValue)) (added : List Line) → lines_of s (filter (λ h. not (str_eq_ignore_ascii_case h.0 name)) hs) (lines_without name added) ≡ lines_without name (lines_of s hs added)
+pub dropped_lines : (s name : List ℕ) (hs : List (List ℕ × HeldValue)) (added : List Line) →
+    lines_of s (filter (λ h. not (str_eq_ignore_ascii_case h.0 name)) hs) (lines_without name added) ≡ lines_without name (lines_of s hs added)
 dropped_lines s name hs added =
     ap (λ (ls : List Line). ls ++ lines_without name added) (dropped_held s name hs) ∙ sym (filter-append (λ l. not (is_line name l)) (held_lines s hs) added)
 
@@ -154,19 +164,23 @@ set_held s (x ∷ hs) zero h = refl
 set_held s (x ∷ hs) (suc n) h = ap (λ (ls : List Line). held_line s x ∷ ls) (set_held s hs n h)
 
 -- a line of the name among the received lines is replaced, and further ones are removed
-pub set_received : (s name value : List ℕ) (hs : List (List ℕ × HeldValue)) (added : List Line) (n : ℕ) → position (λ h. str_eq_ignore_ascii_case h.0 name) hs ≡ Some n → lines_of s (take (n + 1) (slice_set hs n (name, Edited value)) ++ filter (λ h. not (str_eq_ignore_ascii_case h.0 name)) (drop (n + 1) (slice_set hs n (name, Edited value)))) (lines_without name added) ≡ lines_with name value (lines_of s hs added)
+pub set_received : (s name value : List ℕ) (hs : List (List ℕ × HeldValue)) (added : List Line) (n : ℕ) → position (λ h. str_eq_ignore_ascii_case h.0 name) hs ≡ Some n →
+    lines_of s (take (n + 1) (slice_set hs n (name, Edited value)) ++ filter (λ h. not (str_eq_ignore_ascii_case h.0 name)) (drop (n + 1) (slice_set hs n (name, Edited value))))
+    (lines_without name added) ≡ lines_with name value (lines_of s hs added)
 set_received s name value hs added n e =
     let at_line : position (λ l. is_line name l) (held_lines s hs) ≡ Some n = span_held s name hs ∙ e in
     let ks : List (List ℕ × HeldValue) = slice_set hs n (name, Edited value) in
     let front : held_lines s (take (n + 1) ks) ≡ take (n + 1) (slice_set (held_lines s hs) n (name, value)) =
     sym (take-map (λ h. held_line s h) (n + 1) ks) ∙ ap (λ (ls : List Line). take (n + 1) ls) (set_held s hs n (name, Edited value)) in
     let back : held_lines s (filter (λ h. not (str_eq_ignore_ascii_case h.0 name)) (drop (n + 1) ks)) ≡ lines_without name (drop (n + 1) (slice_set (held_lines s hs) n (name, value))) =
-    dropped_held s name (drop (n + 1) ks) ∙ ap (λ (ls : List Line). lines_without name ls) (sym (drop-map (λ h. held_line s h) (n + 1) ks) ∙ ap (λ (ls : List Line). drop (n + 1) ls) (set_held s hs n (name, Edited value))) in
+    dropped_held s name (drop (n + 1) ks)
+    ∙ ap (λ (ls : List Line). lines_without name ls) (sym (drop-map (λ h. held_line s h) (n + 1) ks) ∙ ap (λ (ls : List Line). drop (n + 1) ls) (set_held s hs n (name, Edited value))) in
     let whole : held_lines s (take (n + 1) ks ++ filter (λ h. not (str_eq_ignore_ascii_case h.0 name)) (drop (n + 1) ks)) ≡ lines_with name value (held_lines s hs) =
     map-append (λ h. held_line s h) (take (n + 1) ks) (filter (λ h. not (str_eq_ignore_ascii_case h.0 name)) (drop (n + 1) ks))
     ∙ (rw (front, back) refl ∙ set_there name value (held_lines s hs) n (there name (held_lines s hs) n at_line) at_line) in
     ap (λ (ls : List Line). ls ++ lines_without name added) whole ∙ sym (replaced_within name value (held_lines s hs) added n at_line)
 
 -- where none of the received lines has the name, the added ones are searched
-pub set_behind : (s name value : List ℕ) (hs : List (List ℕ × HeldValue)) (added : List Line) → position (λ h. str_eq_ignore_ascii_case h.0 name) hs ≡ None → lines_of s hs (lines_with name value added) ≡ lines_with name value (lines_of s hs added)
+pub set_behind : (s name value : List ℕ) (hs : List (List ℕ × HeldValue)) (added : List Line) → position (λ h. str_eq_ignore_ascii_case h.0 name) hs ≡ None →
+    lines_of s hs (lines_with name value added) ≡ lines_with name value (lines_of s hs added)
 set_behind s name value hs added e = sym (replaced_behind name value (held_lines s hs) added (span_held s name hs ∙ e))

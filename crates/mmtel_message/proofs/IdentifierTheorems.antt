@@ -20,11 +20,13 @@ still_said start five room hs is faultless =
     ap (λ o. option_map identifiers_of o) (five_kept (privacy_text hs) (allow_text hs) start five room hs (clean_from start five room [] hs o.0) ∙ is)
 
 -- the same for the lines as they were read
-pub said_of_read : (start : Start) (five : Five) (room : ℕ) (ls hs : List Line) (ids : Identifiers) → ls ≡ hs → Some five ≡ five_at ls → None ≡ first_fault start five room ls → ids ≡ identifiers_of five → identifiers_in (expanded_lines hs) ≡ Some ids
+pub said_of_read : (start : Start) (five : Five) (room : ℕ) (ls hs : List Line) (ids : Identifiers) → ls ≡ hs → Some five ≡ five_at ls → None ≡ first_fault start five room ls →
+    ids ≡ identifiers_of five → identifiers_in (expanded_lines hs) ≡ Some ids
 said_of_read start five room ls hs ids same is faultless e =
     let five_is : five_at hs ≡ Some five = ap five_at (sym same) ∙ sym is in
     let none : first_fault start five room hs ≡ None = ap (λ (ks : List Line). first_fault start five room ks) (sym same) ∙ sym faultless in
     still_said start five room hs five_is none ∙ ap (λ (i : Identifiers). Some i) (sym e)
 
-pub read_whole : (start : Start) (five : Five) (hs : List Line) (rest : List ℕ) → five_at hs ≡ Some five → nat_lt most_lines (length hs) ≡ false → first_fault start five (length rest) hs ≡ None → after_head (message_head (Some start) hs) rest ≡ Ok (message_of start hs rest)
+pub read_whole : (start : Start) (five : Five) (hs : List Line) (rest : List ℕ) → five_at hs ≡ Some five → nat_lt most_lines (length hs) ≡ false → first_fault start five (length rest) hs ≡ None →
+    after_head (message_head (Some start) hs) rest ≡ Ok (message_of start hs rest)
 read_whole start five hs rest is few faultless = rw (is, few, faultless) refl

@@ -1,5 +1,6 @@
 -- The places where lines and heads end.
-use Rattle.std.proofs.Common.{◌≡◌, ◌==◌, Bool, true, false, ◌&&◌, ℕ, zero, suc, ◌+◌, ◌<◌, ◌≤◌, ◌-◌, List, [], ◌∷◌, length, take, drop, get_or, get_or-drop, add-zero, Option, Some, None, refl, sym, ap, subst, ◌∙◌, arith, drop-cons, add-one, inl, inr, length-drop}
+use Rattle.std.proofs.Common.{◌≡◌, ◌==◌, Bool, true, false, ◌&&◌, ℕ, zero, suc, ◌+◌, ◌<◌, ◌≤◌, ◌-◌, List, [], ◌∷◌, length, take, drop, get_or}
+use Rattle.std.proofs.Common.{get_or-drop, add-zero, Option, Some, None, refl, sym, ap, subst, ◌∙◌, arith, drop-cons, add-one, inl, inr, length-drop}
 use Rattle.std.proofs.lemmas.List.{drop_all, drop-drop, take_all, take_rest}
 use Rattle.std.specs.Option.{option_map}
 use Rattle.std.proofs.lemmas.Bool.{cases_Bool}
@@ -172,7 +173,8 @@ reaches i n s le less =
     let cut : length (drop i s) ≡ length s - i = length-drop i s in
     omega (arith, rest, cut)
 
-pub none_left : (k : Break) (total : Option ℕ) (i : ℕ) (s : List ℕ) → i ≤ length s → Nowhere (Passes (is_byte 13) (take (length s - i) (drop i s))) 0 (length (take (length s - i) (drop i s))) → Goes total k i s → Goes total k (length s) s
+pub none_left : (k : Break) (total : Option ℕ) (i : ℕ) (s : List ℕ) → i ≤ length s → Nowhere (Passes (is_byte 13) (take (length s - i) (drop i s))) 0 (length (take (length s - i) (drop i s))) →
+    Goes total k i s → Goes total k (length s) s
 none_left k total i s le none so_far =
     let all : length (take (length s - i) (drop i s)) ≡ length s - i = rw (whole_rest s i le) (length-drop i s) in
     let whole : i + length (take (length s - i) (drop i s)) ≡ length s = omega (arith, all) in

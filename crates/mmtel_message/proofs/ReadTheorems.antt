@@ -309,7 +309,8 @@ fault_parts start five room hs e =
 same_rel : Rel [] []
 same_rel = record { has = λ X. refl; hist = refl }
 
-canonical_message : (start : Start) (five : Five) (line : List ℕ) (hs : List Header) (rest : List ℕ) → IsWhole line → start_at line ≡ Some start → AreReadLines hs → five_at hs ≡ Some five → first_fault start five (length rest) hs ≡ None → IsCanonical (message_of start hs rest)
+canonical_message : (start : Start) (five : Five) (line : List ℕ) (hs : List Header) (rest : List ℕ) → IsWhole line → start_at line ≡ Some start → AreReadLines hs → five_at hs ≡ Some five →
+    first_fault start five (length rest) hs ≡ None → IsCanonical (message_of start hs rest)
 canonical_message start five line hs rest whole is read found e =
     let p : List ℕ = privacy_text hs in
     let a : List ℕ = allow_text hs in
@@ -341,7 +342,8 @@ good m = Ok m
 pub ok_is : (m n : Message Start) → good m ≡ good n → m ≡ n
 ok_is m n e = cc
 
-of_faults : (start : Start) (five : Five) (line : List ℕ) (hs : List Header) (rest : List ℕ) (m : Message Start) (o : Option ℕ) → IsWhole line → start_at line ≡ Some start → AreReadLines hs → five_at hs ≡ Some five → first_fault start five (length rest) hs ≡ o → after_faults start hs rest o ≡ Ok m → IsCanonical m
+of_faults : (start : Start) (five : Five) (line : List ℕ) (hs : List Header) (rest : List ℕ) (m : Message Start) (o : Option ℕ) → IsWhole line → start_at line ≡ Some start → AreReadLines hs →
+    five_at hs ≡ Some five → first_fault start five (length rest) hs ≡ o → after_faults start hs rest o ≡ Ok m → IsCanonical m
 of_faults start five line hs rest m (Some n) whole is read found none e = absurd cc
 of_faults start five line hs rest m None whole is read found none e =
     subst (λ (x : Message Start). IsCanonical x) (ok_is (message_of start hs rest) m e) (canonical_message start five line hs rest whole is read found none)
@@ -350,7 +352,8 @@ of_faults start five line hs rest m None whole is read found none e =
 abbrev pub with_five : Start → List Header → Option Five → Option MessageHead
 with_five start hs o = o >>= λ five. Some (record { start = start; lines = hs; five = five })
 
-of_lines : (start : Start) (line : List ℕ) (hs : List Header) (rest : List ℕ) (m : Message Start) (o : Option Five) → IsWhole line → start_at line ≡ Some start → AreReadLines hs → five_at hs ≡ o → after_head (with_five start hs o) rest ≡ Ok m → IsCanonical m
+of_lines : (start : Start) (line : List ℕ) (hs : List Header) (rest : List ℕ) (m : Message Start) (o : Option Five) → IsWhole line → start_at line ≡ Some start → AreReadLines hs → five_at hs ≡ o →
+    after_head (with_five start hs o) rest ≡ Ok m → IsCanonical m
 of_lines start line hs rest m None whole is read found e = absurd cc
 of_lines start line hs rest m (Some five) whole is read found e =
     elim (cases_Bool (nat_lt most_lines (length hs))) [

@@ -16,7 +16,8 @@ use Rattle.mmtel_message.specs.Fields.{call_in, first_part, five_at, only_value,
 use Rattle.mmtel_message.specs.Message.{Line, line, first_value, is_line, lines_named}
 use Rattle.mmtel_message.specs.Guarantees.{IsOnly}
 use Rattle.mmtel_message.specs.Replies.{bare_reply, reply_with}
-use Rattle.mmtel_message.specs.Responses.{AddsNo, AddsNone, AreLinesWith, AreOthers, CanBeSent, IsSendable, Reply, added_lines, call_lines, completed_lines, contact_lines, copied_lines, five_of_response, makes_dialog, names_contact, own_fields, party_lines, refreshes_target, response, route_lines, tag_of_response, to_line, to_of_response, to_value, via_lines, via_of_response}
+use Rattle.mmtel_message.specs.Responses.{AddsNo, AddsNone, AreLinesWith, AreOthers, CanBeSent, IsSendable, Reply, added_lines, call_lines, completed_lines, contact_lines, copied_lines, five_of_response}
+use Rattle.mmtel_message.specs.Responses.{makes_dialog, names_contact, own_fields, party_lines, refreshes_target, response, route_lines, tag_of_response, to_line, to_of_response, to_value, via_lines, via_of_response}
 use Rattle.mmtel_message.specs.Vias.{completed_value}
 use Rattle.mmtel_message.specs.declared.fields.Five.{Five}
 use Rattle.mmtel_message.specs.declared.fields.Via.{Via}
@@ -131,7 +132,8 @@ added_none X start ls r is none =
 
 abbrev copied_parts : List ℕ → Option Addr → List ℕ → List Line → List Line
 copied_parts X source tag ls =
-    lines_named X (completed_lines source (lines_named (codes "Via") ls)) ++ ((lines_named X (lines_named (codes "From") ls) ++ map (to_line tag) (lines_named X (lines_named (codes "To") ls))) ++ (lines_named X (lines_named (codes "Call-ID") ls) ++ lines_named X (lines_named (codes "CSeq") ls)))
+    lines_named X (completed_lines source (lines_named (codes "Via") ls)) ++ ((lines_named X (lines_named (codes "From") ls) ++ map (to_line tag) (lines_named X (lines_named (codes "To") ls)))
+    ++ (lines_named X (lines_named (codes "Call-ID") ls) ++ lines_named X (lines_named (codes "CSeq") ls)))
 
 copied_is : (X : List ℕ) (source : Option Addr) (tag : List ℕ) (ls : List Line) → lines_named X (copied_lines source tag ls) ≡ copied_parts X source tag ls
 unfolding copied_lines via_lines party_lines call_lines
@@ -148,50 +150,78 @@ via_none X source ls other = completed_none X source (lines_named (codes "Via") 
 
 copied_via : (source : Option Addr) (tag : List ℕ) (ls : List Line) → lines_named (codes "Via") (copied_lines source tag ls) ≡ completed_lines source (lines_named (codes "Via") ls)
 copied_via source tag ls =
-    copied_is (codes "Via") source tag ls ∙ rw (completed_all source ls, apart (codes "Via") (codes "From") ls refl, apart (codes "Via") (codes "To") ls refl, apart (codes "Via") (codes "Call-ID") ls refl, apart (codes "Via") (codes "CSeq") ls refl) (append-nil (completed_lines source (lines_named (codes "Via") ls)))
+    copied_is (codes "Via") source tag ls ∙ rw (
+      completed_all source ls,
+      apart (codes "Via") (codes "From") ls refl,
+      apart (codes "Via") (codes "To") ls refl,
+      apart (codes "Via") (codes "Call-ID") ls refl,
+      apart (codes "Via") (codes "CSeq") ls refl,
+    ) (append-nil (completed_lines source (lines_named (codes "Via") ls)))
 
 copied_from : (source : Option Addr) (tag : List ℕ) (ls : List Line) → lines_named (codes "From") (copied_lines source tag ls) ≡ lines_named (codes "From") ls
 copied_from source tag ls =
     let from : List Line = lines_named (codes "From") ls in
-    copied_is (codes "From") source tag ls ∙ rw (via_none (codes "From") source ls refl, twice (codes "From") ls, apart (codes "From") (codes "To") ls refl, apart (codes "From") (codes "Call-ID") ls refl, apart (codes "From") (codes "CSeq") ls refl) (append-nil (from ++ []) ∙ append-nil from)
+    copied_is (codes "From") source tag ls ∙ rw (
+      via_none (codes "From") source ls refl,
+      twice (codes "From") ls,
+      apart (codes "From") (codes "To") ls refl,
+      apart (codes "From") (codes "Call-ID") ls refl,
+      apart (codes "From") (codes "CSeq") ls refl,
+    ) (append-nil (from ++ []) ∙ append-nil from)
 
 copied_to : (source : Option Addr) (tag : List ℕ) (ls : List Line) → lines_named (codes "To") (copied_lines source tag ls) ≡ map (to_line tag) (lines_named (codes "To") ls)
 copied_to source tag ls =
-    copied_is (codes "To") source tag ls ∙ rw (via_none (codes "To") source ls refl, twice (codes "To") ls, apart (codes "To") (codes "From") ls refl, apart (codes "To") (codes "Call-ID") ls refl, apart (codes "To") (codes "CSeq") ls refl) (append-nil (map (to_line tag) (lines_named (codes "To") ls)))
+    copied_is (codes "To") source tag ls
+    ∙ rw (via_none (codes "To") source ls refl, twice (codes "To") ls, apart (codes "To") (codes "From") ls refl, apart (codes "To") (codes "Call-ID") ls refl, apart (codes "To") (codes "CSeq") ls refl)
+    (append-nil (map (to_line tag) (lines_named (codes "To") ls)))
 
 copied_id : (source : Option Addr) (tag : List ℕ) (ls : List Line) → lines_named (codes "Call-ID") (copied_lines source tag ls) ≡ lines_named (codes "Call-ID") ls
 copied_id source tag ls =
-    copied_is (codes "Call-ID") source tag ls ∙ rw (via_none (codes "Call-ID") source ls refl, twice (codes "Call-ID") ls, apart (codes "Call-ID") (codes "From") ls refl, apart (codes "Call-ID") (codes "To") ls refl, apart (codes "Call-ID") (codes "CSeq") ls refl) (append-nil (lines_named (codes "Call-ID") ls))
+    copied_is (codes "Call-ID") source tag ls ∙ rw (
+      via_none (codes "Call-ID") source ls refl,
+      twice (codes "Call-ID") ls,
+      apart (codes "Call-ID") (codes "From") ls refl,
+      apart (codes "Call-ID") (codes "To") ls refl,
+      apart (codes "Call-ID") (codes "CSeq") ls refl,
+    ) (append-nil (lines_named (codes "Call-ID") ls))
 
 copied_cseq : (source : Option Addr) (tag : List ℕ) (ls : List Line) → lines_named (codes "CSeq") (copied_lines source tag ls) ≡ lines_named (codes "CSeq") ls
 copied_cseq source tag ls =
-    copied_is (codes "CSeq") source tag ls ∙ rw (via_none (codes "CSeq") source ls refl, twice (codes "CSeq") ls, apart (codes "CSeq") (codes "From") ls refl, apart (codes "CSeq") (codes "To") ls refl, apart (codes "CSeq") (codes "Call-ID") ls refl) refl
+    copied_is (codes "CSeq") source tag ls
+    ∙ rw (via_none (codes "CSeq") source ls refl, twice (codes "CSeq") ls, apart (codes "CSeq") (codes "From") ls refl, apart (codes "CSeq") (codes "To") ls refl, apart (codes "CSeq") (codes "Call-ID") ls refl) refl
 
 -- ---- the lines of a response
 
-in_response : (X : List ℕ) (start : Start) (ls : List Line) (r : Reply) (wanted : List Line) → IsCopied X → AddsNo X r → lines_named X (copied_lines r.source (tag_of_response r.code r.tag) ls) ≡ wanted → lines_named X (response start ls r).lines ≡ wanted
+in_response : (X : List ℕ) (start : Start) (ls : List Line) (r : Reply) (wanted : List Line) → IsCopied X → AddsNo X r →
+    lines_named X (copied_lines r.source (tag_of_response r.code r.tag) ls) ≡ wanted → lines_named X (response start ls r).lines ≡ wanted
 unfolding response
 in_response X start ls r wanted is none e =
     cut X (copied_lines r.source (tag_of_response r.code r.tag) ls) (added_lines r.code start ls r.contact r.passed r.named r.body) ∙ rw (e, added_none X start ls r is none) (append-nil wanted)
 
 pub via_of : (start : Start) (ls : List Line) (r : Reply) → AddsNone r → lines_named (codes "Via") (response start ls r).lines ≡ completed_lines r.source (lines_named (codes "Via") ls)
-via_of start ls r none = in_response (codes "Via") start ls r (completed_lines r.source (lines_named (codes "Via") ls)) (record { route = refl; contact = refl; length = refl }) none.via (copied_via r.source (tag_of_response r.code r.tag) ls)
+via_of start ls r none = in_response (codes "Via") start ls r (completed_lines r.source (lines_named (codes "Via") ls)) (record { route = refl; contact = refl; length = refl }) none.via
+    (copied_via r.source (tag_of_response r.code r.tag) ls)
 
 pub from_of : (start : Start) (ls : List Line) (r : Reply) → AddsNone r → lines_named (codes "From") (response start ls r).lines ≡ lines_named (codes "From") ls
-from_of start ls r none = in_response (codes "From") start ls r (lines_named (codes "From") ls) (record { route = refl; contact = refl; length = refl }) (none.passed.from, none.named.from) (copied_from r.source (tag_of_response r.code r.tag) ls)
+from_of start ls r none = in_response (codes "From") start ls r (lines_named (codes "From") ls) (record { route = refl; contact = refl; length = refl }) (none.passed.from, none.named.from)
+    (copied_from r.source (tag_of_response r.code r.tag) ls)
 
 pub to_of : (start : Start) (ls : List Line) (r : Reply) → AddsNone r → lines_named (codes "To") (response start ls r).lines ≡ map (to_line (tag_of_response r.code r.tag)) (lines_named (codes "To") ls)
-to_of start ls r none = in_response (codes "To") start ls r (map (to_line (tag_of_response r.code r.tag)) (lines_named (codes "To") ls)) (record { route = refl; contact = refl; length = refl }) (none.passed.to, none.named.to) (copied_to r.source (tag_of_response r.code r.tag) ls)
+to_of start ls r none = in_response (codes "To") start ls r (map (to_line (tag_of_response r.code r.tag)) (lines_named (codes "To") ls)) (record { route = refl; contact = refl; length = refl })
+    (none.passed.to, none.named.to) (copied_to r.source (tag_of_response r.code r.tag) ls)
 
 pub id_of : (start : Start) (ls : List Line) (r : Reply) → AddsNone r → lines_named (codes "Call-ID") (response start ls r).lines ≡ lines_named (codes "Call-ID") ls
-id_of start ls r none = in_response (codes "Call-ID") start ls r (lines_named (codes "Call-ID") ls) (record { route = refl; contact = refl; length = refl }) (none.passed.call_id, none.named.call_id) (copied_id r.source (tag_of_response r.code r.tag) ls)
+id_of start ls r none = in_response (codes "Call-ID") start ls r (lines_named (codes "Call-ID") ls) (record { route = refl; contact = refl; length = refl }) (none.passed.call_id, none.named.call_id)
+    (copied_id r.source (tag_of_response r.code r.tag) ls)
 
 pub cseq_of : (start : Start) (ls : List Line) (r : Reply) → AddsNone r → lines_named (codes "CSeq") (response start ls r).lines ≡ lines_named (codes "CSeq") ls
-cseq_of start ls r none = in_response (codes "CSeq") start ls r (lines_named (codes "CSeq") ls) (record { route = refl; contact = refl; length = refl }) (none.passed.cseq, none.named.cseq) (copied_cseq r.source (tag_of_response r.code r.tag) ls)
+cseq_of start ls r none = in_response (codes "CSeq") start ls r (lines_named (codes "CSeq") ls) (record { route = refl; contact = refl; length = refl }) (none.passed.cseq, none.named.cseq)
+    (copied_cseq r.source (tag_of_response r.code r.tag) ls)
 
 -- ---- its five fields
 
-first_via : (source : Option Addr) (hs : List Line) (v : List ℕ) (via : Via) → CanBeSent source → head_value hs ≡ Some v → via_at v ≡ Some via → via_at (first_part v) ≡ Some via → (w : List ℕ) × (head_value (completed_lines source hs) ≡ Some w) × (via_at (first_part w) ≡ Some (via_of_response source via))
+first_via : (source : Option Addr) (hs : List Line) (v : List ℕ) (via : Via) → CanBeSent source → head_value hs ≡ Some v → via_at v ≡ Some via → via_at (first_part v) ≡ Some via →
+    (w : List ℕ) × (head_value (completed_lines source hs) ≡ Some w) × (via_at (first_part w) ≡ Some (via_of_response source via))
 first_via None hs v via can e is part = (v, e, part)
 first_via (Some source) [] v via can e is part = absurd cc
 first_via (Some source) (l ∷ hs) v via can e is part =
@@ -199,7 +229,8 @@ first_via (Some source) (l ∷ hs) v via can e is part =
     let read : via_at l.1 ≡ Some via = subst (λ (x : List ℕ). via_at x ≡ Some via) (sym same) is in
     (completed_value source l.1, refl, ap via_at (completed_is_one source l.1 via can read) ∙ completed_reads source l.1 via can read)
 
-via_read : (start : Start) (ls : List Line) (r : Reply) (v : List ℕ) (via : Via) → AddsNone r → CanBeSent r.source → first_value (codes "Via") ls ≡ Some v → via_at v ≡ Some via → via_at (first_part v) ≡ Some via → via_in (response start ls r).lines ≡ Some (via_of_response r.source via)
+via_read : (start : Start) (ls : List Line) (r : Reply) (v : List ℕ) (via : Via) → AddsNone r → CanBeSent r.source → first_value (codes "Via") ls ≡ Some v → via_at v ≡ Some via →
+    via_at (first_part v) ≡ Some via → via_in (response start ls r).lines ≡ Some (via_of_response r.source via)
 via_read start ls r v via none can there is part =
     let f = first_via r.source (lines_named (codes "Via") ls) v via can (sym (first_named (codes "Via") ls) ∙ there) is part in
     let found : first_value (codes "Via") (response start ls r).lines ≡ Some f.0 = first_named (codes "Via") (response start ls r).lines ∙ (ap head_value (via_of start ls r none) ∙ f.1) in
@@ -220,7 +251,8 @@ tag_is code tag is =
       | inr n ↦ rw n is
     ]
 
-to_read : (start : Start) (ls : List Line) (r : Reply) (v : List ℕ) (n : NameAddr) → AddsNone r → (r.tag ≡ []) ⊎ IsToken r.tag → IsOnly (codes "To") ls v → name_addr_of v ≡ Some n → party_in (codes "To") (response start ls r).lines ≡ Some (to_of_response (tag_of_response r.code r.tag) n)
+to_read : (start : Start) (ls : List Line) (r : Reply) (v : List ℕ) (n : NameAddr) → AddsNone r → (r.tag ≡ []) ⊎ IsToken r.tag → IsOnly (codes "To") ls v → name_addr_of v ≡ Some n →
+    party_in (codes "To") (response start ls r).lines ≡ Some (to_of_response (tag_of_response r.code r.tag) n)
 to_read start ls r v n none tag only e =
     let due : List ℕ = tag_of_response r.code r.tag in
     let o = one_line (lines_named (codes "To") ls) v (sym (first_named (codes "To") ls) ∙ only.first) only.alone in
@@ -249,7 +281,8 @@ five_parts ls five e =
     let made : Five = record { via = a.0; from = p.0.0; to = p.0.1; call_id = c.0.0; cseq = c.0.1 } in
     subst (λ (x : Five). FiveParts ls x) (some_is made five c.2) (p.1, c.1)
 
-parties_read : (start : Start) (ls : List Line) (r : Reply) (five : Five) → AddsNone r → (r.tag ≡ []) ⊎ IsToken r.tag → five_at ls ≡ Some five → parties_in (response start ls r).lines ≡ Some (five.from, to_of_response (tag_of_response r.code r.tag) five.to)
+parties_read : (start : Start) (ls : List Line) (r : Reply) (five : Five) → AddsNone r → (r.tag ≡ []) ⊎ IsToken r.tag → five_at ls ≡ Some five →
+    parties_in (response start ls r).lines ≡ Some (five.from, to_of_response (tag_of_response r.code r.tag) five.to)
 unfolding parties_in
 parties_read start ls r five none tag e =
     let parties = parties_are ls (five.from, five.to) (five_parts ls five e).0 in
@@ -287,7 +320,8 @@ status_none code n phrase = rw (
   and_false (nat_le 200 code && nat_le code 299),
 ) refl
 
-added_same : (code : ℕ) (a b : Start) (ks ls : List Line) (contact : List ℕ) (passed more : List Line) (body : List ℕ) → names_contact code a ≡ false → names_contact code b ≡ false → added_lines code a ks contact passed more body ≡ added_lines code b ls contact passed more body
+added_same : (code : ℕ) (a b : Start) (ks ls : List Line) (contact : List ℕ) (passed more : List Line) (body : List ℕ) → names_contact code a ≡ false → names_contact code b ≡ false →
+    added_lines code a ks contact passed more body ≡ added_lines code b ls contact passed more body
 unfolding added_lines route_lines contact_lines
 added_same code a b ks ls contact passed more body x y =
     let in_a = or_left (makes_dialog code a) (refreshes_target code a) x in
@@ -316,7 +350,9 @@ adds_none code phrase =
     let no_lines : AreOthers [] = record { from = refl; to = refl; call_id = refl; cseq = refl } in
     record { via = (refl, refl); passed = no_lines; named = no_lines }
 
-copied_same : (source : Option Addr) (tag : List ℕ) (ks ls : List Line) → lines_named (codes "Via") ks ≡ lines_named (codes "Via") ls → lines_named (codes "From") ks ≡ lines_named (codes "From") ls → lines_named (codes "To") ks ≡ lines_named (codes "To") ls → lines_named (codes "Call-ID") ks ≡ lines_named (codes "Call-ID") ls → lines_named (codes "CSeq") ks ≡ lines_named (codes "CSeq") ls → copied_lines source tag ks ≡ copied_lines source tag ls
+copied_same : (source : Option Addr) (tag : List ℕ) (ks ls : List Line) → lines_named (codes "Via") ks ≡ lines_named (codes "Via") ls → lines_named (codes "From") ks ≡ lines_named (codes "From") ls →
+    lines_named (codes "To") ks ≡ lines_named (codes "To") ls → lines_named (codes "Call-ID") ks ≡ lines_named (codes "Call-ID") ls → lines_named (codes "CSeq") ks ≡ lines_named (codes "CSeq") ls →
+    copied_lines source tag ks ≡ copied_lines source tag ls
 unfolding copied_lines via_lines party_lines call_lines
 copied_same source tag ks ls v f t i c = rw (v, f, t, i, c) refl
 
@@ -325,10 +361,13 @@ unfolding reply_with
 reply_copied source tag code phrase ls =
     let r : Reply = bare_reply code phrase in
     let none = adds_none code phrase in
-    let to : lines_named (codes "To") (response (Status code phrase) ls (bare_reply code phrase)).lines ≡ lines_named (codes "To") ls = to_of (Status code phrase) ls r none ∙ rw (no_tag code) (plain_to (lines_named (codes "To") ls)) in
-    copied_same source tag (response (Status code phrase) ls r).lines ls (via_of (Status code phrase) ls r none) (from_of (Status code phrase) ls r none) to (id_of (Status code phrase) ls r none) (cseq_of (Status code phrase) ls r none)
+    let to : lines_named (codes "To") (response (Status code phrase) ls (bare_reply code phrase)).lines ≡ lines_named (codes "To") ls =
+    to_of (Status code phrase) ls r none ∙ rw (no_tag code) (plain_to (lines_named (codes "To") ls)) in
+    copied_same source tag (response (Status code phrase) ls r).lines ls (via_of (Status code phrase) ls r none) (from_of (Status code phrase) ls r none) to (id_of (Status code phrase) ls r none)
+    (cseq_of (Status code phrase) ls r none)
 
-pub completed_again : (a b : Start) (code : ℕ) (phrase : List ℕ) (ls : List Line) (r : Reply) → names_contact r.code a ≡ false → names_contact r.code b ≡ false → response a (reply_with code phrase ls).lines r ≡ response b ls r
+pub completed_again : (a b : Start) (code : ℕ) (phrase : List ℕ) (ls : List Line) (r : Reply) → names_contact r.code a ≡ false → names_contact r.code b ≡ false →
+    response a (reply_with code phrase ls).lines r ≡ response b ls r
 unfolding response
 completed_again a b code phrase ls r x y =
     rw (reply_copied r.source (tag_of_response r.code r.tag) code phrase ls, added_same r.code a b (reply_with code phrase ls).lines ls r.contact r.passed r.named r.body x y) refl

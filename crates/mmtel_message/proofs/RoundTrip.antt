@@ -1,5 +1,6 @@
 -- A canonical text is read back.
-use Rattle.std.proofs.Common.{◌≡◌, ◌==◌, true, false, not, ◌&&◌, ℕ, suc, ◌+◌, ◌<◌, ◌≤◌, List, [], ◌∷◌, ◌++◌, length, drop, Option, Some, None, refl, sym, ap, subst, inl, inr, ◌∙◌, arith, append_assoc, append-nil, map, Ok, Err, Result, nat_lt}
+use Rattle.std.proofs.Common.{◌≡◌, ◌==◌, true, false, not, ◌&&◌, ℕ, suc, ◌+◌, ◌<◌, ◌≤◌, List, [], ◌∷◌, ◌++◌, length, drop, Option, Some}
+use Rattle.std.proofs.Common.{None, refl, sym, ap, subst, inl, inr, ◌∙◌, arith, append_assoc, append-nil, map, Ok, Err, Result, nat_lt}
 use Rattle.std.specs.Prelude.{IfOk}
 use Rattle.mmtel_base.specs.declared.memory.NoMemory.{NoMemory}
 use Rattle.std.proofs.lemmas.List.{length-append, take_at}
@@ -237,13 +238,15 @@ abbrev pub after_lines : List ℕ → List (List ℕ) → Read
 after_lines rest ls = after_head (head_in_lines ls) rest
 
 -- bytes that are these lines and this body are read from the lines, each with those that continue it
-pub reads_folded : (first : List ℕ) (rs : List (List ℕ)) (body : List ℕ) → IsWhole first → AreWhole rs → length (datagram first rs body) ≤ 16384 → read_result (datagram first rs body) ≡ after_lines body (logical_lines_from first rs)
+pub reads_folded : (first : List ℕ) (rs : List (List ℕ)) (body : List ℕ) → IsWhole first → AreWhole rs → length (datagram first rs body) ≤ 16384 →
+    read_result (datagram first rs body) ≡ after_lines body (logical_lines_from first rs)
 reads_folded first rs body e each le =
     let head : List ℕ = first ++ tail_text rs in
     let fits : nat_lt 16384 (length (head ++ close body)) ≡ false = grind (arith, nat_tests, le) in
     rw (fits, head_is first rs body e each, past head body, take_at head (close body) (length head) refl, split_tail first rs e each) refl
 
-pub reads_lines : (first : List ℕ) (rs : List (List ℕ)) (body : List ℕ) → IsWhole first → AreWhole rs → AreUnfolded rs → length (datagram first rs body) ≤ 16384 → read_result (datagram first rs body) ≡ after_start (map header_line rs) body (start_at first)
+pub reads_lines : (first : List ℕ) (rs : List (List ℕ)) (body : List ℕ) → IsWhole first → AreWhole rs → AreUnfolded rs → length (datagram first rs body) ≤ 16384 →
+    read_result (datagram first rs body) ≡ after_start (map header_line rs) body (start_at first)
 reads_lines first rs body e each plain le = rw (reads_folded first rs body e each le, unfolded_tail first rs plain) refl
 
 sound_reads : (m : Message Start) → IsCanonical m → length m.lines ≤ 128 → after_start m.lines m.body (Some m.start) ≡ Ok m

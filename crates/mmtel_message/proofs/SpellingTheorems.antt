@@ -45,7 +45,8 @@ or_same (Some z) x y m e = inl refl
 pub same_spelling : (n m : List ℕ) → str_to_ascii_lowercase n ≡ str_to_ascii_lowercase m → (long_name n ≡ long_name m) ⊎ (long_name m ≡ m)
 same_spelling n m e =
     rw (same_forms compact_forms n m e, same_forms more_compact_forms n m e, same_names routing_names n m e, same_names content_names n m e, same_names caller_names n m e, same_names network_names n m e)
-    (or_same (of_forms compact_forms m) _ _ m (or_same (of_forms more_compact_forms m) _ _ m (or_same (of_names routing_names m) _ _ m (or_same (of_names content_names m) _ _ m (or_same (of_names caller_names m) _ _ m (or_same (of_names network_names m) n m m (inr refl)))))))
+    (or_same (of_forms compact_forms m) _ _ m (or_same (of_forms more_compact_forms m) _ _ m
+    (or_same (of_names routing_names m) _ _ m (or_same (of_names content_names m) _ _ m (or_same (of_names caller_names m) _ _ m (or_same (of_names network_names m) n m m (inr refl)))))))
 
 -- ---- one header line
 
@@ -97,9 +98,12 @@ same_line n m a b c v tn tm e ea eb ec =
 -- ---- datagrams
 
 -- datagrams that differ in one line, which says the same in both, are read with the same result
-pub same_reading : (first : List ℕ) (xs ys : List (List ℕ)) (r q body : List ℕ) → header_line r ≡ header_line q → IsWhole first → AreWhole (xs ++ r ∷ ys) → AreUnfolded (xs ++ r ∷ ys) → AreWhole (xs ++ q ∷ ys) → AreUnfolded (xs ++ q ∷ ys) → length (datagram first (xs ++ r ∷ ys) body) ≤ 16384 → length (datagram first (xs ++ q ∷ ys) body) ≤ 16384 → read_result (datagram first (xs ++ r ∷ ys) body) ≡ read_result (datagram first (xs ++ q ∷ ys) body)
+pub same_reading : (first : List ℕ) (xs ys : List (List ℕ)) (r q body : List ℕ) → header_line r ≡ header_line q → IsWhole first → AreWhole (xs ++ r ∷ ys) → AreUnfolded (xs ++ r ∷ ys) →
+    AreWhole (xs ++ q ∷ ys) → AreUnfolded (xs ++ q ∷ ys) → length (datagram first (xs ++ r ∷ ys) body) ≤ 16384 → length (datagram first (xs ++ q ∷ ys) body) ≤ 16384 →
+    read_result (datagram first (xs ++ r ∷ ys) body) ≡ read_result (datagram first (xs ++ q ∷ ys) body)
 same_reading first xs ys r q body e whole rw_ ru qw qu rl ql =
-    let lines : map header_line (xs ++ r ∷ ys) ≡ map header_line (xs ++ q ∷ ys) = map-append header_line xs (r ∷ ys) ∙ (ap (λ (l : List ℕ × List ℕ). map header_line xs ++ l ∷ map header_line ys) e ∙ sym (map-append header_line xs (q ∷ ys))) in
+    let lines : map header_line (xs ++ r ∷ ys) ≡ map header_line (xs ++ q ∷ ys) =
+    map-append header_line xs (r ∷ ys) ∙ (ap (λ (l : List ℕ × List ℕ). map header_line xs ++ l ∷ map header_line ys) e ∙ sym (map-append header_line xs (q ∷ ys))) in
     reads_lines first (xs ++ r ∷ ys) body whole rw_ ru rl ∙ (ap (λ (hs : List (List ℕ × List ℕ)). after_start hs body (start_at first)) lines ∙ sym (reads_lines first (xs ++ q ∷ ys) body whole qw qu ql))
 
 blank_space : in_class Blank 32 ≡ true
@@ -117,7 +121,8 @@ led_more : (x z : List ℕ) → 0 < length x → starts_blank (x ++ z) ≡ start
 led_more [] z filled = absurd (omega arith)
 led_more (b ∷ x) z filled = refl
 
-fold_lines : (l : List ℕ) (xs ys : List (List ℕ)) (x y : List ℕ) → 0 < length x → starts_blank x ≡ false → without_trailing Blank x ≡ x → starts_blank y ≡ false → logical_lines_from l (xs ++ x ∷ (32 ∷ y) ∷ ys) ≡ logical_lines_from l (xs ++ (x ++ 32 ∷ y) ∷ ys)
+fold_lines : (l : List ℕ) (xs ys : List (List ℕ)) (x y : List ℕ) → 0 < length x → starts_blank x ≡ false → without_trailing Blank x ≡ x → starts_blank y ≡ false →
+    logical_lines_from l (xs ++ x ∷ (32 ∷ y) ∷ ys) ≡ logical_lines_from l (xs ++ (x ++ 32 ∷ y) ∷ ys)
 unfolding logical_lines_from
 fold_lines l [] ys x y filled plain e f = rw (plain, blank_space, fold_is x y e f, led_more x (32 ∷ y) filled, plain) refl
 fold_lines l (z ∷ xs) ys x y filled plain e f =
@@ -127,9 +132,12 @@ fold_lines l (z ∷ xs) ys x y filled plain e f =
     ]
 
 -- a fold in place of one SP within a line
-pub same_folded : (first : List ℕ) (xs ys : List (List ℕ)) (x y body : List ℕ) → 0 < length x → starts_blank x ≡ false → without_trailing Blank x ≡ x → starts_blank y ≡ false → IsWhole first → AreWhole (xs ++ x ∷ (32 ∷ y) ∷ ys) → AreWhole (xs ++ (x ++ 32 ∷ y) ∷ ys) → length (datagram first (xs ++ x ∷ (32 ∷ y) ∷ ys) body) ≤ 16384 → length (datagram first (xs ++ (x ++ 32 ∷ y) ∷ ys) body) ≤ 16384 → read_result (datagram first (xs ++ x ∷ (32 ∷ y) ∷ ys) body) ≡ read_result (datagram first (xs ++ (x ++ 32 ∷ y) ∷ ys) body)
+pub same_folded : (first : List ℕ) (xs ys : List (List ℕ)) (x y body : List ℕ) → 0 < length x → starts_blank x ≡ false → without_trailing Blank x ≡ x → starts_blank y ≡ false →
+    IsWhole first → AreWhole (xs ++ x ∷ (32 ∷ y) ∷ ys) → AreWhole (xs ++ (x ++ 32 ∷ y) ∷ ys) → length (datagram first (xs ++ x ∷ (32 ∷ y) ∷ ys) body) ≤ 16384 →
+    length (datagram first (xs ++ (x ++ 32 ∷ y) ∷ ys) body) ≤ 16384 → read_result (datagram first (xs ++ x ∷ (32 ∷ y) ∷ ys) body) ≡ read_result (datagram first (xs ++ (x ++ 32 ∷ y) ∷ ys) body)
 same_folded first xs ys x y body filled plain e f whole aw bw al bl =
-    reads_folded first (xs ++ x ∷ (32 ∷ y) ∷ ys) body whole aw al ∙ (ap (λ (ls : List (List ℕ)). after_lines body ls) (fold_lines first xs ys x y filled plain e f) ∙ sym (reads_folded first (xs ++ (x ++ 32 ∷ y) ∷ ys) body whole bw bl))
+    reads_folded first (xs ++ x ∷ (32 ∷ y) ∷ ys) body whole aw al
+    ∙ (ap (λ (ls : List (List ℕ)). after_lines body ls) (fold_lines first xs ys x y filled plain e f) ∙ sym (reads_folded first (xs ++ (x ++ 32 ∷ y) ∷ ys) body whole bw bl))
 
 -- ---- what is read of a name
 
@@ -208,7 +216,9 @@ split_whole (b ∷ s) = put_text b (split s) ∙ ap (λ (t : List ℕ). b ∷ t)
 
 -- ---- the five fields
 
-pub same_five : (ls ks : List (List ℕ × List ℕ)) → lines_named (codes "Via") ls ≡ lines_named (codes "Via") ks → lines_named (codes "From") ls ≡ lines_named (codes "From") ks → lines_named (codes "To") ls ≡ lines_named (codes "To") ks → lines_named (codes "Call-ID") ls ≡ lines_named (codes "Call-ID") ks → lines_named (codes "CSeq") ls ≡ lines_named (codes "CSeq") ks → five_at ls ≡ five_at ks
+pub same_five : (ls ks : List (List ℕ × List ℕ)) → lines_named (codes "Via") ls ≡ lines_named (codes "Via") ks → lines_named (codes "From") ls ≡ lines_named (codes "From") ks →
+    lines_named (codes "To") ls ≡ lines_named (codes "To") ks → lines_named (codes "Call-ID") ls ≡ lines_named (codes "Call-ID") ks →
+    lines_named (codes "CSeq") ls ≡ lines_named (codes "CSeq") ks → five_at ls ≡ five_at ks
 unfolding five_at parties_in call_in
 same_five ls ks v f t i c =
     rw (first_kept (codes "Via") ls ks v, only_kept (codes "From") ls ks f, only_kept (codes "To") ls ks t, only_kept (codes "Call-ID") ls ks i, only_kept (codes "CSeq") ls ks c) refl

@@ -39,7 +39,8 @@ stops_more (b ∷ s) tag stops = stops
 bare_more : (uri : List ℕ) (ps : List Param) (tag : List ℕ) → tagged_value (uri ++ params_text ps) tag ≡ uri ++ params_text (ps ++ tag_param tag ∷ [])
 bare_more uri ps tag = append_assoc uri (params_text ps) (codes ";tag=" ++ tag) ∙ ap (λ (l : List ℕ). uri ++ l) (sym (more_text ps tag))
 
-angled_more : (display gap uri : List ℕ) (ps : List Param) (tag : List ℕ) → tagged_value (display ++ (gap ++ (60 ∷ (uri ++ 62 ∷ params_text ps)))) tag ≡ display ++ (gap ++ (60 ∷ (uri ++ 62 ∷ params_text (ps ++ tag_param tag ∷ []))))
+angled_more : (display gap uri : List ℕ) (ps : List Param) (tag : List ℕ) →
+    tagged_value (display ++ (gap ++ (60 ∷ (uri ++ 62 ∷ params_text ps)))) tag ≡ display ++ (gap ++ (60 ∷ (uri ++ 62 ∷ params_text (ps ++ tag_param tag ∷ []))))
 angled_more display gap uri ps tag =
     let new : List ℕ = codes ";tag=" ++ tag in
     let inner : (uri ++ 62 ∷ params_text ps) ++ new ≡ uri ++ 62 ∷ params_text (ps ++ tag_param tag ∷ []) = append_assoc uri (62 ∷ params_text ps) new ∙ ap (λ (l : List ℕ). uri ++ 62 ∷ l) (sym (more_text ps tag)) in
@@ -63,7 +64,8 @@ name_more s n tag (inr is) value = inr (record {
   params_in = are_more n.params tag is.params_in value;
 })
 
-pub tagged_reads : (value : List ℕ) (n : NameAddr) (tag : List ℕ) → name_addr_of value ≡ Some n → IsValue tag → name_addr_of (tagged_value value tag) ≡ Some (record n { params = n.params ++ record { name = codes "tag"; value = Some tag } ∷ [] })
+pub tagged_reads : (value : List ℕ) (n : NameAddr) (tag : List ℕ) → name_addr_of value ≡ Some n → IsValue tag →
+    name_addr_of (tagged_value value tag) ≡ Some (record n { params = n.params ++ record { name = codes "tag"; value = Some tag } ∷ [] })
 tagged_reads value n tag e is = name_addr_again (tagged_value value tag) (more n tag) (name_more value n tag (name_addr_takes value n e) is)
 
 -- To of a response

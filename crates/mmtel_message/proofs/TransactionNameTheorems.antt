@@ -34,7 +34,8 @@ branch_at ls v first = ap (λ (o : Option (List ℕ)). (o >>= λ w. via_at w) >>
 pub branch_nowhere : (ls : List Line) → first_value (codes "Via") ls ≡ None → first_branch ls ≡ None
 branch_nowhere ls none = ap (λ (o : Option (List ℕ)). (o >>= λ w. via_at w) >>= λ via. param_value (codes "branch") via.params) none
 
-known_branch : (ls : List Line) (said : Identifiers) (v : List ℕ) → identifiers_in ls ≡ Some said → first_value (codes "Via") ls ≡ Some v → values_of v ≡ v ∷ [] → (length said.branch == 0) ≡ false → Some said.branch ≡ first_branch ls
+known_branch : (ls : List Line) (said : Identifiers) (v : List ℕ) → identifiers_in ls ≡ Some said → first_value (codes "Via") ls ≡ Some v → values_of v ≡ v ∷ [] → (length said.branch == 0) ≡ false →
+    Some said.branch ≡ first_branch ls
 known_branch ls said v is first alone filled =
     let five = said_by (five_at ls) said is in
     let via = (fields_are ls five.0 five.1).via in
@@ -49,7 +50,8 @@ known_branch ls said v is first alone filled =
     ∙ sym (branch_at ls v first ∙ ap (λ (o : Option Via). o >>= λ w. param_value (codes "branch") w.params) read)
 
 -- the same, with a test of the line's value
-pub known_if : (b : Bool) (branch v : List ℕ) → (length branch == 0) ≡ false → OnFalse b (values_of v ≡ v ∷ []) → OnFalse b ((ls : List Line) (said : Identifiers) → identifiers_in ls ≡ Some said → said.branch ≡ branch → first_value (codes "Via") ls ≡ Some v → Some branch ≡ first_branch ls)
+pub known_if : (b : Bool) (branch v : List ℕ) → (length branch == 0) ≡ false → OnFalse b (values_of v ≡ v ∷ []) →
+    OnFalse b ((ls : List Line) (said : Identifiers) → identifiers_in ls ≡ Some said → said.branch ≡ branch → first_value (codes "Via") ls ≡ Some v → Some branch ≡ first_branch ls)
 known_if true branch v filled alone = tt
 known_if false branch v filled alone = λ ls said is same first.
     let there : (length said.branch == 0) ≡ false = subst (λ (b : List ℕ). (length b == 0) ≡ false) (sym same) filled in

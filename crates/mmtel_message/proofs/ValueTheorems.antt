@@ -271,7 +271,8 @@ record LastLonger (m : Mode) (s back : List ℕ) : Type 0 where
   is : parts m s ≡ begin ++ last ∷ []
   longer : parts m (s ++ back) ≡ begin ++ (last ++ back) ∷ []
 
-put_last : (b : ℕ) (begin : List (List ℕ)) (last back : List ℕ) → (more : List (List ℕ)) × (end : List ℕ) × (put_byte b (begin ++ last ∷ []) ≡ more ++ end ∷ []) × (put_byte b (begin ++ (last ++ back) ∷ []) ≡ more ++ (end ++ back) ∷ [])
+put_last : (b : ℕ) (begin : List (List ℕ)) (last back : List ℕ) →
+    (more : List (List ℕ)) × (end : List ℕ) × (put_byte b (begin ++ last ∷ []) ≡ more ++ end ∷ []) × (put_byte b (begin ++ (last ++ back) ∷ []) ≡ more ++ (end ++ back) ∷ [])
 put_last b [] last back = ([], b ∷ last, refl, refl)
 put_last b (p ∷ ps) last back = ((b ∷ p) ∷ ps, last, refl, refl)
 
@@ -337,19 +338,22 @@ joined_from k c blanks v (w ∷ vs) is f each e =
 pub values_joined : (k : Mode) (c : ℕ) (blanks v : List ℕ) (vs : List (List ℕ)) → base k ≡ k → is_separator k c ≡ true → IsAll Blank blanks → AreValues k (v ∷ vs) → values_in k (joined_by (c ∷ blanks) (v ∷ vs)) ≡ v ∷ vs
 values_joined k c blanks v vs is f each e = joined_from k c blanks v vs is f each e
 
-by_cons : (k : Mode) (c : ℕ) (blanks : List ℕ) (v : List ℕ) (vs ps : List (List ℕ)) → base k ≡ k → is_separator k c ≡ true → IsAll Blank blanks → AreValues k ps → ps ≡ v ∷ vs → values_in k (joined_by (c ∷ blanks) ps) ≡ ps
+by_cons : (k : Mode) (c : ℕ) (blanks : List ℕ) (v : List ℕ) (vs ps : List (List ℕ)) → base k ≡ k → is_separator k c ≡ true → IsAll Blank blanks → AreValues k ps → ps ≡ v ∷ vs →
+    values_in k (joined_by (c ∷ blanks) ps) ≡ ps
 by_cons k c blanks v vs ps is f each e same =
     let e' : AreValues k (v ∷ vs) = subst (λ (x : List (List ℕ)). AreValues k x) same e in
     rw same (values_joined k c blanks v vs is f each e')
 
 -- the values of a text, joined and trimmed, are the values of the text
-pub merged_values : (k : Mode) (c d : ℕ) (blanks : List ℕ) (texts : List (List ℕ)) → base k ≡ k → is_separator k c ≡ true → IsAll Blank blanks → values_in k (merged_text k (d ∷ []) (c ∷ blanks) texts) ≡ values_in k (joined_by (d ∷ []) texts)
+pub merged_values : (k : Mode) (c d : ℕ) (blanks : List ℕ) (texts : List (List ℕ)) → base k ≡ k → is_separator k c ≡ true → IsAll Blank blanks →
+    values_in k (merged_text k (d ∷ []) (c ∷ blanks) texts) ≡ values_in k (joined_by (d ∷ []) texts)
 merged_values k c d blanks texts is f each =
     let whole : List ℕ = joined_by (d ∷ []) texts in
     let p = parts_is_cons k whole in
     values_trim k (joined_by (c ∷ blanks) (values_in k whole)) is ∙ by_cons k c blanks (trim p.0) (map trim p.1) (values_in k whole) is f each (are_values k whole is) (rw p.2 refl)
 
 -- a merged text is not changed by merging
-pub merged_again : (k : Mode) (c d : ℕ) (blanks : List ℕ) (texts : List (List ℕ)) → base k ≡ k → is_separator k c ≡ true → IsAll Blank blanks → merged_text k (d ∷ []) (c ∷ blanks) (merged_text k (d ∷ []) (c ∷ blanks) texts ∷ []) ≡ merged_text k (d ∷ []) (c ∷ blanks) texts
+pub merged_again : (k : Mode) (c d : ℕ) (blanks : List ℕ) (texts : List (List ℕ)) → base k ≡ k → is_separator k c ≡ true → IsAll Blank blanks →
+    merged_text k (d ∷ []) (c ∷ blanks) (merged_text k (d ∷ []) (c ∷ blanks) texts ∷ []) ≡ merged_text k (d ∷ []) (c ∷ blanks) texts
 merged_again k c d blanks texts is f each =
     rw (append-nil (merged_text k (d ∷ []) (c ∷ blanks) texts), merged_values k c d blanks texts is f each) refl

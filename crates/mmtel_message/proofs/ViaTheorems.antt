@@ -1,5 +1,6 @@
 -- A Via value that is completed is read as the original Via, with the port and the address.
-use Rattle.std.proofs.Common.{◌≡◌, ◌==◌, ◌&&◌, ◌<◌, ◌-◌, ◌^◌, not, nat_lt, Bool, true, false, ℕ, List, [], ◌∷◌, ◌++◌, length, take, get_or, reverse, Option, Some, None, refl, sym, ap, subst, ◌∙◌, inl, inr, arith, append-nil, append_assoc, codes, decimal}
+use Rattle.std.proofs.Common.{◌≡◌, ◌==◌, ◌&&◌, ◌<◌, ◌-◌, ◌^◌, not, nat_lt, Bool, true, false, ℕ, List, [], ◌∷◌, ◌++◌, length, take, get_or}
+use Rattle.std.proofs.Common.{reverse, Option, Some, None, refl, sym, ap, subst, ◌∙◌, inl, inr, arith, append-nil, append_assoc, codes, decimal}
 use Rattle.std.specs.Prelude.{IfSome, is_none}
 use Rattle.std.proofs.lemmas.Bool.{cases_Bool}
 use Rattle.std.proofs.lemmas.Bool.Decides.{nat_tests}
@@ -30,7 +31,8 @@ use Rattle.mmtel_message.specs.Addresses.{ip_text}
 use Rattle.mmtel_message.specs.Fields.{after_blanks, before_rest, first_part, if_end, via_at, via_by}
 use Rattle.mmtel_message.specs.Headers.{trim}
 use Rattle.mmtel_message.specs.Values.{is_separator, mode_after, next_separator}
-use Rattle.mmtel_message.specs.Vias.{IsSource, asks_port, completed_value, completed_via, is_from, is_received, received_param, sourced_via, sourced_param, sourced_params, sourced_param_text, sourced_text, via_value, with_port}
+use Rattle.mmtel_message.specs.Vias.{IsSource, asks_port, completed_value, completed_via, is_from, is_received, received_param}
+use Rattle.mmtel_message.specs.Vias.{sourced_via, sourced_param, sourced_params, sourced_param_text, sourced_text, via_value, with_port}
 use Rattle.mmtel_message.specs.declared.fields.Via.{Via}
 use Rattle.mmtel_message.specs.declared.values.Mode.{Mode}
 use Rattle.mmtel_message.specs.declared.values.Mode.TheVariants.{Escaped, Plain, Quoted}
@@ -419,8 +421,10 @@ via_is_one s v e =
     let tail_closed : IsClosed tail = closed_both v.sent_by (params_text v.params) sent_closed (closed_params v.params by.params_in) in
     let tail_ended : IsEnded tail = ended_params v.sent_by v.params sent_ended by.params_in in
     let blanks_closed : IsClosed (is.blanks ++ tail) = closed_both is.blanks tail (closed_plain is.blanks (plain_by Blank blank_plain is.blanks is.blanks_in)) tail_closed in
-    let closed : IsClosed (codes "SIP/2.0/" ++ (v.transport ++ (is.blanks ++ tail))) = closed_both (codes "SIP/2.0/") (v.transport ++ (is.blanks ++ tail)) (closed_plain (codes "SIP/2.0/") refl) (closed_both v.transport (is.blanks ++ tail) (closed_token v.transport is.transport_in.each) blanks_closed) in
-    let ended : IsEnded (codes "SIP/2.0/" ++ (v.transport ++ (is.blanks ++ tail))) = ended_more (codes "SIP/2.0/") (v.transport ++ (is.blanks ++ tail)) (ended_more v.transport (is.blanks ++ tail) (ended_more is.blanks tail tail_ended)) in
+    let closed : IsClosed (codes "SIP/2.0/" ++ (v.transport ++ (is.blanks ++ tail))) = closed_both (codes "SIP/2.0/") (v.transport ++ (is.blanks ++ tail)) (closed_plain (codes "SIP/2.0/") refl)
+    (closed_both v.transport (is.blanks ++ tail) (closed_token v.transport is.transport_in.each) blanks_closed) in
+    let ended : IsEnded (codes "SIP/2.0/" ++ (v.transport ++ (is.blanks ++ tail))) =
+    ended_more (codes "SIP/2.0/") (v.transport ++ (is.blanks ++ tail)) (ended_more v.transport (is.blanks ++ tail) (ended_more is.blanks tail tail_ended)) in
     let whole_closed : IsClosed s = subst (λ (l : List ℕ). IsClosed l) (sym is.whole) closed in
     let whole_ended : IsEnded s = subst (λ (l : List ℕ). IsEnded l) (sym is.whole) ended in
     let starts : Stops Blank s = subst (λ (l : List ℕ). Stops Blank l) (sym is.whole) (via_starts (v.transport ++ (is.blanks ++ tail))) in
@@ -491,7 +495,8 @@ port_writes n low high = rw (number_again 65535 (decimal n) n (decimal_writes n 
 abbrev pub at_port : List ℕ → List ℕ → ℕ → List Param → Via
 at_port transport host port ps = record { transport = transport; sent_by = host ++ 58 ∷ decimal port; host = host; port = Some port; params = ps }
 
-pub written_reads : (transport host : List ℕ) (port : ℕ) (ps : List Param) → IsToken transport → IsOneOrMore Host host → length host < 256 → 0 < port → port < 2 ^ 16 → AreParams ps → via_at (via_value (at_port transport host port ps)) ≡ Some (at_port transport host port ps)
+pub written_reads : (transport host : List ℕ) (port : ℕ) (ps : List Param) → IsToken transport → IsOneOrMore Host host → length host < 256 → 0 < port → port < 2 ^ 16 → AreParams ps →
+    via_at (via_value (at_port transport host port ps)) ≡ Some (at_port transport host port ps)
 unfolding port_text
 written_reads transport host port ps token is fits low high are =
     let v : Via = at_port transport host port ps in

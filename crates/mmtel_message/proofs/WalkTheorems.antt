@@ -8,7 +8,8 @@ use Rattle.mmtel_message.specs.Message.{Line, first_value, has_line, is_line, li
 use Rattle.mmtel_message.specs.Responses.{to_line}
 
 -- what is produced from the parts of a list, one after another
-pub grows : {A B : Type 0} (f : List A → List B) → ((xs ys : List A) → f (xs ++ ys) ≡ f xs ++ f ys) → (xs : List A) (i : ℕ) (x : A) (before out new : List B) → take (i + 1) xs ≡ take i xs ++ x ∷ [] → out ≡ before ++ f (take i xs) → new ≡ out ++ f (x ∷ []) → new ≡ before ++ f (take (i + 1) xs)
+pub grows : {A B : Type 0} (f : List A → List B) → ((xs ys : List A) → f (xs ++ ys) ≡ f xs ++ f ys) → (xs : List A) (i : ℕ) (x : A) (before out new : List B) → take (i + 1) xs ≡ take i xs ++ x ∷ [] →
+    out ≡ before ++ f (take i xs) → new ≡ out ++ f (x ∷ []) → new ≡ before ++ f (take (i + 1) xs)
 grows {A} {B} f parted xs i x before out new last so_far made =
     made ∙ ap (λ (o : List B). o ++ f (x ∷ [])) so_far ∙ append_assoc before (f (take i xs)) (f (x ∷ [])) ∙ ap (λ (l : List B). before ++ l) (sym (ap f last ∙ parted (take i xs) (x ∷ [])))
 
@@ -19,7 +20,9 @@ to_lines_split : (tag name : List ℕ) (xs ys : List Line) → to_lines tag name
 to_lines_split tag name xs ys =
     ap (λ (l : List Line). map (to_line tag) l) (filter-append (λ (l : Line). is_line name l) xs ys) ∙ map-append (to_line tag) (lines_named name xs) (lines_named name ys)
 
-pub to_lines_grow : (tag name : List ℕ) (ls : List Line) (i : ℕ) (x : Line) (before out new : List Line) → take (i + 1) ls ≡ take i ls ++ x ∷ [] → out ≡ before ++ map (to_line tag) (lines_named name (take i ls)) → new ≡ out ++ map (to_line tag) (lines_named name (x ∷ [])) → new ≡ before ++ map (to_line tag) (lines_named name (take (i + 1) ls))
+pub to_lines_grow : (tag name : List ℕ) (ls : List Line) (i : ℕ) (x : Line) (before out new : List Line) → take (i + 1) ls ≡ take i ls ++ x ∷ [] →
+    out ≡ before ++ map (to_line tag) (lines_named name (take i ls)) → new ≡ out ++ map (to_line tag) (lines_named name (x ∷ [])) →
+    new ≡ before ++ map (to_line tag) (lines_named name (take (i + 1) ls))
 to_lines_grow tag name ls i x before out new last so_far made =
     grows (λ (l : List Line). to_lines tag name l) (to_lines_split tag name) ls i x before out new last so_far made
 

@@ -81,7 +81,8 @@ impl<'a> FiveLines<'a> {
     /// Adds what a further line contributes. A line whose name has another length than these is of none of the five.
     #[tactic(auto, using(crate::proofs::FiveTheorems::first_over, crate::proofs::FiveTheorems::only_over))]
     fn add(&mut self, name: &[u8], value: &'a [u8])
-        ensures via { (ls : List Line) → first_behind (codes "Via") (option_copied self.old.via) ((name.now, value.now) ∷ ls) ≡ first_behind (codes "Via") (option_copied self.new.via) ls }
+        ensures via { (ls : List Line) → first_behind (codes "Via") (option_copied self.old.via) ((name.now, value.now) ∷ ls)
+            ≡ first_behind (codes "Via") (option_copied self.new.via) ls }
         ensures from { (ls : List Line) → only_behind (codes "From") self.old.from ((name.now, value.now) ∷ ls) ≡ only_behind (codes "From") self.new.from ls }
         ensures to { (ls : List Line) → only_behind (codes "To") self.old.to ((name.now, value.now) ∷ ls) ≡ only_behind (codes "To") self.new.to ls }
         ensures call_id { (ls : List Line) → only_behind (codes "Call-ID") self.old.call_id ((name.now, value.now) ∷ ls) ≡ only_behind (codes "Call-ID") self.new.call_id ls }

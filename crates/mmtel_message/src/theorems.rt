@@ -85,7 +85,8 @@ pub fn other_names_do_not_matter()
     ensures only { (name : List ℕ) (ls ks : List (List ℕ × List ℕ)) → lines_named name ls ≡ lines_named name ks → only_value name ls ≡ only_value name ks }
     ensures values { (m : Mode) (name : List ℕ) (ls ks : List (List ℕ × List ℕ)) → lines_named name ls ≡ lines_named name ks → values_named m name ls ≡ values_named m name ks }
     ensures five { (ls ks : List (List ℕ × List ℕ)) → lines_named (codes "Via") ls ≡ lines_named (codes "Via") ks → lines_named (codes "From") ls ≡ lines_named (codes "From") ks →
-        lines_named (codes "To") ls ≡ lines_named (codes "To") ks → lines_named (codes "Call-ID") ls ≡ lines_named (codes "Call-ID") ks → lines_named (codes "CSeq") ls ≡ lines_named (codes "CSeq") ks →
+        lines_named (codes "To") ls ≡ lines_named (codes "To") ks → lines_named (codes "Call-ID") ls ≡ lines_named (codes "Call-ID") ks →
+        lines_named (codes "CSeq") ls ≡ lines_named (codes "CSeq") ks →
         five_at ls ≡ five_at ks }
 {}
 
@@ -188,8 +189,10 @@ pub fn the_first_is_one_of_them()
 /// A Via value that is completed is one Via value, which is read as the original Via with the port and the address that the request came from (RFC 3261 §18.2.1, RFC 3581 §4).
 /// Its branch and its sent-by stay, so that the response belongs to the same transaction (RFC 3261 §17.1.3).
 pub fn completed_vias_name_their_transaction()
-    ensures read { (source : Addr) (value : List ℕ) (via : Via) → IsSource source → via_at value ≡ Some via → via_at (completed_value source value) ≡ Some (completed_via source via) }
-    ensures one { (source : Addr) (value : List ℕ) (via : Via) → IsSource source → via_at value ≡ Some via → first_part (completed_value source value) ≡ completed_value source value }
+    ensures read { (source : Addr) (value : List ℕ) (via : Via) → IsSource source → via_at value ≡ Some via →
+        via_at (completed_value source value) ≡ Some (completed_via source via) }
+    ensures one { (source : Addr) (value : List ℕ) (via : Via) → IsSource source → via_at value ≡ Some via →
+        first_part (completed_value source value) ≡ completed_value source value }
     ensures branch { (source : Addr) (via : Via) → param_value (codes "branch") (completed_via source via).params ≡ param_value (codes "branch") via.params }
     ensures sent_by { (source : Addr) (via : Via) → (completed_via source via).sent_by ≡ via.sent_by }
 {}
@@ -220,6 +223,7 @@ pub fn responses_have_the_fields()
 pub fn replies_can_be_completed()
     ensures completed { (a b : Start) (code : ℕ) (phrase : List ℕ) (ls : List Line) (r : Reply) → HasNoContact r.code a → HasNoContact r.code b →
         response a (reply_with code phrase ls).lines r ≡ response b ls r }
-    ensures bare { (start : Start) (code : ℕ) (phrase : List ℕ) (ls : List Line) → HasNoContact code start → response start ls (bare_reply code phrase) ≡ reply_with code phrase ls }
+    ensures bare { (start : Start) (code : ℕ) (phrase : List ℕ) (ls : List Line) → HasNoContact code start →
+        response start ls (bare_reply code phrase) ≡ reply_with code phrase ls }
     ensures late { (code : ℕ) (start : Start) → 300 ≤ code → HasNoContact code start }
 {}

@@ -6,7 +6,8 @@ use Rattle.std.specs.Cmp.{nat_cmp_total, unsigned_tied}
 use Rattle.std.specs.FinMap.{get, get-empty, get-insert}
 use Rattle.std.specs.Ordering.{nat_cmp}
 use Rattle.mmtel_types.specs.declared.numbers.Account.{Account}
-use Rattle.mmtel_mwi.specs.Boxes.{Table, changed, counts_in, is_final, is_numbered, or_zero, renewed_subscription, subscription_after_notify, subscription_after_request, subscription_refused_by, table_after_end_if, table_after_refresh, without, without_pending}
+use Rattle.mmtel_mwi.specs.Boxes.{Table, changed, counts_in, is_final, is_numbered, or_zero, renewed_subscription, subscription_after_notify}
+use Rattle.mmtel_mwi.specs.Boxes.{subscription_after_request, subscription_refused_by, table_after_end_if, table_after_refresh, without, without_pending}
 use Rattle.mmtel_mwi.specs.Operations.{AreNumberedTo, Responds, TableOp, Ends, Receives, Puts, Refreshes, Subscribes, Notifies, last_counts, uploaded_or, table_after, live_numbers_and_accounts, number_and_account}
 use Rattle.mmtel_mwi.specs.declared.counts.Counts.{Counts}
 use Rattle.mmtel_types.specs.declared.numbers.SubNo.{SubNo}

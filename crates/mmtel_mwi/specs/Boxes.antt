@@ -169,7 +169,8 @@ pending_of sub branch true = record { branch = branch; sub = sub } ∷ []
 
 -- its response is waited for
 abbrev pub table_after_notify : SubNo → (branch : List ℕ) → Table → Table
-table_after_notify sub branch table = record table { live = changed (is_numbered sub) subscription_after_notify table.live; pending = table.pending ++ pending_of sub branch (is_live sub table) }
+table_after_notify sub branch table =
+    record table { live = changed (is_numbered sub) subscription_after_notify table.live; pending = table.pending ++ pending_of sub branch (is_live sub table) }
 
 -- ---- a subscription ends
 

@@ -4,7 +4,8 @@ use Rattle.mmtel_leg.specs.Legs.{Leg}
 use Rattle.mmtel_message.specs.Message.{Message}
 use Rattle.mmtel_message.specs.declared.messages.Start.{Start}
 use Rattle.mmtel_types.specs.declared.numbers.Account.{Account}
-use Rattle.mmtel_mwi.specs.Boxes.{Table, empty_table, table_after_end, table_after_notify, table_after_refresh, table_after_request, table_after_response, with_counts, with_subscription}
+use Rattle.mmtel_mwi.specs.Boxes.{Table, empty_table, table_after_end, table_after_notify, table_after_refresh}
+use Rattle.mmtel_mwi.specs.Boxes.{table_after_request, table_after_response, with_counts, with_subscription}
 use Rattle.mmtel_mwi.specs.Counting.{no_messages}
 use Rattle.mmtel_mwi.specs.declared.counts.Counts.{Counts}
 use Rattle.mmtel_types.specs.declared.numbers.SubNo.{SubNo}

@@ -1,8 +1,10 @@
 //! Mailboxes, and the subscriptions to them.
 ghost use Rattle.std.specs.Prelude.{◌≡◌, IfErr, IfOk, OnErr, OnOk, true, false, find, is_some};
 ghost use Rattle.std.specs.Option.{option_map};
-ghost use Rattle.mmtel_mwi.specs.Boxes.{counts_in, ended_leg, ended_leg_if, ended_leg_of, has_branch, is_full, is_live, is_numbered, number_with_dialog, pending_subscription, table_after_end, table_after_end_if, table_after_request, table_after_response};
-ghost use Rattle.mmtel_mwi.specs.Boxes.{empty_table, is_full_fault, next_sub, notify_request, peer_of, request_check, set_by, subscribers_of, subscription_refused_by, table_after_notify, table_after_refresh, with_counts, with_subscription};
+ghost use Rattle.mmtel_mwi.specs.Boxes.{counts_in, ended_leg, ended_leg_if, ended_leg_of, has_branch, is_full, is_live, is_numbered, number_with_dialog};
+ghost use Rattle.mmtel_mwi.specs.Boxes.{pending_subscription, table_after_end, table_after_end_if, table_after_request, table_after_response};
+ghost use Rattle.mmtel_mwi.specs.Boxes.{empty_table, is_full_fault, next_sub, notify_request, peer_of, request_check, set_by, subscribers_of};
+ghost use Rattle.mmtel_mwi.specs.Boxes.{subscription_refused_by, table_after_notify, table_after_refresh, with_counts, with_subscription};
 ghost use Rattle.mmtel_mwi.specs.Boxes.{with_table, without};
 
 use crate::counts::Counts;

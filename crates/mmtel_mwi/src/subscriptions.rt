@@ -3,7 +3,8 @@ ghost use Rattle.std.specs.Prelude.{◌≡◌, ◌<◌, ◌++◌, IfOk, IfSome, 
 ghost use Rattle.std.specs.Option.{option_copied};
 ghost use Rattle.mmtel_leg.specs.Dialogues.{receive_result};
 ghost use Rattle.mmtel_leg.specs.declared.dialogues.InFlight.TheVariants as in_flight;
-ghost use Rattle.mmtel_mwi.specs.Boxes.{ended_leg, has_branch, is_named, is_numbered, number_if, renewed_subscription, subscribers_in, subscription, subscription_after_notify, subscription_after_request};
+ghost use Rattle.mmtel_mwi.specs.Boxes.{ended_leg, has_branch, is_named, is_numbered, number_if, renewed_subscription};
+ghost use Rattle.mmtel_mwi.specs.Boxes.{subscribers_in, subscription, subscription_after_notify, subscription_after_request};
 ghost use Rattle.mmtel_mwi.specs.Notifies.{notify_request_in, remaining_seconds};
 
 use crate::counts::Counts;

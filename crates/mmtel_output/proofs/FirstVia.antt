@@ -8,7 +8,8 @@ use Rattle.mmtel_message.specs.declared.fields.CSeq.{CSeq}
 use Rattle.mmtel_message.specs.declared.fields.Via.{Via}
 use Rattle.mmtel_output.specs.ResponseMatching.{first_branch_in, first_via, is_awaited_cseq, is_awaited_method, is_awaited_response, via_branch}
 
-via_if : (b : Bool) (name : List ℕ) (l : Line) (ls : List Line) → is_line name l ≡ b → first_via (line_texts name ls) ≡ (first_value name ls >>= via_at) → first_via (line_texts name (l ∷ ls)) ≡ (first_value name (l ∷ ls) >>= via_at)
+via_if : (b : Bool) (name : List ℕ) (l : Line) (ls : List Line) → is_line name l ≡ b → first_via (line_texts name ls) ≡ (first_value name ls >>= via_at) →
+    first_via (line_texts name (l ∷ ls)) ≡ (first_value name (l ∷ ls) >>= via_at)
 via_if true name l ls e ih = rw e refl
 via_if false name l ls e ih = rw e ih
 

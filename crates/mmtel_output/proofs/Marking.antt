@@ -259,7 +259,8 @@ either_way false = refl
 either_way true = refl
 
 -- what was to be deleted is deleted
-pub index_after_removal : (old new : Index) (q : Key) → new.is_complete ≡ old.is_complete → new.pending_removals.items ≡ [] → ((k : Key) → contains key_cmp old.keys k ≡ true → goes old k ≡ false → contains key_cmp new.keys k ≡ true) → Holds old q → Holds new q
+pub index_after_removal : (old new : Index) (q : Key) → new.is_complete ≡ old.is_complete → new.pending_removals.items ≡ [] →
+    ((k : Key) → contains key_cmp old.keys k ≡ true → goes old k ≡ false → contains key_cmp new.keys k ≡ true) → Holds old q → Holds new q
 index_after_removal old new q whole gone others h = held_on old new whole q (λ there stays. (others q there stays, ap (list_any (is_same q)) gone)) h
 
 module _ (m : Mark) (n : ℕ) (old new : Index) where
@@ -270,7 +271,8 @@ module _ (m : Mark) (n : ℕ) (old new : Index) where
     kept = λ e q h. stay q h;
     noted = λ e x has. elim has [
       | inl f ↦ subst (λ (z : Mark). Holds new (key_of z n)) (sym f)
-          (held new (key_of m n) (holds_so new.is_complete (contains key_cmp new.keys (key_of m n)) (goes new (key_of m n)) there (ap (list_any (is_same (key_of m n))) stay_on ∙ stays_itself (key_of m n) old.pending_removals.items)))
+          (held new (key_of m n)
+          (holds_so new.is_complete (contains key_cmp new.keys (key_of m n)) (goes new (key_of m n)) there (ap (list_any (is_same (key_of m n))) stay_on ∙ stays_itself (key_of m n) old.pending_removals.items)))
       | inr f ↦ absurd f
     ];
   }
@@ -282,7 +284,8 @@ module _ (m : Mark) (n : ℕ) (old new : Index) where
       )) h
 
   -- a key is to be deleted from now on, or is deleted at once where memory runs out
-  pub goes_on : (mid : Index) → ((q : Key) → Holds old q → Holds mid q) → new.is_complete ≡ mid.is_complete → new.keys ≡ mid.keys → new.pending_removals.items ≡ mid.pending_removals.items ++ key_of m n ∷ [] → MarkUpdate false n (m ∷ []) old new
+  pub goes_on : (mid : Index) → ((q : Key) → Holds old q → Holds mid q) → new.is_complete ≡ mid.is_complete → new.keys ≡ mid.keys →
+      new.pending_removals.items ≡ mid.pending_removals.items ++ key_of m n ∷ [] → MarkUpdate false n (m ∷ []) old new
   goes_on mid before whole same more = record {
     others = λ q other h. held_on mid new whole q (λ e g. (
       ap (λ k. contains key_cmp k q) same ∙ e,
@@ -292,7 +295,9 @@ module _ (m : Mark) (n : ℕ) (old new : Index) where
     noted = λ e. absurd (let f : false ≡ true = e in cc);
   }
 
-  pub put_out : (mid : Index) → ((q : Key) → Holds old q → Holds mid q) → new.is_complete ≡ mid.is_complete → ((q : Key) → is_at (key_cmp (key_of m n)) q ≡ false → contains key_cmp new.keys q ≡ contains key_cmp mid.keys q) → new.pending_removals.items ≡ mid.pending_removals.items → MarkUpdate false n (m ∷ []) old new
+  pub put_out : (mid : Index) → ((q : Key) → Holds old q → Holds mid q) → new.is_complete ≡ mid.is_complete →
+      ((q : Key) → is_at (key_cmp (key_of m n)) q ≡ false → contains key_cmp new.keys q ≡ contains key_cmp mid.keys q) → new.pending_removals.items ≡ mid.pending_removals.items →
+      MarkUpdate false n (m ∷ []) old new
   put_out mid before whole takes same = record {
     others = λ q other h. held_on mid new whole q (λ e g. (takes q (not_at m n q other) ∙ e, ap (list_any (is_same q)) same ∙ g)) (before q h);
     kept = λ e. absurd (let f : false ≡ true = e in cc);

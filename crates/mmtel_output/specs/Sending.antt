@@ -79,7 +79,8 @@ attempt_dialog destination m restricted output = dialogue_to destination (token 
 
 abbrev pub with_attempt_invite : Addr → Destination → ParsedMessage → (restricted : Bool) → (passed : List Line) → (waiting : Bool) → StepOutput → StepOutput
 with_attempt_invite sip destination m restricted passed waiting output =
-    with_emit (emit.Ask destination.peer (invite_of (attempt_dialog destination m restricted output) sip (token (after_draw (after_draw output))) passed waiting m)) (after_draw (after_draw (after_draw output)))
+    with_emit (emit.Ask destination.peer (invite_of (attempt_dialog destination m restricted output) sip (token (after_draw (after_draw output))) passed waiting m))
+    (after_draw (after_draw (after_draw output)))
 
 -- ---- what copies fields of an INVITE
 

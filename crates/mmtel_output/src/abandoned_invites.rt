@@ -3,7 +3,8 @@ ghost use Rattle.std.specs.Prelude.{◌≡◌, ◌<◌, IfOk, OnErr, OnOk, Some,
 ghost use Rattle.std.specs.Option.{option_copied, option_or};
 ghost use Rattle.mmtel_compose.specs.Attempts.{as_callee};
 ghost use Rattle.mmtel_compose.specs.ReceivedMessages.{status_of};
-ghost use Rattle.mmtel_output.specs.AbandonedInvites.{after_ack_and_bye, after_due_cancel, after_provisional, dialogue_before, dialogue_of_success, fork_at, is_dialog_of_tag, is_of_branch, on_response, on_success};
+ghost use Rattle.mmtel_output.specs.AbandonedInvites.{after_ack_and_bye, after_due_cancel, after_provisional, dialogue_before};
+ghost use Rattle.mmtel_output.specs.AbandonedInvites.{dialogue_of_success, fork_at, is_dialog_of_tag, is_of_branch, on_response, on_success};
 ghost use Rattle.mmtel_output.specs.Sending.{with_ack, with_bye};
 ghost use Rattle.mmtel_leg.specs.Dialogues.{after_request};
 ghost use Rattle.mmtel_leg.specs.Remotes.{remote_of};

@@ -1,7 +1,8 @@
 //! Which request a response answers, among those whose response is waited for.
 ghost use Rattle.std.specs.Prelude.{◌≡◌, IfOk};
 ghost use Rattle.std.specs.Option.{option_copied};
-ghost use Rattle.mmtel_output.specs.ResponseMatching.{awaited_request_branch, behind, behind_cookie, branch_in, first_branch_in, is_awaited_method, is_awaited_response, timed_out_branch};
+ghost use Rattle.mmtel_output.specs.ResponseMatching.{awaited_request_branch, behind, behind_cookie, branch_in, first_branch_in};
+ghost use Rattle.mmtel_output.specs.ResponseMatching.{is_awaited_method, is_awaited_response, timed_out_branch};
 
 use mmtel_base::{NoMemory, Text, skip_text};
 use mmtel_compose::ReceivedMessage;

@@ -3,7 +3,8 @@ ghost use Rattle.std.specs.Prelude.{◌≡◌, IfOk, OnErr, OnOk, codes};
 ghost use Rattle.mmtel_leg.specs.Dialogues.{after_request};
 ghost use Rattle.mmtel_leg.specs.Legs.{with_dialogue};
 ghost use Rattle.mmtel_output.specs.Outputs.{token};
-ghost use Rattle.mmtel_output.specs.Sending.{ack_text, relayed_ack_text, with_ack, with_bare_request, with_bye, with_contact_response, with_own_request, with_relayed_ack, with_relayed_request, with_relayed_response, with_response, with_status_response};
+ghost use Rattle.mmtel_output.specs.Sending.{ack_text, relayed_ack_text, with_ack, with_bare_request, with_bye, with_contact_response, with_own_request};
+ghost use Rattle.mmtel_output.specs.Sending.{with_relayed_ack, with_relayed_request, with_relayed_response, with_response, with_status_response};
 
 use crate::outputs::StepOutput;
 use mmtel_base::{List, NoMemory, Text};

@@ -1,6 +1,7 @@
 //! INVITEs that the server sent.
 ghost use Rattle.std.specs.Prelude.{◌≡◌, ◌<◌, ℕ, Some, length, position};
-ghost use Rattle.mmtel_output.specs.SentInvites.{after_early_request, early_remote, invite_after_cancel, is_abandoned_key, is_cancellable, is_key, sent_invite, with_early, without};
+ghost use Rattle.mmtel_output.specs.SentInvites.{after_early_request, early_remote, invite_after_cancel, is_abandoned_key};
+ghost use Rattle.mmtel_output.specs.SentInvites.{is_cancellable, is_key, sent_invite, with_early, without};
 
 use mmtel_base::{List, Text};
 use mmtel_leg::{Dialogue, Remote};

@@ -35,7 +35,8 @@ ringing_limit = 180000
 -- the dialog of the INVITE to this URI, with a new Call-ID and tag: its local side is the conference, and it names no participant
 abbrev pub invitation_dialog : ConferenceConfigView → RoomNo → Peer → (uri : List ℕ) → StepOutput → Dialogue
 invitation_dialog config room peer uri output =
-    dialogue_to (record { peer = peer; uri = uri; to = uri_in_brackets uri; routes = [] }) (token output) (token (after_draw output)) (conference_from config.sip room (token (after_draw output)))
+    dialogue_to (record { peer = peer; uri = uri; to = uri_in_brackets uri; routes = [] }) (token output) (token (after_draw output))
+    (conference_from config.sip room (token (after_draw output)))
 
 -- the INVITE in this dialog, and the timer of its ringing
 abbrev pub with_invite_sent : ConferenceConfigView → (now : ℕ) → RoomNo → (seat number : ℕ) → Dialogue → StepOutput → StepOutput

@@ -1,6 +1,7 @@
 //! The server's INVITE to a participant: what is recorded of it, and its timers.
 ghost use Rattle.std.specs.Prelude.{◌≡◌, OnOk, Some};
-ghost use Rattle.mmtel_participants.specs.Invites.{accepted_invite, connected_participant, connected_party, has_outstanding_number, invite_after_due_cancel, invite_with_provisional, is_ack_pending, is_invite_outstanding, with_failure_ack, with_invite_cancel};
+ghost use Rattle.mmtel_participants.specs.Invites.{accepted_invite, connected_participant, connected_party, has_outstanding_number, invite_after_due_cancel};
+ghost use Rattle.mmtel_participants.specs.Invites.{invite_with_provisional, is_ack_pending, is_invite_outstanding, with_failure_ack, with_invite_cancel};
 
 use crate::meters::{leg_with_meter, meter_of};
 use crate::participants::{Invite, ParticipantState, Party};

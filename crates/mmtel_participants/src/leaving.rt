@@ -3,7 +3,8 @@ ghost use Rattle.std.specs.Prelude.{◌≡◌, ◌++◌, IfOk, OnOk, codes, true
 ghost use Rattle.mmtel_output.specs.Sending.{with_bye};
 ghost use Rattle.mmtel_leg.specs.Dialogues.{after_request};
 ghost use Rattle.mmtel_leg.specs.Legs.{with_dialogue};
-ghost use Rattle.mmtel_participants.specs.Participants.{abandoned_of_invite, abandoned_of_party, effects_of_dismissal, effects_of_leave, ended_dialogs, ended_leg, is_party_connected, leg_of, with_leg, with_row_of_meter};
+ghost use Rattle.mmtel_participants.specs.Participants.{abandoned_of_invite, abandoned_of_party, effects_of_dismissal, effects_of_leave};
+ghost use Rattle.mmtel_participants.specs.Participants.{ended_dialogs, ended_leg, is_party_connected, leg_of, with_leg, with_row_of_meter};
 
 use crate::conference_config::StepContext;
 use crate::effects::Effects;

@@ -32,7 +32,8 @@ first_said-append (Nothing ∷ says) later = first_said-append says later
 first_said-append (Refuses cause ∷ says) later = refl
 first_said-append (Diverts due ∷ says) later = refl
 
-pub first_said-account : (c : FactsView) (served : Option ServedAccountView) (later : List ServiceDecision) → first_decision (account_decisions c served ++ later) ≡ decision_or (first_decision (services_on_arrival c (unwrap_or served nobody))) (first_decision later)
+pub first_said-account : (c : FactsView) (served : Option ServedAccountView) (later : List ServiceDecision) →
+    first_decision (account_decisions c served ++ later) ≡ decision_or (first_decision (services_on_arrival c (unwrap_or served nobody))) (first_decision later)
 first_said-account c None later = refl
 first_said-account c (Some account) later = first_said-append (services_on_arrival c account) later
 
@@ -44,10 +45,12 @@ pub due_at-account : (c : FactsView) (when : When) (served : Option ServedAccoun
 due_at-account c when None = refl
 due_at-account c when (Some account) = refl
 
-pub deflection_at-account : (served : Option ServedAccountView) (target : Uri) (rang : Bool) → deflection_at served target rang ≡ option_map (deflection_to target (own_bound (unwrap_or served nobody).sheet)) (deflection_of (unwrap_or served nobody).sheet rang)
+pub deflection_at-account : (served : Option ServedAccountView) (target : Uri) (rang : Bool) →
+    deflection_at served target rang ≡ option_map (deflection_to target (own_bound (unwrap_or served nobody).sheet)) (deflection_of (unwrap_or served nobody).sheet rang)
 deflection_at-account None target rang = refl
 deflection_at-account (Some account) target rang = refl
 
-pub is_refused-account : (call : CallInputs) (served : Option ServedAccountView) (now : ℕ) (due : DueDiversionView) → is_refused call served now due ≡ bars_outgoing (target_facts call now (new_target call.home due.forward.target)) (unwrap_or served nobody).sheet
+pub is_refused-account : (call : CallInputs) (served : Option ServedAccountView) (now : ℕ) (due : DueDiversionView) →
+    is_refused call served now due ≡ bars_outgoing (target_facts call now (new_target call.home due.forward.target)) (unwrap_or served nobody).sheet
 is_refused-account call None now due = refl
 is_refused-account call (Some account) now due = refl

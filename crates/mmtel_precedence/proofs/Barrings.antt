@@ -25,7 +25,8 @@ is_some-outgoing_bar : IsBarredTheorem → (c : FactsView) (part : Option BarPar
 is_some-outgoing_bar law c None = refl
 is_some-outgoing_bar law c (Some part) = is_some-option_map _ (barred_by c part.rules) ∙ law c part.rules
 
-said_by-rule : (found : Option ℕ) (later : List ServiceDecision) → refusal_or (option_map (λ place. refusals.Barred place) found) (first_decision later) ≡ first_decision (refuses_if (is_some found) causes.IncomingBarred ∷ later)
+said_by-rule : (found : Option ℕ) (later : List ServiceDecision) →
+    refusal_or (option_map (λ place. refusals.Barred place) found) (first_decision later) ≡ first_decision (refuses_if (is_some found) causes.IncomingBarred ∷ later)
 said_by-rule None later = refl
 said_by-rule (Some place) later = refl
 

@@ -10,12 +10,15 @@ use Rattle.mmtel_types.specs.declared.causes.Cause.TheVariants as causes
 use Rattle.mmtel_lex.specs.declared.values.Uri.{Uri}
 use Rattle.mmtel_rules.specs.Facts.{FactsView}
 use Rattle.mmtel_precedence.specs.Services.{ServedAccountView, DueDiversionView, bound_of, is_reached, ServiceDecision, Nothing, Refuses, Diverts, refuses_if, diverts_by, first_decision, services_on_arrival}
-use Rattle.mmtel_precedence.specs.Calls.{refused_outcome, AttemptEndView, Answer, Cancel, Unacknowledged, UserBusy, NotReachable, NoReply, Deflection, Other, EndedAttempt, ReachedTargetView, CallInputs, OutcomeTarget, CallResult, Final, Outcome, outcome_at_last_target}
+use Rattle.mmtel_precedence.specs.Calls.{refused_outcome, AttemptEndView, Answer, Cancel, Unacknowledged, UserBusy, NotReachable, NoReply, Deflection, Other}
+use Rattle.mmtel_precedence.specs.Calls.{EndedAttempt, ReachedTargetView, CallInputs, OutcomeTarget, CallResult, Final, Outcome, outcome_at_last_target}
 use Rattle.mmtel_precedence.specs.Opening.{refusal_at_opening}
 use Rattle.mmtel_served_user.specs.Targets.{new_target}
-use Rattle.mmtel_precedence.specs.Targets.{TargetOutcome, Rests, IsDue, reached_target_after, caller_facts, decision_on_arrival, is_refused, outcome_of_diversion_or, target_outcome_on, target_outcome_at, target_outcome_after, target_at}
+use Rattle.mmtel_precedence.specs.Targets.{TargetOutcome, Rests, IsDue, reached_target_after, caller_facts, decision_on_arrival, is_refused}
+use Rattle.mmtel_precedence.specs.Targets.{outcome_of_diversion_or, target_outcome_on, target_outcome_at, target_outcome_after, target_at}
 use Rattle.mmtel_precedence.specs.Outcome.{outcome_from, outcome}
-use Rattle.mmtel_precedence.specs.Theorems.{is_diverted_to, diversions_made, StaysWithinBound, UnbarredDiversion, unbarred_diversion_by, unbarred_diversion_from, unbarred_diversion_after, IsOpened, IsBelowBound, IsBoundExact}
+use Rattle.mmtel_precedence.specs.Theorems.{is_diverted_to, diversions_made, StaysWithinBound, UnbarredDiversion, unbarred_diversion_by}
+use Rattle.mmtel_precedence.specs.Theorems.{unbarred_diversion_from, unbarred_diversion_after, IsOpened, IsBelowBound, IsBoundExact}
 use Rattle.mmtel_precedence.proofs.Accounts.{account_decisions}
 use Rattle.mmtel_precedence.proofs.TargetOutcomes.{from_next, refused_for, unless_reached, unless_reached-cases, after_due, go_further}
 
@@ -43,7 +46,8 @@ made-from_next target onward (IsDue due later) = refl
 
 -- ---- no more diversions than remain
 
-most-passed : (by : Option DueDiversionView) (passed : Option UnbarredDiversion) (made : UnbarredDiversion → ℕ) (most : ℕ) → ((p : UnbarredDiversion) → made p ≤ most) → one_for by ≤ most → option_map_or made passed (one_for by) ≤ most
+most-passed : (by : Option DueDiversionView) (passed : Option UnbarredDiversion) (made : UnbarredDiversion → ℕ) (most : ℕ) → ((p : UnbarredDiversion) → made p ≤ most) → one_for by ≤ most →
+    option_map_or made passed (one_for by) ≤ most
 most-passed by None made most each least = least
 most-passed by (Some passed) made most each least = each passed
 
@@ -53,7 +57,8 @@ made-from call zero k uri by endings =
     let onward : DueDiversionView → List EndedAttempt → Outcome = λ due later. refused_for (target_at call k uri by) due in
     let e = made-from_next (target_at call k uri by) onward (target_outcome_after call k uri by endings) in
     let h : (p : UnbarredDiversion) → diversions_made (onward p.due p.remaining) ≤ one_for by = λ p. (let f = made-last (target_at call k uri by) (Final (causes.TooManyDiversions (p.due.cause == 486))) in omega arith) in
-    let g : option_map_or (λ (p : UnbarredDiversion). diversions_made (onward p.due p.remaining)) (unbarred_diversion_by (target_outcome_after call k uri by endings)) (one_for by) ≤ one_for by = most-passed by (unbarred_diversion_by (target_outcome_after call k uri by endings)) (λ p. diversions_made (onward p.due p.remaining)) (one_for by) h (omega arith) in
+    let g : option_map_or (λ (p : UnbarredDiversion). diversions_made (onward p.due p.remaining)) (unbarred_diversion_by (target_outcome_after call k uri by endings)) (one_for by) ≤ one_for by =
+    most-passed by (unbarred_diversion_by (target_outcome_after call k uri by endings)) (λ p. diversions_made (onward p.due p.remaining)) (one_for by) h (omega arith) in
     omega arith
 made-from call (suc left) k uri by endings =
     let onward : DueDiversionView → List EndedAttempt → Outcome = λ due later. go_further call left k (target_at call k uri by) due later in
@@ -64,10 +69,12 @@ made-from call (suc left) k uri by endings =
     (let f = made-target (target_at call k uri by) (after_due call left k p.due p.remaining).targets in
     let i = made-from call left (k + 1) (new_target call.home p.due.forward.target) (Some p.due) p.remaining in
     omega arith) in
-    let g : option_map_or (λ (p : UnbarredDiversion). diversions_made (onward p.due p.remaining)) (unbarred_diversion_by (target_outcome_after call k uri by endings)) (one_for by) ≤ suc left + one_for by = most-passed by (unbarred_diversion_by (target_outcome_after call k uri by endings)) (λ p. diversions_made (onward p.due p.remaining)) (suc left + one_for by) h (omega arith) in
+    let g : option_map_or (λ (p : UnbarredDiversion). diversions_made (onward p.due p.remaining)) (unbarred_diversion_by (target_outcome_after call k uri by endings)) (one_for by) ≤ suc left + one_for by =
+    most-passed by (unbarred_diversion_by (target_outcome_after call k uri by endings)) (λ p. diversions_made (onward p.due p.remaining)) (suc left + one_for by) h (omega arith) in
     omega arith
 
-within-opened : (refusal : Option Cause) (call : CallInputs) (endings : List EndedAttempt) → call.received + diversions_made (option_map_or refused_outcome refusal (outcome_from call (call.bound - call.received) 0 call.first_target None endings)) ≤ max call.bound call.received
+within-opened : (refusal : Option Cause) (call : CallInputs) (endings : List EndedAttempt) →
+    call.received + diversions_made (option_map_or refused_outcome refusal (outcome_from call (call.bound - call.received) 0 call.first_target None endings)) ≤ max call.bound call.received
 within-opened None call endings = let h = made-from call (call.bound - call.received) 0 call.first_target None endings in omega arith
 within-opened (Some cause) call endings = omega arith
 
@@ -118,7 +125,8 @@ plain-account c None later h = h
 plain-account c (Some account) later h = plain-services c account later h
 
 plain-arrival : (call : CallInputs) (k : ℕ) (reach : ReachedTargetView) → IsPlain (decision_on_arrival call k reach)
-plain-arrival call k reach = plain-first_said _ (plain-account (caller_facts call k reach.at) reach.served _ (plain-refuses_if reach.is_unknown causes.NoAccount (λ busy e. cc), (plain-refuses_if (is_none reach.peer) causes.NoRoute (λ busy e. cc), tt)))
+plain-arrival call k reach = plain-first_said _
+    (plain-account (caller_facts call k reach.at) reach.served _ (plain-refuses_if reach.is_unknown causes.NoAccount (λ busy e. cc), (plain-refuses_if (is_none reach.peer) causes.NoRoute (λ busy e. cc), tt)))
 
 abbrev IsPlainNext : TargetOutcome → Type 0
 IsPlainNext (Rests result) = (busy : Bool) → result ≡ Final (causes.TooManyDiversions busy) → ⊥
@@ -128,7 +136,8 @@ plain-diverted : (barred : Bool) (due : DueDiversionView) (later : List EndedAtt
 plain-diverted true due later = λ busy e. cc
 plain-diverted false due later = tt
 
-plain-diverted_or : (call : CallInputs) (served : Option ServedAccountView) (now : ℕ) (due : Option DueDiversionView) (cause : Cause) (later : List EndedAttempt) → ((busy : Bool) → cause ≡ causes.TooManyDiversions busy → ⊥) → IsPlainNext (outcome_of_diversion_or call served now due cause later)
+plain-diverted_or : (call : CallInputs) (served : Option ServedAccountView) (now : ℕ) (due : Option DueDiversionView) (cause : Cause) (later : List EndedAttempt) →
+    ((busy : Bool) → cause ≡ causes.TooManyDiversions busy → ⊥) → IsPlainNext (outcome_of_diversion_or call served now due cause later)
 plain-diverted_or call served now None cause later h = λ busy e. h busy (cc)
 plain-diverted_or call served now (Some due) cause later h = plain-diverted (is_refused call served now due) due later
 
@@ -149,7 +158,8 @@ plain-at (Refuses cause) call k reach endings h = λ busy e. h busy (cc)
 plain-at (Diverts due) call k reach endings h = plain-diverted (is_refused call reach.served reach.at due) due endings
 
 plain-after : (call : CallInputs) (k : ℕ) (uri : Uri) (by : Option DueDiversionView) (endings : List EndedAttempt) → IsPlainNext (target_outcome_after call k uri by endings)
-plain-after call k uri by endings = plain-at (decision_on_arrival call k (reached_target_after call k uri by)) call k (reached_target_after call k uri by) endings (plain-arrival call k (reached_target_after call k uri by))
+plain-after call k uri by endings =
+    plain-at (decision_on_arrival call k (reached_target_after call k uri by)) call k (reached_target_after call k uri by) endings (plain-arrival call k (reached_target_after call k uri by))
 
 -- ---- what is to be shown of the outcome from a target on that is reached after k diversions
 
@@ -174,7 +184,8 @@ record IsExact (call : CallInputs) (k : ℕ) (uri : Uri) (by : Option DueDiversi
 
 -- ---- nothing is due
 
-none-made : (call : CallInputs) (k : ℕ) (uri : Uri) (by : Option DueDiversionView) (endings : List EndedAttempt) (made : ℕ) → made ≡ one_for by → unbarred_diversion_by (target_outcome_after call k uri by endings) ≡ None → MadeExactly call k uri by endings made
+none-made : (call : CallInputs) (k : ℕ) (uri : Uri) (by : Option DueDiversionView) (endings : List EndedAttempt) (made : ℕ) → made ≡ one_for by →
+    unbarred_diversion_by (target_outcome_after call k uri by endings) ≡ None → MadeExactly call k uri by endings made
 unfolding unbarred_diversion_from
 none-made call k uri by endings made e f zero least = (λ h. absurd (omega arith), λ (p, g, i). absurd (let none = sym f ∙ g in cc))
 none-made call k uri by endings made e f (suc j) least = absurd (omega arith)
@@ -209,7 +220,8 @@ stopped-refused : (call : CallInputs) (k : ℕ) (uri : Uri) (by : Option DueDive
 unfolding unbarred_diversion_from
 stopped-refused call k uri by endings made p e above f zero busy same = (
   λ h. (p, f, (λ below. above (below-here call k (k + 0) p p refl (omega arith) below)), (cc)),
-  λ (q, g, i, b). (let same = same-passed p q (unbarred_diversion_by (target_outcome_after call k uri by endings)) f g in ap (λ (busy : Bool). Final (causes.TooManyDiversions busy)) (ap (λ (x : UnbarredDiversion). x.due.cause == 486) (sym same) ∙ sym b)),
+  λ (q, g, i, b). (let same = same-passed p q (unbarred_diversion_by (target_outcome_after call k uri by endings)) f g in
+      ap (λ (busy : Bool). Final (causes.TooManyDiversions busy)) (ap (λ (x : UnbarredDiversion). x.due.cause == 486) (sym same) ∙ sym b)),
 )
 stopped-refused call k uri by endings made p e above f (suc j) busy same = absurd (omega arith)
 
@@ -219,12 +231,14 @@ stopped-refused call k uri by endings made p e above f (suc j) busy same = absur
 abbrev later_passed : CallInputs → (j : ℕ) → (k : ℕ) → UnbarredDiversion → Option UnbarredDiversion
 later_passed call j k passed = unbarred_diversion_from call j (k + 1) (new_target call.home passed.due.forward.target) (Some passed.due) passed.remaining
 
-passed-later : (call : CallInputs) (j k : ℕ) (uri : Uri) (by : Option DueDiversionView) (endings : List EndedAttempt) (p : UnbarredDiversion) → unbarred_diversion_by (target_outcome_after call k uri by endings) ≡ Some p → unbarred_diversion_from call (suc j) k uri by endings ≡ later_passed call j k p
+passed-later : (call : CallInputs) (j k : ℕ) (uri : Uri) (by : Option DueDiversionView) (endings : List EndedAttempt) (p : UnbarredDiversion) →
+    unbarred_diversion_by (target_outcome_after call k uri by endings) ≡ Some p → unbarred_diversion_from call (suc j) k uri by endings ≡ later_passed call j k p
 unfolding unbarred_diversion_from
 passed-later call j k uri by endings p f = ap (λ (o : Option UnbarredDiversion). option_and_then (later_passed call j k) o) f
 
 passing-made : (call : CallInputs) (k : ℕ) (uri : Uri) (by : Option DueDiversionView) (endings : List EndedAttempt) (made more : ℕ) (p : UnbarredDiversion) → made ≡ one_for by + more → 1 ≤ more →
-    IsBelowBound call k p → unbarred_diversion_by (target_outcome_after call k uri by endings) ≡ Some p → MadeExactly call (k + 1) (new_target call.home p.due.forward.target) (Some p.due) p.remaining more → MadeExactly call k uri by endings made
+    IsBelowBound call k p → unbarred_diversion_by (target_outcome_after call k uri by endings) ≡ Some p →
+    MadeExactly call (k + 1) (new_target call.home p.due.forward.target) (Some p.due) p.remaining more → MadeExactly call k uri by endings made
 unfolding unbarred_diversion_from
 passing-made call k uri by endings made more p e one below f exactly zero least = (λ h. (p, f, below-here call (k + 0) k p p refl (omega arith) below), λ h. omega arith)
 passing-made call k uri by endings made more p e one below f exactly (suc j) least =
@@ -235,7 +249,8 @@ passing-made call k uri by endings made more p e one below f exactly (suc j) lea
     )
 
 passing-refused : (call : CallInputs) (k : ℕ) (uri : Uri) (by : Option DueDiversionView) (endings : List EndedAttempt) (made more : ℕ) (p : UnbarredDiversion) (result : CallResult) → made ≡ one_for by + more → 1 ≤ more →
-    unbarred_diversion_by (target_outcome_after call k uri by endings) ≡ Some p → RefusedExactly call (k + 1) (new_target call.home p.due.forward.target) (Some p.due) p.remaining more result → RefusedExactly call k uri by endings made result
+    unbarred_diversion_by (target_outcome_after call k uri by endings) ≡ Some p → RefusedExactly call (k + 1) (new_target call.home p.due.forward.target) (Some p.due) p.remaining more result →
+    RefusedExactly call k uri by endings made result
 unfolding unbarred_diversion_from
 passing-refused call k uri by endings made more p result e one f exactly zero busy same = absurd (omega arith)
 passing-refused call k uri by endings made more p result e one f exactly (suc j) busy same =
@@ -310,10 +325,12 @@ stops-below : (call : CallInputs) (left k : ℕ) → suc left ≡ call.bound - (
 stops-below call left k e p true same = reached-above call.bound (call.received + k) p.due.bound same
 stops-below call left k e p false same = not_reached-below call.bound (call.received + k) p.due.bound (omega arith) same
 
-exact-from : (call : CallInputs) (left k : ℕ) (uri : Uri) (by : Option DueDiversionView) (endings : List EndedAttempt) → left ≡ call.bound - (call.received + k) → IsExact call k uri by endings (outcome_from call left k uri by endings)
+exact-from : (call : CallInputs) (left k : ℕ) (uri : Uri) (by : Option DueDiversionView) (endings : List EndedAttempt) → left ≡ call.bound - (call.received + k) →
+    IsExact call k uri by endings (outcome_from call left k uri by endings)
 unfolding outcome_from
 exact-from call zero k uri by endings e =
-    exact-next call k uri by endings (λ due. true) (λ due later. refused_for (target_at call k uri by) due) (stops-at call k e) (λ due later same. absurd cc) (target_outcome_after call k uri by endings) refl (plain-after call k uri by endings)
+    exact-next call k uri by endings (λ due. true) (λ due later. refused_for (target_at call k uri by) due) (stops-at call k e) (λ due later same. absurd cc)
+    (target_outcome_after call k uri by endings) refl (plain-after call k uri by endings)
 exact-from call (suc left) k uri by endings e =
     exact-next call k uri by endings (λ due. is_reached due.bound (call.received + k)) (λ due later. after_due call left k due later) (stops-below call left k e)
     (λ due later same. exact-from call left (k + 1) (new_target call.home due.forward.target) (Some due) later (omega arith)) (target_outcome_after call k uri by endings) refl (plain-after call k uri by endings)
@@ -328,7 +345,8 @@ exact-opened call endings opened =
 at-first : (call : CallInputs) (k : ℕ) (p : UnbarredDiversion) → IsBelowBound call (0 + k) p ↔ IsBelowBound call k p
 at-first call k p = (below-here call k (0 + k) p p refl (omega arith), below-here call (0 + k) k p p refl (omega arith))
 
-made-opened : (call : CallInputs) (endings : List EndedAttempt) (k made : ℕ) → MadeExactly call 0 call.first_target None endings made → k ≤ made → (k < made) ↔ ((passed : UnbarredDiversion) × (unbarred_diversion_after call k endings ≡ Some passed) × IsBelowBound call k passed)
+made-opened : (call : CallInputs) (endings : List EndedAttempt) (k made : ℕ) → MadeExactly call 0 call.first_target None endings made → k ≤ made →
+    (k < made) ↔ ((passed : UnbarredDiversion) × (unbarred_diversion_after call k endings ≡ Some passed) × IsBelowBound call k passed)
 made-opened call endings k made exactly least =
     let here = exactly k (omega arith) in (
       λ h. (let r = here.0 (omega arith) in (r.0, r.1, (at-first call k r.0).0 r.2)),
@@ -336,7 +354,8 @@ made-opened call endings k made exactly least =
     )
 
 refused-opened : (call : CallInputs) (endings : List EndedAttempt) (busy : Bool) (made : ℕ) (result : CallResult) → RefusedExactly call 0 call.first_target None endings made result →
-    (result ≡ Final (causes.TooManyDiversions busy)) ↔ ((passed : UnbarredDiversion) × (unbarred_diversion_after call made endings ≡ Some passed) × (IsBelowBound call made passed → ⊥) × (busy ≡ (passed.due.cause == 486)))
+    (result ≡ Final (causes.TooManyDiversions busy))
+    ↔ ((passed : UnbarredDiversion) × (unbarred_diversion_after call made endings ≡ Some passed) × (IsBelowBound call made passed → ⊥) × (busy ≡ (passed.due.cause == 486)))
 refused-opened call endings busy made result exactly =
     let here = exactly made busy (omega arith) in (
       λ h. (let r = here.0 h in (r.0, r.1, (λ below. r.2 ((at-first call made r.0).1 below)), r.3)),

@@ -26,7 +26,8 @@ use Rattle.mmtel_precedence.proofs.TargetOutcomes.{from_next, refused_for, unles
 abbrev AreLed : CallInputs → Outcome → Type 0
 AreLed call outcome = AllByRecursion (λ (target : OutcomeTarget). target.uri ≡ target_of_diversion call target.diversion) outcome.targets
 
-led-next : (call : CallInputs) (target : OutcomeTarget) (onward : DueDiversionView → List EndedAttempt → Outcome) → target.uri ≡ target_of_diversion call target.diversion → ((due : DueDiversionView) (later : List EndedAttempt) → AreLed call (onward due later)) → (next : TargetOutcome) → AreLed call (from_next target onward next)
+led-next : (call : CallInputs) (target : OutcomeTarget) (onward : DueDiversionView → List EndedAttempt → Outcome) → target.uri ≡ target_of_diversion call target.diversion →
+    ((due : DueDiversionView) (later : List EndedAttempt) → AreLed call (onward due later)) → (next : TargetOutcome) → AreLed call (from_next target onward next)
 led-next call target onward here after (Rests result) = (here, tt)
 led-next call target onward here after (IsDue due later) = after due later
 
@@ -39,7 +40,8 @@ led-from call (suc left) k uri by endings here =
     (λ due later. unless_reached-cases (AreLed call) (is_reached due.bound (call.received + k)) (target_at call k uri by) due (after_due call left k due later) (here, tt)
     (here, led-from call left (k + 1) (new_target call.home due.forward.target) (Some due) later refl)) (target_outcome_after call k uri by endings)
 
-led-opened : (call : CallInputs) (endings : List EndedAttempt) (refusal : Option Cause) → AreLed call (option_map_or refused_outcome refusal (outcome_from call (call.bound - call.received) 0 call.first_target None endings))
+led-opened : (call : CallInputs) (endings : List EndedAttempt) (refusal : Option Cause) →
+    AreLed call (option_map_or refused_outcome refusal (outcome_from call (call.bound - call.received) 0 call.first_target None endings))
 led-opened call endings None = led-from call (call.bound - call.received) 0 call.first_target None endings refl
 led-opened call endings (Some cause) = tt
 
@@ -48,7 +50,8 @@ led-opened call endings (Some cause) = tt
 abbrev AreDiverted : List OutcomeTarget → Type 0
 AreDiverted targets = AllByRecursion (λ (target : OutcomeTarget). IsSome target.diversion) targets
 
-diverted-next : (target : OutcomeTarget) (onward : DueDiversionView → List EndedAttempt → Outcome) → IsSome target.diversion → ((due : DueDiversionView) (later : List EndedAttempt) → AreDiverted (onward due later).targets) → (next : TargetOutcome) → AreDiverted (from_next target onward next).targets
+diverted-next : (target : OutcomeTarget) (onward : DueDiversionView → List EndedAttempt → Outcome) → IsSome target.diversion →
+    ((due : DueDiversionView) (later : List EndedAttempt) → AreDiverted (onward due later).targets) → (next : TargetOutcome) → AreDiverted (from_next target onward next).targets
 diverted-next target onward here after (Rests result) = (here, tt)
 diverted-next target onward here after (IsDue due later) = after due later
 
@@ -61,7 +64,9 @@ diverted-from call (suc left) k uri by endings =
     (λ due later. unless_reached-cases (λ outcome. AreDiverted outcome.targets) (is_reached due.bound (call.received + k)) (target_at call k uri (Some by)) due (after_due call left k due later) (refl, tt)
     (refl, diverted-from call left (k + 1) (new_target call.home due.forward.target) due later)) (target_outcome_after call k uri (Some by) endings)
 
-later-next : (target : OutcomeTarget) (onward : DueDiversionView → List EndedAttempt → Outcome) → ((due : DueDiversionView) (later : List EndedAttempt) → AreDiverted (targets_after_first (onward due later).targets)) → (next : TargetOutcome) → AreDiverted (targets_after_first (from_next target onward next).targets)
+later-next : (target : OutcomeTarget) (onward : DueDiversionView → List EndedAttempt → Outcome) →
+    ((due : DueDiversionView) (later : List EndedAttempt) → AreDiverted (targets_after_first (onward due later).targets)) → (next : TargetOutcome) →
+    AreDiverted (targets_after_first (from_next target onward next).targets)
 later-next target onward after (Rests result) = tt
 later-next target onward after (IsDue due later) = after due later
 
@@ -73,7 +78,8 @@ later-from call (suc left) k uri by endings =
     (λ due later. unless_reached-cases (λ outcome. AreDiverted (targets_after_first outcome.targets)) (is_reached due.bound (call.received + k)) (target_at call k uri by) due (after_due call left k due later) tt
     (diverted-from call left (k + 1) (new_target call.home due.forward.target) due later)) (target_outcome_after call k uri by endings)
 
-later-opened : (call : CallInputs) (endings : List EndedAttempt) (refusal : Option Cause) → AreDiverted (targets_after_first (option_map_or refused_outcome refusal (outcome_from call (call.bound - call.received) 0 call.first_target None endings)).targets)
+later-opened : (call : CallInputs) (endings : List EndedAttempt) (refusal : Option Cause) →
+    AreDiverted (targets_after_first (option_map_or refused_outcome refusal (outcome_from call (call.bound - call.received) 0 call.first_target None endings)).targets)
 later-opened call endings None = later-from call (call.bound - call.received) 0 call.first_target None endings
 later-opened call endings (Some cause) = tt
 

@@ -10,18 +10,21 @@ use Rattle.mmtel_precedence.specs.Verdicts.{Decision, Offers, Forwards, Ends, ve
 use Rattle.mmtel_precedence.specs.Calls.{AttemptEndView, Answer, Cancel, Unacknowledged, UserBusy, NotReachable, NoReply, Deflection, Other, EndedAttempt, ReachedTargetView, CallInputs, NotOffered, OutcomeTarget}
 use Rattle.mmtel_precedence.specs.Targets.{caller_facts, reached_target_after}
 use Rattle.mmtel_precedence.specs.Outcome.{outcome}
-use Rattle.mmtel_precedence.specs.Moves.{CallState, TargetPhase, Reaching, Ringing, Over, moves, account_at, with_target, due_by, state_unless_refused, state_after_due, offer_unless, state_by_decision, state_by_verdict, state_on_end, state_on_reaching, result_in, outcome_so_far, initial_state, enough_moves}
+use Rattle.mmtel_precedence.specs.Moves.{CallState, TargetPhase, Reaching, Ringing, Over, moves, account_at, with_target, due_by, state_unless_refused, state_after_due}
+use Rattle.mmtel_precedence.specs.Moves.{offer_unless, state_by_decision, state_by_verdict, state_on_end, state_on_reaching, result_in, outcome_so_far, initial_state, enough_moves}
 use Rattle.mmtel_precedence.specs.Extension.{is_settled, BeginsWith, with_more_endings, one_by_one, LaterEndingsExtend}
 use Rattle.mmtel_precedence.proofs.MovesAtTheEnd.{moves-over, moves-ringing, state_at}
 use Rattle.mmtel_precedence.proofs.MovesToTheOutcome.{moves_give_outcome}
 
 -- ---- one move, with later endings or without
 
-later-gone_on : (refusal : Option Cause) (kept : CallState) (target : Uri) (due : DueDiversionView) (later : List EndedAttempt) → state_unless_refused refusal (with_more_endings kept later) target due ≡ with_more_endings (state_unless_refused refusal kept target due) later
+later-gone_on : (refusal : Option Cause) (kept : CallState) (target : Uri) (due : DueDiversionView) (later : List EndedAttempt) →
+    state_unless_refused refusal (with_more_endings kept later) target due ≡ with_more_endings (state_unless_refused refusal kept target due) later
 later-gone_on None kept target due later = refl
 later-gone_on (Some refusal) kept target due later = refl
 
-later-divert_where : (call : CallInputs) (kept : CallState) (account : ServedAccountView) (now : ℕ) (due : Option DueDiversionView) (later : List EndedAttempt) → state_after_due call (with_more_endings kept later) account now due ≡ with_more_endings (state_after_due call kept account now due) later
+later-divert_where : (call : CallInputs) (kept : CallState) (account : ServedAccountView) (now : ℕ) (due : Option DueDiversionView) (later : List EndedAttempt) →
+    state_after_due call (with_more_endings kept later) account now due ≡ with_more_endings (state_after_due call kept account now due) later
 later-divert_where call kept account now None later = refl
 later-divert_where call kept account now (Some due) later = later-gone_on _ kept _ due later
 
@@ -41,7 +44,8 @@ later-reached call reach account (Ends why) kept uri by later = refl
 abbrev at_arrival : CallInputs → (k : ℕ) → ReachedTargetView → Decision
 at_arrival call k reach = verdict_of (caller_facts call k reach.at) (account_at reach) ending.Arrived
 
-later-reaching : (call : CallInputs) (reach : ReachedTargetView) (kept : CallState) (uri : Uri) (by : Option DueDiversionView) (later : List EndedAttempt) → state_on_reaching call reach uri by (with_more_endings kept later) ≡ with_more_endings (state_on_reaching call reach uri by kept) later
+later-reaching : (call : CallInputs) (reach : ReachedTargetView) (kept : CallState) (uri : Uri) (by : Option DueDiversionView) (later : List EndedAttempt) →
+    state_on_reaching call reach uri by (with_more_endings kept later) ≡ with_more_endings (state_on_reaching call reach uri by kept) later
 later-reaching call reach kept uri by later = later-reached call reach (account_at reach) (at_arrival call kept.done reach) kept uri by later
 
 later-ended : (call : CallInputs) (account : ServedAccountView) (now : ℕ) (deflected : Option Uri) (decision : Decision) (kept : CallState) (later : List EndedAttempt) →
@@ -50,7 +54,8 @@ later-ended call account now deflected (Offers waiting) kept later = refl
 later-ended call account now deflected (Forwards forward why) kept later = later-divert_where call kept account now (due_by (own_bound account.sheet) forward deflected why) later
 later-ended call account now deflected (Ends why) kept later = refl
 
-later-end : (call : CallInputs) (account : ServedAccountView) (now : ℕ) (how : AttemptEndView) (kept : CallState) (later : List EndedAttempt) → state_on_end call account now how (with_more_endings kept later) ≡ with_more_endings (state_on_end call account now how kept) later
+later-end : (call : CallInputs) (account : ServedAccountView) (now : ℕ) (how : AttemptEndView) (kept : CallState) (later : List EndedAttempt) →
+    state_on_end call account now how (with_more_endings kept later) ≡ with_more_endings (state_on_end call account now how kept) later
 later-end call account now Answer kept later = refl
 later-end call account now Cancel kept later = refl
 later-end call account now Unacknowledged kept later = refl
@@ -81,11 +86,13 @@ goes_on zero call done targets phase endings later = goes_on-still call 0 (state
 goes_on (suc n) call done targets (Reaching uri by) endings later =
     let kept = state_at done targets (Reaching uri by) endings in
     let moved = state_on_reaching call (reached_target_after call done uri by) uri by kept in
-    goes_on-moved call n kept moved later refl (λ m. ap (moves m call) (later-reaching call (reached_target_after call done uri by) kept uri by later)) (goes_on n call moved.done moved.targets moved.phase moved.endings later)
+    goes_on-moved call n kept moved later refl (λ m. ap (moves m call) (later-reaching call (reached_target_after call done uri by) kept uri by later))
+    (goes_on n call moved.done moved.targets moved.phase moved.endings later)
 goes_on (suc n) call done targets (Ringing account) [] later = goes_on-still call (suc n) _ later (moves-ringing (suc n) call done targets account)
 goes_on (suc n) call done targets (Ringing account) (ended ∷ endings) later =
     let moved = state_on_end call account ended.at ended.how (state_at done targets (Ringing account) endings) in
-    goes_on-moved call n (state_at done targets (Ringing account) (ended ∷ endings)) moved later refl (λ m. ap (moves m call) (later-end call account ended.at ended.how (state_at done targets (Ringing account) endings) later)) (goes_on n call moved.done moved.targets moved.phase moved.endings later)
+    goes_on-moved call n (state_at done targets (Ringing account) (ended ∷ endings)) moved later refl
+    (λ m. ap (moves m call) (later-end call account ended.at ended.how (state_at done targets (Ringing account) endings) later)) (goes_on n call moved.done moved.targets moved.phase moved.endings later)
 goes_on (suc n) call done targets (Over result) endings later = goes_on-still call (suc n) _ later (moves-over (suc n) call done targets result endings)
 
 -- moves after moves
@@ -100,7 +107,8 @@ moves-on call n m kept later =
     let (fewer, least, same) = goes_on n call kept.done kept.targets kept.phase kept.endings later in
     (fewer, ap (moves m call) (sym same) ∙ moves-more fewer m call (with_more_endings kept later))
 
-of_the_whole : (call : CallInputs) (sooner later : List EndedAttempt) (n m : ℕ) → enough_moves call ≤ m → outcome_so_far (moves m call (with_more_endings (moves n call (initial_state call sooner)) later)) ≡ outcome call (sooner ++ later)
+of_the_whole : (call : CallInputs) (sooner later : List EndedAttempt) (n m : ℕ) → enough_moves call ≤ m →
+    outcome_so_far (moves m call (with_more_endings (moves n call (initial_state call sooner)) later)) ≡ outcome call (sooner ++ later)
 of_the_whole call sooner later n m enough =
     let (fewer, same) = moves-on call n m (initial_state call sooner) later in
     ap outcome_so_far same ∙ moves_give_outcome call (sooner ++ later) (fewer + m) (omega arith)
@@ -115,7 +123,8 @@ targets-divert_where : (call : CallInputs) (kept : CallState) (account : ServedA
 targets-divert_where call kept account now None = refl
 targets-divert_where call kept account now (Some due) = targets-gone_on _ kept _ due
 
-targets-ended : (call : CallInputs) (account : ServedAccountView) (now : ℕ) (deflected : Option Uri) (decision : Decision) (kept : CallState) → (state_by_verdict call account now deflected decision kept).targets ≡ kept.targets
+targets-ended : (call : CallInputs) (account : ServedAccountView) (now : ℕ) (deflected : Option Uri) (decision : Decision) (kept : CallState) →
+    (state_by_verdict call account now deflected decision kept).targets ≡ kept.targets
 targets-ended call account now deflected (Offers waiting) kept = refl
 targets-ended call account now deflected (Forwards forward why) kept = targets-divert_where call kept account now (due_by (own_bound account.sheet) forward deflected why)
 targets-ended call account now deflected (Ends why) kept = refl
@@ -134,12 +143,14 @@ targets-end call account now (Other code) kept = refl
 abbrev OneMore : List OutcomeTarget → CallState → Type 0
 OneMore targets kept = (target : OutcomeTarget) × (kept.targets ≡ targets ++ target ∷ [])
 
-more-offer : (unknown no_peer : Bool) (account : ServedAccountView) (waiting : Bool) (kept : CallState) (uri : Uri) (by : Option DueDiversionView) → OneMore kept.targets (offer_unless unknown no_peer account waiting kept uri by)
+more-offer : (unknown no_peer : Bool) (account : ServedAccountView) (waiting : Bool) (kept : CallState) (uri : Uri) (by : Option DueDiversionView) →
+    OneMore kept.targets (offer_unless unknown no_peer account waiting kept uri by)
 more-offer true no_peer account waiting kept uri by = (_, refl)
 more-offer false true account waiting kept uri by = (_, refl)
 more-offer false false account waiting kept uri by = (_, refl)
 
-more-reached : (call : CallInputs) (reach : ReachedTargetView) (account : ServedAccountView) (decision : Decision) (kept : CallState) (uri : Uri) (by : Option DueDiversionView) → OneMore kept.targets (state_by_decision call reach account decision kept uri by)
+more-reached : (call : CallInputs) (reach : ReachedTargetView) (account : ServedAccountView) (decision : Decision) (kept : CallState) (uri : Uri) (by : Option DueDiversionView) →
+    OneMore kept.targets (state_by_decision call reach account decision kept uri by)
 more-reached call reach account (Offers waiting) kept uri by = more-offer reach.is_unknown (is_none reach.peer) account waiting kept uri by
 more-reached call reach account (Forwards forward why) kept uri by = (_, targets-divert_where call (with_target kept uri by NotOffered) account reach.at (due_by (own_bound account.sheet) forward None why))
 more-reached call reach account (Ends why) kept uri by = (_, refl)
@@ -195,7 +206,8 @@ begins call sooner later =
 abbrev Follows : CallInputs → CallState → List EndedAttempt → Type 0
 Follows call kept received = (later : List EndedAttempt) (m : ℕ) → (before : ℕ) × (moves m call (with_more_endings kept later) ≡ moves (before + m) call (initial_state call (received ++ later)))
 
-follows-next : (call : CallInputs) (n : ℕ) (kept : CallState) (received : List EndedAttempt) (ended : EndedAttempt) → Follows call kept received → Follows call (moves n call (with_more_endings kept (ended ∷ []))) (received ++ ended ∷ [])
+follows-next : (call : CallInputs) (n : ℕ) (kept : CallState) (received : List EndedAttempt) (ended : EndedAttempt) → Follows call kept received →
+    Follows call (moves n call (with_more_endings kept (ended ∷ []))) (received ++ ended ∷ [])
 follows-next call n kept received ended follows later m =
     let (fewer, same) = moves-on call n m (with_more_endings kept (ended ∷ [])) later in
     let (before, behind) = follows (ended ∷ later) (fewer + m) in (

@@ -12,14 +12,18 @@ use Rattle.mmtel_rules.specs.declared.values.When.TheVariants as event
 use Rattle.mmtel_diversion.specs.Bound.{is_within}
 use Rattle.mmtel_diversion.specs.Diversion.{ChosenDiversion, deflection_of, diversion_of}
 use Rattle.mmtel_waiting.specs.Waiting.{is_busy}
-use Rattle.mmtel_precedence.specs.Services.{ServedAccountView, DueDiversionView, ServiceDecision, Nothing, Refuses, Diverts, refuses_if, diverts_by, first_decision, bound_of, is_reached, own_bound, due_of, rejects_anonymous, bars_incoming, bars_outgoing, services_on_arrival}
+use Rattle.mmtel_precedence.specs.Services.{ServedAccountView, DueDiversionView, ServiceDecision, Nothing, Refuses, Diverts, refuses_if, diverts_by, first_decision}
+use Rattle.mmtel_precedence.specs.Services.{bound_of, is_reached, own_bound, due_of, rejects_anonymous, bars_incoming, bars_outgoing, services_on_arrival}
 use Rattle.mmtel_precedence.specs.Verdicts.{decision_by, forwards_or, deflects_or}
-use Rattle.mmtel_precedence.specs.Calls.{refused_outcome, AttemptEndView, Answer, Cancel, Unacknowledged, UserBusy, NotReachable, NoReply, Deflection, Other, EndedAttempt, ReachedTargetView, CallInputs, NotOffered, Offered, OutcomeTarget, CallResult, Answered, Final, Outcome, outcome_at_last_target}
+use Rattle.mmtel_precedence.specs.Calls.{refused_outcome, AttemptEndView, Answer, Cancel, Unacknowledged, UserBusy, NotReachable, NoReply, Deflection, Other, EndedAttempt}
+use Rattle.mmtel_precedence.specs.Calls.{ReachedTargetView, CallInputs, NotOffered, Offered, OutcomeTarget, CallResult, Answered, Final, Outcome, outcome_at_last_target}
 use Rattle.mmtel_precedence.specs.Opening.{refusal_at_opening}
 use Rattle.mmtel_served_user.specs.Targets.{new_target}
-use Rattle.mmtel_precedence.specs.Targets.{Rests, outcome_of_diversion, IsDue, reached_target_after, caller_facts, target_facts, offer_by, deflection_to, outcome_of_diversion_or, target_outcome_on, target_outcome_at, target_outcome_after, is_waiting, target_at}
+use Rattle.mmtel_precedence.specs.Targets.{Rests, outcome_of_diversion, IsDue, reached_target_after, caller_facts, target_facts, offer_by, deflection_to}
+use Rattle.mmtel_precedence.specs.Targets.{outcome_of_diversion_or, target_outcome_on, target_outcome_at, target_outcome_after, is_waiting, target_at}
 use Rattle.mmtel_precedence.specs.Outcome.{outcome_from}
-use Rattle.mmtel_precedence.specs.Moves.{CallState, TargetPhase, Reaching, Ringing, Over, moves, state_unless_refused, state_after_diversion, state_by_verdict, state_on_end, offer_unless, state_by_decision, outcome_so_far, initial_phase, enough_moves, MovesGiveTheOutcome}
+use Rattle.mmtel_precedence.specs.Moves.{CallState, TargetPhase, Reaching, Ringing, Over, moves, state_unless_refused, state_after_diversion, state_by_verdict}
+use Rattle.mmtel_precedence.specs.Moves.{state_on_end, offer_unless, state_by_decision, outcome_so_far, initial_phase, enough_moves, MovesGiveTheOutcome}
 use Rattle.mmtel_precedence.proofs.Accounts.{nobody, decision_or, first_said-account, is_waiting-account, due_at-account, deflection_at-account, is_refused-account}
 use Rattle.mmtel_precedence.proofs.MovesAtTheEnd.{moves-over, moves-ringing, moves-suc, state_at}
 use Rattle.mmtel_precedence.proofs.TargetOutcomes.{from_next, refused_for, unless_reached, after_due, go_further}
@@ -74,12 +78,14 @@ bound_at served = own_bound (unwrap_or served nobody).sheet
 
 -- an ending for which rules may require a diversion
 settles-rules : (call : CallInputs) (k least : ℕ) (onward : Continuation) → GoesOn call k least onward →
-    (n : ℕ) (served : Option ServedAccountView) (now : ℕ) (chosen : Option ChosenDiversion) (cause : Cause) (target : OutcomeTarget) (targets : List OutcomeTarget) (phase : TargetPhase) (later : List EndedAttempt) → least ≤ n →
+    (n : ℕ) (served : Option ServedAccountView) (now : ℕ) (chosen : Option ChosenDiversion) (cause : Cause) (target : OutcomeTarget) (targets : List OutcomeTarget) (phase : TargetPhase)
+    (later : List EndedAttempt) → least ≤ n →
     (let due = option_map (due_of (bound_at served)) chosen in
     Settles n call (state_by_verdict call (unwrap_or served nobody) now None (forwards_or due cause) (state_at k (targets ++ target ∷ []) phase later)) targets
     (from_next target (onward target) (outcome_of_diversion_or call served now due cause later)))
 settles-rules call k least onward goes n served now None cause target targets phase later enough = settles-over n call k targets target (Final cause) later
-settles-rules call k least onward goes n served now (Some chosen) cause target targets phase later enough = settles-due call k least onward goes n served now target (due_of (bound_at served) chosen) targets phase later enough
+settles-rules call k least onward goes n served now (Some chosen) cause target targets phase later enough =
+    settles-due call k least onward goes n served now target (due_of (bound_at served) chosen) targets phase later enough
 
 -- an ending by deflection
 settles-deflection : (call : CallInputs) (k least : ℕ) (onward : Continuation) → GoesOn call k least onward →
@@ -87,7 +93,8 @@ settles-deflection : (call : CallInputs) (k least : ℕ) (onward : Continuation)
     Settles n call (state_by_verdict call (unwrap_or served nobody) now (Some uri) (deflects_or cause) (state_at k (targets ++ target ∷ []) phase later)) targets
     (from_next target (onward target) (outcome_of_diversion_or call served now (option_map (deflection_to uri (bound_at served)) cause) (causes.Relayed 480) later))
 settles-deflection call k least onward goes n served now uri None target targets phase later enough = settles-over n call k targets target (Final (causes.Relayed 480)) later
-settles-deflection call k least onward goes n served now uri (Some cause) target targets phase later enough = settles-due call k least onward goes n served now target (deflection_to uri (bound_at served) cause) targets phase later enough
+settles-deflection call k least onward goes n served now uri (Some cause) target targets phase later enough =
+    settles-due call k least onward goes n served now target (deflection_to uri (bound_at served) cause) targets phase later enough
 
 -- the ending of an attempt
 settles-end : (call : CallInputs) (k least : ℕ) (onward : Continuation) → GoesOn call k least onward →
@@ -133,7 +140,8 @@ decision_for_any unknown no_peer = first_decision (refuses_if unknown causes.NoA
 settles-unrefused : (call : CallInputs) (k least : ℕ) (onward : Continuation) → GoesOn call k least onward →
     (n : ℕ) (unknown no_peer : Bool) (reach : ReachedTargetView) (uri : Uri) (by : Option DueDiversionView) (targets : List OutcomeTarget) (phase : TargetPhase) (endings : List EndedAttempt) → least ≤ n →
     Settles (suc n) call (offer_unless unknown no_peer (unwrap_or reach.served nobody) (is_waiting reach.served) (state_at k targets phase endings) uri by) targets
-    (from_next (target_by (decision_for_any unknown no_peer) reach.served uri by) (onward (target_by (decision_for_any unknown no_peer) reach.served uri by)) (target_outcome_at (decision_for_any unknown no_peer) call k reach endings))
+    (from_next (target_by (decision_for_any unknown no_peer) reach.served uri by) (onward (target_by (decision_for_any unknown no_peer) reach.served uri by))
+    (target_outcome_at (decision_for_any unknown no_peer) call k reach endings))
 settles-unrefused call k least onward goes n true no_peer reach uri by targets phase endings enough =
     settles-over (suc n) call k targets (record { uri = uri; diversion = by; offer = NotOffered }) (Final causes.NoAccount) endings
 settles-unrefused call k least onward goes n false true reach uri by targets phase endings enough =
@@ -189,17 +197,20 @@ bounded due bound = record { forward = due.forward; cause = due.cause; bound = b
 
 -- a target, by the decision of the services
 settles-said : (call : CallInputs) (k least : ℕ) (onward : Continuation) → GoesOn call k least onward →
-    (n : ℕ) (says : ServiceDecision) (reach : ReachedTargetView) (uri : Uri) (by : Option DueDiversionView) (targets : List OutcomeTarget) (phase : TargetPhase) (endings : List EndedAttempt) → IsOwn (bound_at reach.served) says → least ≤ n →
+    (n : ℕ) (says : ServiceDecision) (reach : ReachedTargetView) (uri : Uri) (by : Option DueDiversionView) (targets : List OutcomeTarget) (phase : TargetPhase) (endings : List EndedAttempt) →
+    IsOwn (bound_at reach.served) says → least ≤ n →
     (let said = decision_or says (decision_for_any reach.is_unknown (is_none reach.peer)) in
     Settles (suc n) call (state_by_decision call reach (unwrap_or reach.served nobody) (decision_by says (unwrap_or reach.served nobody).live) (state_at k targets phase endings) uri by) targets
     (from_next (target_by said reach.served uri by) (onward (target_by said reach.served uri by)) (target_outcome_at said call k reach endings)))
 settles-said call k least onward goes n Nothing reach uri by targets phase endings own enough =
-    ap (λ waiting. outcome_so_far (moves (suc n) call (offer_unless reach.is_unknown (is_none reach.peer) (unwrap_or reach.served nobody) waiting (state_at k targets phase endings) uri by))) (sym (is_waiting-account reach.served))
+    ap (λ waiting. outcome_so_far (moves (suc n) call (offer_unless reach.is_unknown (is_none reach.peer) (unwrap_or reach.served nobody) waiting (state_at k targets phase endings) uri by)))
+    (sym (is_waiting-account reach.served))
     ∙ settles-unrefused call k least onward goes n reach.is_unknown (is_none reach.peer) reach uri by targets phase endings enough
 settles-said call k least onward goes n (Refuses why) reach uri by targets phase endings own enough =
     settles-over (suc n) call k targets (record { uri = uri; diversion = by; offer = NotOffered }) (Final why) endings
 settles-said call k least onward goes n (Diverts due) reach uri by targets phase endings own enough =
-    ap (λ bound. outcome_so_far (moves (suc n) call (state_after_diversion call (state_at k (targets ++ record { uri = uri; diversion = by; offer = NotOffered } ∷ []) phase endings) (unwrap_or reach.served nobody) reach.at (bounded due bound)))) (sym own)
+    ap (λ bound. outcome_so_far (moves (suc n) call
+    (state_after_diversion call (state_at k (targets ++ record { uri = uri; diversion = by; offer = NotOffered } ∷ []) phase endings) (unwrap_or reach.served nobody) reach.at (bounded due bound)))) (sym own)
     ∙ settles-due call k least onward goes (suc n) reach.served reach.at (record { uri = uri; diversion = by; offer = NotOffered }) due targets phase endings (omega arith)
 
 -- reaching the target after k diversions
@@ -209,10 +220,13 @@ settles-reaching : (call : CallInputs) (k least : ℕ) (onward : Continuation) �
     (from_next (target_at call k uri by) (onward (target_at call k uri by)) (target_outcome_after call k uri by endings))
 settles-reaching call k least onward goes n uri by targets endings enough =
     ap outcome_so_far (moves-suc (suc n) call (state_at k targets (Reaching uri by) endings))
-    ∙ settles-said call k least onward goes n (first_decision (services_on_arrival (caller_facts call k (reached_target_after call k uri by).at) (unwrap_or (reached_target_after call k uri by).served nobody))) (reached_target_after call k uri by) uri by targets (Reaching uri by) endings
+    ∙ settles-said call k least onward goes n (first_decision (services_on_arrival (caller_facts call k (reached_target_after call k uri by).at) (unwrap_or (reached_target_after call k uri by).served nobody)))
+    (reached_target_after call k uri by) uri by targets (Reaching uri by) endings
     (own-services (caller_facts call k (reached_target_after call k uri by).at) (unwrap_or (reached_target_after call k uri by).served nobody)) enough
-    ∙ ap (λ said. behind targets (from_next (target_by said (reached_target_after call k uri by).served uri by) (onward (target_by said (reached_target_after call k uri by).served uri by)) (target_outcome_at said call k (reached_target_after call k uri by) endings)))
-    (sym (first_said-account (caller_facts call k (reached_target_after call k uri by).at) (reached_target_after call k uri by).served (refuses_if (reached_target_after call k uri by).is_unknown causes.NoAccount ∷ refuses_if (is_none (reached_target_after call k uri by).peer) causes.NoRoute ∷ [])))
+    ∙ ap (λ said. behind targets (from_next (target_by said (reached_target_after call k uri by).served uri by) (onward (target_by said (reached_target_after call k uri by).served uri by))
+    (target_outcome_at said call k (reached_target_after call k uri by) endings)))
+    (sym (first_said-account (caller_facts call k (reached_target_after call k uri by).at) (reached_target_after call k uri by).served
+    (refuses_if (reached_target_after call k uri by).is_unknown causes.NoAccount ∷ refuses_if (is_none (reached_target_after call k uri by).peer) causes.NoRoute ∷ [])))
 
 -- the moves from the target after k diversions give the outcome from there
 abbrev pub SettlesFrom : CallInputs → ℕ → Type 0
@@ -236,13 +250,16 @@ is_within-below (Some own) configured count h = within-min own configured count 
 -- at the bound
 goes_on-at : (call : CallInputs) (k : ℕ) → 0 ≡ call.bound - (call.received + k) → GoesOn call k 0 (λ target due later. refused_for target due)
 goes_on-at call k left n target due targets phase later enough =
-    ap (λ b. outcome_so_far (moves n call (state_unless_refused (if b then None else Some (causes.TooManyDiversions (due.cause == 486))) (state_at k (targets ++ target ∷ []) phase later) (new_target call.home due.forward.target) due))) (is_within-at due.bound call.bound (call.received + k) (omega arith))
+    ap (λ b. outcome_so_far
+    (moves n call (state_unless_refused (if b then None else Some (causes.TooManyDiversions (due.cause == 486))) (state_at k (targets ++ target ∷ []) phase later) (new_target call.home due.forward.target) due)))
+    (is_within-at due.bound call.bound (call.received + k) (omega arith))
     ∙ settles-over n call k targets target (Final (causes.TooManyDiversions (due.cause == 486))) later
 
 -- below it: by whether the account's own bound is reached
 goes_on-by : (call : CallInputs) (left k : ℕ) → SettlesFrom call left → suc left ≡ call.bound - (call.received + k) →
     (reached : Bool) (n : ℕ) (target : OutcomeTarget) (due : DueDiversionView) (targets : List OutcomeTarget) (phase : TargetPhase) (later : List EndedAttempt) → 2 * (left + 1) ≤ n →
-    Settles n call (state_unless_refused (if not reached then None else Some (causes.TooManyDiversions (due.cause == 486))) (state_at k (targets ++ target ∷ []) phase later) (new_target call.home due.forward.target) due) targets
+    Settles n call
+    (state_unless_refused (if not reached then None else Some (causes.TooManyDiversions (due.cause == 486))) (state_at k (targets ++ target ∷ []) phase later) (new_target call.home due.forward.target) due) targets
     (unless_reached reached target due (after_due call left k due later))
 goes_on-by call left k settles more true n target due targets phase later enough = settles-over n call k targets target (Final (causes.TooManyDiversions (due.cause == 486))) later
 goes_on-by call left k settles more false n target due targets phase later enough =
@@ -251,7 +268,9 @@ goes_on-by call left k settles more false n target due targets phase later enoug
 
 goes_on-below : (call : CallInputs) (left k : ℕ) → SettlesFrom call left → suc left ≡ call.bound - (call.received + k) → GoesOn call k (2 * (left + 1)) (go_further call left k)
 goes_on-below call left k settles more n target due targets phase later enough =
-    ap (λ b. outcome_so_far (moves n call (state_unless_refused (if b then None else Some (causes.TooManyDiversions (due.cause == 486))) (state_at k (targets ++ target ∷ []) phase later) (new_target call.home due.forward.target) due))) (is_within-below due.bound call.bound (call.received + k) (omega arith))
+    ap (λ b. outcome_so_far
+    (moves n call (state_unless_refused (if b then None else Some (causes.TooManyDiversions (due.cause == 486))) (state_at k (targets ++ target ∷ []) phase later) (new_target call.home due.forward.target) due)))
+    (is_within-below due.bound call.bound (call.received + k) (omega arith))
     ∙ goes_on-by call left k settles more (is_reached due.bound (call.received + k)) n target due targets phase later enough
 
 pub settles-from : (call : CallInputs) (left : ℕ) → SettlesFrom call left

@@ -15,7 +15,8 @@ use Rattle.mmtel_precedence.specs.Verdicts.{decision_by, deflects_or, forwards_o
 use Rattle.mmtel_precedence.specs.Calls.{Answer, Cancel, Unacknowledged, UserBusy, NotReachable, NoReply, Deflection, Other, EndedAttempt, ReachedTargetView, CallInputs}
 use Rattle.mmtel_precedence.specs.Targets.{caller_facts, deflection_to, reached_target_after}
 use Rattle.mmtel_precedence.specs.Moves.{CallState, TargetPhase, Reaching, Ringing, Over, account_at, state_by_verdict, offer_unless, state_by_decision, state_on_endings, move_in, moves, initial_state, outcome_so_far}
-use Rattle.mmtel_precedence.specs.NextSteps.{next_step_at, NextStepsAreMoves, EndingsAreMoves, NextStepsGiveTheOutcome, steps_on_endings, next_step_in, next_steps, offer_step, next_step_by, state_after_step, divert_or_refuse, deflection_by, state_after_attempt_step}
+use Rattle.mmtel_precedence.specs.NextSteps.{next_step_at, NextStepsAreMoves, EndingsAreMoves, NextStepsGiveTheOutcome, steps_on_endings, next_step_in}
+use Rattle.mmtel_precedence.specs.NextSteps.{next_steps, offer_step, next_step_by, state_after_step, divert_or_refuse, deflection_by, state_after_attempt_step}
 use Rattle.mmtel_precedence.proofs.Accounts.{nobody}
 use Rattle.mmtel_precedence.proofs.MovesToTheOutcome.{moves_give_outcome}
 
@@ -28,13 +29,15 @@ offered call account now kept uri by false None waiting = refl
 offered call account now kept uri by false (Some peer) waiting = refl
 
 step_by_decision : (call : CallInputs) (reach : ReachedTargetView) (account : ServedAccountView) (kept : CallState) (uri : Uri) (by : Option DueDiversionView) (says : ServiceDecision) (live : ℕ) →
-    state_by_decision call reach account (decision_by says live) kept uri by ≡ state_after_step call account reach.at kept uri by (next_step_by (decision_by says live) (own_bound account.sheet) reach.is_unknown reach.peer)
+    state_by_decision call reach account (decision_by says live) kept uri by
+    ≡ state_after_step call account reach.at kept uri by (next_step_by (decision_by says live) (own_bound account.sheet) reach.is_unknown reach.peer)
 step_by_decision call reach account kept uri by Nothing live = offered call account reach.at kept uri by reach.is_unknown reach.peer _
 step_by_decision call reach account kept uri by (Refuses cause) live = refl
 step_by_decision call reach account kept uri by (Diverts due) live = refl
 
 pub next_steps_are_moves : NextStepsAreMoves
-next_steps_are_moves call reach kept uri by = step_by_decision call reach (account_at reach) kept uri by (first_decision (services_on_arrival (caller_facts call kept.done reach.at) (account_at reach))) (account_at reach).live
+next_steps_are_moves call reach kept uri by =
+    step_by_decision call reach (account_at reach) kept uri by (first_decision (services_on_arrival (caller_facts call kept.done reach.at) (account_at reach))) (account_at reach).live
 
 -- of an account that is served
 pub turn_of_account : (c : FactsView) (reach : ReachedTargetView) (account : ServedAccountView) → reach.served ≡ Some account →
@@ -50,20 +53,23 @@ ruled call account now kept None cause = refl
 ruled call account now kept (Some chosen) cause = refl
 
 deflected : (call : CallInputs) (account : ServedAccountView) (now : ℕ) (kept : CallState) (target : Uri) (cause : Option ℕ) →
-    state_by_verdict call account now (Some target) (deflects_or cause) kept ≡ state_after_attempt_step call account now kept (divert_or_refuse (option_map (deflection_to target (own_bound account.sheet)) cause) (causes.Relayed 480))
+    state_by_verdict call account now (Some target) (deflects_or cause) kept
+    ≡ state_after_attempt_step call account now kept (divert_or_refuse (option_map (deflection_to target (own_bound account.sheet)) cause) (causes.Relayed 480))
 deflected call account now kept target None = refl
 deflected call account now kept target (Some cause) = refl
 
 -- the rules of the account that is served, if one is
 by_rules : (call : CallInputs) (served : Option ServedAccountView) (now : ℕ) (kept : CallState) (when : When) (cause : Cause) →
     state_by_verdict call (unwrap_or served nobody) now None (forwards_or (due_on (caller_facts call kept.done now) when (unwrap_or served nobody).sheet) cause) kept
-    ≡ state_after_attempt_step call (unwrap_or served nobody) now kept (divert_or_refuse (option_and_then (due_on (caller_facts call kept.done now) when) (option_map (λ (account : ServedAccountView). account.sheet) served)) cause)
+    ≡ state_after_attempt_step call (unwrap_or served nobody) now kept
+    (divert_or_refuse (option_and_then (due_on (caller_facts call kept.done now) when) (option_map (λ (account : ServedAccountView). account.sheet) served)) cause)
 by_rules call None now kept when cause = refl
 by_rules call (Some account) now kept when cause = ruled call account now kept (diversion_of (caller_facts call kept.done now) when account.sheet) cause
 
 by_device : (call : CallInputs) (served : Option ServedAccountView) (now : ℕ) (kept : CallState) (target : Uri) (rang : Bool) →
     state_by_verdict call (unwrap_or served nobody) now (Some target) (deflects_or (deflection_of (unwrap_or served nobody).sheet rang)) kept
-    ≡ state_after_attempt_step call (unwrap_or served nobody) now kept (divert_or_refuse (option_and_then (deflection_by target rang) (option_map (λ (account : ServedAccountView). account.sheet) served)) (causes.Relayed 480))
+    ≡ state_after_attempt_step call (unwrap_or served nobody) now kept
+    (divert_or_refuse (option_and_then (deflection_by target rang) (option_map (λ (account : ServedAccountView). account.sheet) served)) (causes.Relayed 480))
 by_device call None now kept target rang = refl
 by_device call (Some account) now kept target rang = deflected call account now kept target (deflection_of account.sheet rang)
 

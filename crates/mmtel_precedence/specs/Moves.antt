@@ -9,7 +9,8 @@ use Rattle.mmtel_sheet_values.specs.Sheets.{empty_sheet}
 use Rattle.mmtel_precedence.specs.declared.endings.Ending.TheVariants as ending
 use Rattle.mmtel_precedence.specs.Services.{DueDiversionView, ServedAccountView, own_bound}
 use Rattle.mmtel_precedence.specs.Verdicts.{Decision, Offers, Forwards, Ends, refusal_before_diversion, verdict_of}
-use Rattle.mmtel_precedence.specs.Calls.{AttemptEndView, Answer, Cancel, Unacknowledged, UserBusy, NotReachable, NoReply, Deflection, Other, EndedAttempt, ReachedTargetView, CallInputs, OfferState, NotOffered, Offered, OutcomeTarget}
+use Rattle.mmtel_precedence.specs.Calls.{AttemptEndView, Answer, Cancel, Unacknowledged, UserBusy, NotReachable, NoReply, Deflection, Other}
+use Rattle.mmtel_precedence.specs.Calls.{EndedAttempt, ReachedTargetView, CallInputs, OfferState, NotOffered, Offered, OutcomeTarget}
 use Rattle.mmtel_precedence.specs.Calls.{CallResult, Pending, Answered, Final, Outcome}
 use Rattle.mmtel_precedence.specs.Opening.{refusal_at_opening}
 use Rattle.mmtel_served_user.specs.Targets.{new_target}
@@ -144,4 +145,5 @@ enough_moves call = 2 * (call.bound - call.received + 1)
 
 -- the moves give the outcome, and nothing changes afterwards
 abbrev pub MovesGiveTheOutcome : Type 0
-MovesGiveTheOutcome = (call : CallInputs) (endings : List EndedAttempt) (n : ℕ) → enough_moves call ≤ n → outcome_so_far (moves n call (initial_state call endings)) ≡ outcome call endings
+MovesGiveTheOutcome = (call : CallInputs) (endings : List EndedAttempt) (n : ℕ) → enough_moves call ≤ n →
+    outcome_so_far (moves n call (initial_state call endings)) ≡ outcome call endings

@@ -15,10 +15,12 @@ use Rattle.mmtel_diversion.specs.Diversion.{deflection_of}
 use Rattle.mmtel_precedence.specs.declared.endings.Ending.TheVariants as ending
 use Rattle.mmtel_precedence.specs.Services.{DueDiversionView, ServedAccountView, due_on, own_bound}
 use Rattle.mmtel_precedence.specs.Verdicts.{Decision, Offers, Forwards, Ends, verdict_of}
-use Rattle.mmtel_precedence.specs.Calls.{AttemptEndView, Answer, Cancel, Unacknowledged, UserBusy, NotReachable, NoReply, Deflection, Other, EndedAttempt, ReachedTargetView, CallInputs, NotOffered, Offered, Answered, Final}
+use Rattle.mmtel_precedence.specs.Calls.{AttemptEndView, Answer, Cancel, Unacknowledged, UserBusy, NotReachable, NoReply, Deflection}
+use Rattle.mmtel_precedence.specs.Calls.{Other, EndedAttempt, ReachedTargetView, CallInputs, NotOffered, Offered, Answered, Final}
 use Rattle.mmtel_precedence.specs.Targets.{caller_facts, deflection_to, reached_target_after}
 use Rattle.mmtel_precedence.specs.Outcome.{outcome}
-use Rattle.mmtel_precedence.specs.Moves.{CallState, TargetPhase, Reaching, Ringing, Over, account_at, with_phase, with_target, state_after_diversion, state_on_reaching, state_on_end, enough_moves, initial_state}
+use Rattle.mmtel_precedence.specs.Moves.{CallState, TargetPhase, Reaching, Ringing, Over, account_at, with_phase, with_target}
+use Rattle.mmtel_precedence.specs.Moves.{state_after_diversion, state_on_reaching, state_on_end, enough_moves, initial_state}
 use Rattle.mmtel_precedence.specs.Moves.{outcome_so_far}
 
 -- ---- at a target
@@ -103,7 +105,8 @@ NextStepsAreMoves = (call : CallInputs) (reach : ReachedTargetView) (state : Cal
 -- the move on the end of an attempt at a target is the next step after it
 abbrev pub EndingsAreMoves : Type 0
 EndingsAreMoves = (call : CallInputs) (reach : ReachedTargetView) (now : ℕ) (how : AttemptEndView) (state : CallState) →
-    state_on_end call (account_at reach) now how state ≡ state_after_attempt_step call (account_at reach) now state (step_after_attempt (caller_facts call state.done now) (sheet_of reach) how)
+    state_on_end call (account_at reach) now how state ≡ state_after_attempt_step call (account_at reach) now state
+    (step_after_attempt (caller_facts call state.done now) (sheet_of reach) how)
 
 -- ---- a whole call, step by step
 
@@ -130,4 +133,5 @@ next_steps (suc n) call state = next_steps n call (next_step_in state.phase call
 
 -- the steps give the outcome, and nothing changes afterwards
 abbrev pub NextStepsGiveTheOutcome : Type 0
-NextStepsGiveTheOutcome = (call : CallInputs) (endings : List EndedAttempt) (n : ℕ) → enough_moves call ≤ n → outcome_so_far (next_steps n call (initial_state call endings)) ≡ outcome call endings
+NextStepsGiveTheOutcome = (call : CallInputs) (endings : List EndedAttempt) (n : ℕ) → enough_moves call ≤ n →
+    outcome_so_far (next_steps n call (initial_state call endings)) ≡ outcome call endings

@@ -17,9 +17,11 @@ use Rattle.mmtel_rules.specs.declared.values.When.{When}
 use Rattle.mmtel_rules.specs.declared.values.When.TheVariants as event
 use Rattle.mmtel_rules.specs.declared.values.Identities2.{Identities2}
 use Rattle.mmtel_diversion.specs.Diversion.{deflection_of}
-use Rattle.mmtel_precedence.specs.Services.{ServedAccountView, DueDiversionView, ServiceDecision, Nothing, Refuses, Diverts, refuses_if, first_decision, due_on, own_bound, bars_outgoing}
+use Rattle.mmtel_precedence.specs.Services.{ServedAccountView, DueDiversionView, ServiceDecision, Nothing, Refuses}
+use Rattle.mmtel_precedence.specs.Services.{Diverts, refuses_if, first_decision, due_on, own_bound, bars_outgoing}
 use Rattle.mmtel_precedence.specs.Services.{services_on_arrival}
-use Rattle.mmtel_precedence.specs.Calls.{AttemptEndView, Answer, Cancel, Unacknowledged, UserBusy, NotReachable, NoReply, Deflection, Other, EndedAttempt, SnapshotView, ReachedTargetView, CallInputs}
+use Rattle.mmtel_precedence.specs.Calls.{AttemptEndView, Answer, Cancel, Unacknowledged, UserBusy, NotReachable, NoReply}
+use Rattle.mmtel_precedence.specs.Calls.{Deflection, Other, EndedAttempt, SnapshotView, ReachedTargetView, CallInputs}
 use Rattle.mmtel_precedence.specs.Calls.{snapshot_after, caller_hides, account_at_snapshot, OfferState, NotOffered, Offered, OutcomeTarget, CallResult, Pending, Answered, Final}
 
 -- ---- reaching it
@@ -96,7 +98,11 @@ offer_by (Diverts due) served = NotOffered
 
 -- the target that is reached after k diversions
 abbrev pub target_at : CallInputs → (k : ℕ) → Uri → Option DueDiversionView → OutcomeTarget
-target_at call k uri by = record { uri = uri; diversion = by; offer = offer_by (decision_on_arrival call k (reached_target_after call k uri by)) (reached_target_after call k uri by).served }
+target_at call k uri by = record {
+  uri = uri;
+  diversion = by;
+  offer = offer_by (decision_on_arrival call k (reached_target_after call k uri by)) (reached_target_after call k uri by).served;
+}
 
 -- ---- a diversion
 
@@ -167,7 +173,8 @@ target_outcome_on call k served now Answer later = Rests Answered
 target_outcome_on call k served now Cancel later = Rests (Final causes.Cancelled)
 target_outcome_on call k served now Unacknowledged later = Rests (Final causes.Unacknowledged)
 target_outcome_on call k served now (UserBusy code) later = outcome_of_diversion_or call served now (due_at (caller_facts call k now) event.Busy served) (causes.Relayed code) later
-target_outcome_on call k served now (NotReachable code) later = outcome_of_diversion_or call served now (due_at (caller_facts call k now) event.NotReachable served) (causes.Unreachable code) later
+target_outcome_on call k served now (NotReachable code) later =
+    outcome_of_diversion_or call served now (due_at (caller_facts call k now) event.NotReachable served) (causes.Unreachable code) later
 target_outcome_on call k served now NoReply later = outcome_of_diversion_or call served now (due_at (caller_facts call k now) event.NoAnswer served) causes.NoReply later
 target_outcome_on call k served now (Deflection target rang) later = outcome_of_diversion_or call served now (deflection_at served target rang) (causes.Relayed 480) later
 target_outcome_on call k served now (Other code) later = Rests (Final (causes.Relayed code))

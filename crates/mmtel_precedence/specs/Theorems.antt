@@ -149,9 +149,11 @@ targets_after_first (target ∷ later) = later
 
 pub record DiversionsHaveForwards : Type 0 where
   -- each target is the one to which the forward of its diversion leads
-  pub targets : (call : CallInputs) (endings : List EndedAttempt) → AllByRecursion (λ (target : OutcomeTarget). target.uri ≡ target_of_diversion call target.diversion) (outcome call endings).targets
+  pub targets : (call : CallInputs) (endings : List EndedAttempt) →
+      AllByRecursion (λ (target : OutcomeTarget). target.uri ≡ target_of_diversion call target.diversion) (outcome call endings).targets
   -- only the first target is reached without one
-  pub later : (call : CallInputs) (endings : List EndedAttempt) → AllByRecursion (λ (target : OutcomeTarget). IsSome target.diversion) (targets_after_first (outcome call endings).targets)
+  pub later : (call : CallInputs) (endings : List EndedAttempt) →
+      AllByRecursion (λ (target : OutcomeTarget). IsSome target.diversion) (targets_after_first (outcome call endings).targets)
   -- the decision to divert a call that arrives has its forward, and only that on a deflection has none
   pub on_arrival : (c : FactsView) (account : ServedAccountView) (forward : Option Forward) (cause : ℕ) → verdict_of c account ending.Arrived ≡ Forwards forward cause →
       IsSome forward

@@ -16,7 +16,8 @@ use Rattle.mmtel_precedence.specs.declared.endings.Ending.{Ending}
 use Rattle.mmtel_precedence.specs.declared.endings.Ending.TheVariants.{Arrived, UserBusy, NotReachable, NoReply, Deflected, Other}
 use Rattle.mmtel_precedence.specs.declared.verdicts.Verdict.{Verdict}
 use Rattle.mmtel_precedence.specs.declared.verdicts.Verdict.TheVariants as verdicts
-use Rattle.mmtel_precedence.specs.Services.{ServedAccountView, DueDiversionView, ServiceDecision, Nothing, Refuses, Diverts, bars_outgoing, bound_of, due_of, due_on, first_decision, own_bound}
+use Rattle.mmtel_precedence.specs.Services.{ServedAccountView, DueDiversionView, ServiceDecision, Nothing, Refuses}
+use Rattle.mmtel_precedence.specs.Services.{Diverts, bars_outgoing, bound_of, due_of, due_on, first_decision, own_bound}
 use Rattle.mmtel_precedence.specs.Services.{services_on_arrival}
 
 -- what is done with the call

@@ -5,7 +5,8 @@ ghost use Rattle.mmtel_types.specs.declared.causes.Cause.TheVariants.{Relayed};
 ghost use Rattle.mmtel_rules.specs.Facts.{facts_view};
 ghost use Rattle.mmtel_precedence.specs.Services.{first_decision, own_bound, services_on_arrival};
 ghost use Rattle.mmtel_precedence.specs.Targets.{deflection_to};
-ghost use Rattle.mmtel_precedence.specs.Views.{arrival_decision_view, attempt_end_view, due_diversion_view, failure_view, next_step_view, reached_target_view, served_account_view, step_after_attempt_view};
+ghost use Rattle.mmtel_precedence.specs.Views.{arrival_decision_view, attempt_end_view, due_diversion_view, failure_view};
+ghost use Rattle.mmtel_precedence.specs.Views.{next_step_view, reached_target_view, served_account_view, step_after_attempt_view};
 ghost use Rattle.mmtel_precedence.specs.NextSteps.{deflection_by, divert_or_refuse, next_step_at, next_step_by, offer_step, step_after_attempt};
 ghost use Rattle.mmtel_precedence.specs.Verdicts.{decision_by};
 
@@ -222,7 +223,8 @@ pub fn step_after_attempt<'a>(
     sheet: Option<&'a Sheet>,
     end: &AttemptEnd<'a>,
 ) -> StepAfterAttempt<'a>
-    ensures exact { let facts = call_facts.entry.now in step_after_attempt_view result ≡ step_after_attempt (facts_view facts) (option_copied sheet.entry) (attempt_end_view end.entry.now) }
+    ensures exact { let facts = call_facts.entry.now in step_after_attempt_view result
+        ≡ step_after_attempt (facts_view facts) (option_copied sheet.entry) (attempt_end_view end.entry.now) }
 {
     match *end {
         AttemptEnd::Failed(failure) => step_after_failure(call_facts, sheet, failure),

@@ -39,7 +39,8 @@ impl Model for Records {
 
     ghost Value = { RecordsView };
 
-    ghost coded = { code_by (SheetTextsView × SheetsInForce) (coded× texts_row.the_row.coded view_row.the_row.coded) (λ h. (h.texts, h.view)) (λ p. record { texts = p.0; view = p.1 })
+    ghost coded = { code_by (SheetTextsView × SheetsInForce) (coded× texts_row.the_row.coded view_row.the_row.coded)
+        (λ h. (h.texts, h.view)) (λ p. record { texts = p.0; view = p.1 })
         (λ _. refl) };
 
     ghost view = { λ r. record { texts = r.texts; view = r.view } };

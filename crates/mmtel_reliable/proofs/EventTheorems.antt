@@ -8,7 +8,8 @@ use Rattle.mmtel_base.proofs.ChainTheorems.{guard_some}
 use Rattle.mmtel_base.proofs.Runs.{and_true}
 use Rattle.mmtel_reliable.specs.Acks.{AcksView, comes_next, has_own, is_acknowledged_by, most_waiting, own_number, response_acknowledged_by}
 use Rattle.mmtel_reliable.specs.Racks.{greatest_number}
-use Rattle.mmtel_reliable.specs.Traces.{acknowledged_responses, events_with_ack, AcksOperation, Event, events_of, is_acknowledged, last_number, acks_after, responses_of_attempt, relayed_responses, events_with_relay, unacknowledged_responses, events_with_operation}
+use Rattle.mmtel_reliable.specs.Traces.{acknowledged_responses, events_with_ack, AcksOperation, Event, events_of, is_acknowledged, last_number, acks_after}
+use Rattle.mmtel_reliable.specs.Traces.{responses_of_attempt, relayed_responses, events_with_relay, unacknowledged_responses, events_with_operation}
 use Rattle.mmtel_reliable.specs.Traces.{Relays, Acknowledges, LeavesAttempt}
 use Rattle.mmtel_reliable.specs.Traces.{Relayed, Acknowledged, AttemptLeft}
 use Rattle.mmtel_reliable.specs.declared.racks.Rack.{Rack}
@@ -134,11 +135,13 @@ module _ (events : List Event) (answer : ReliableResponse) (kept : IsKept events
       let waiting_below : AllBelow answer.own (unacknowledged_responses events) =
       highest (unacknowledged_responses events) (filtered_below _ (λ (other : ReliableResponse). not (is_acknowledged events other)) (responses_of_attempt events) kept.attempt_below) in
       record {
-        attempt_below = all_end (λ (other : ReliableResponse). other.own < length (relayed_responses (Relayed answer ∷ events)) + 1) (responses_of_attempt events) answer (all_lower _ _ (responses_of_attempt events) more kept.attempt_below) within;
+        attempt_below = all_end (λ (other : ReliableResponse). other.own < length (relayed_responses (Relayed answer ∷ events)) + 1) (responses_of_attempt events) answer
+            (all_lower _ _ (responses_of_attempt events) more kept.attempt_below) within;
         others_below = all_lower _ _ (acknowledged_responses events) more kept.others_below;
         waiting_rise = rw unacknowledged_relayed (rise_end (unacknowledged_responses events) answer kept.waiting_rise waiting_below);
         others_rise = kept.others_rise;
-        above = rw unacknowledged_relayed (all_end (λ (other : ReliableResponse). AllBelow other.own (acknowledged_responses events)) (unacknowledged_responses events) answer kept.above (highest (acknowledged_responses events) kept.others_below));
+        above = rw unacknowledged_relayed (all_end (λ (other : ReliableResponse). AllBelow other.own (acknowledged_responses events)) (unacknowledged_responses events) answer kept.above
+            (highest (acknowledged_responses events) kept.others_below));
       }
 
 module _ (events : List Event) (answer : ReliableResponse) (rest : List ReliableResponse) (kept : IsKept events) (first : unacknowledged_responses events ≡ answer ∷ rest) where
@@ -150,7 +153,8 @@ module _ (events : List Event) (answer : ReliableResponse) (rest : List Reliable
 
   pub unacknowledged_acknowledged : unacknowledged_responses (Acknowledged answer ∷ events) ≡ rest
   unacknowledged_acknowledged =
-      left_out_same (is_acknowledged (Acknowledged answer ∷ events)) (λ other. is_acknowledged events other || (answer.own == other.own || false)) (λ other. any_end other.own (acknowledged_responses events) answer) (responses_of_attempt events)
+      left_out_same (is_acknowledged (Acknowledged answer ∷ events)) (λ other. is_acknowledged events other || (answer.own == other.own || false))
+      (λ other. any_end other.own (acknowledged_responses events) answer) (responses_of_attempt events)
       ∙ left_out_both (is_acknowledged events) (λ other. answer.own == other.own) (responses_of_attempt events)
       ∙ ap (left_out (λ other. answer.own == other.own)) first
       ∙ first_left_out answer rest rises.0
@@ -163,7 +167,8 @@ module _ (events : List Event) (answer : ReliableResponse) (rest : List Reliable
   pub kept_acknowledged : IsKept (Acknowledged answer ∷ events)
   kept_acknowledged = record {
     attempt_below = kept.attempt_below;
-    others_below = all_end (λ (other : ReliableResponse). other.own < length (relayed_responses events) + 1) (acknowledged_responses events) answer kept.others_below (first_below _ (λ (other : ReliableResponse). not (is_acknowledged events other)) (responses_of_attempt events) answer rest kept.attempt_below first);
+    others_below = all_end (λ (other : ReliableResponse). other.own < length (relayed_responses events) + 1) (acknowledged_responses events) answer kept.others_below
+        (first_below _ (λ (other : ReliableResponse). not (is_acknowledged events other)) (responses_of_attempt events) answer rest kept.attempt_below first);
     waiting_rise = rw unacknowledged_acknowledged rises.1;
     others_rise = rise_end (acknowledged_responses events) answer kept.others_rise aboves.0;
     above = rw unacknowledged_acknowledged (both_below rest rises.0 aboves.1);
@@ -183,14 +188,16 @@ assigned_after rseq own acks e =
     (and_true (comes_next rseq acks.last_relayed) (nat_lt (length acks.waiting) most_waiting) fits.0).0
 
 -- what the PRACK names is the first
-pub named_first : (rack : Rack) (cseq : ℕ) (answers : List ReliableResponse) (answer : ReliableResponse) → response_acknowledged_by rack cseq answers ≡ Some answer → (rest : List ReliableResponse) × (answers ≡ answer ∷ rest)
+pub named_first : (rack : Rack) (cseq : ℕ) (answers : List ReliableResponse) (answer : ReliableResponse) → response_acknowledged_by rack cseq answers ≡ Some answer →
+    (rest : List ReliableResponse) × (answers ≡ answer ∷ rest)
 named_first rack cseq [] answer e = absurd cc
 named_first rack cseq (first ∷ rest) answer e = (rest, ap (λ (x : ReliableResponse). x ∷ rest) (guard_some (is_acknowledged_by rack cseq first) first answer e).1)
 
 module _ (P : List Event → Type 0) (cseq : ℕ) where
   -- what is true of no events, and is preserved by each result of an operation, is true of those of every list of operations
   pub of_deeds : P []
-      → ((events : List Event) (answer : ReliableResponse) → answer.own ≡ length (relayed_responses events) + 1 → comes_next answer.callee (last_number events) ≡ true → IsKept events → P events → P (Relayed answer ∷ events))
+      → ((events : List Event) (answer : ReliableResponse) → answer.own ≡ length (relayed_responses events) + 1 → comes_next answer.callee (last_number events) ≡ true → IsKept events → P events →
+      P (Relayed answer ∷ events))
       → ((events : List Event) (answer : ReliableResponse) (rest : List ReliableResponse) → unacknowledged_responses events ≡ answer ∷ rest → IsKept events → P events → P (Acknowledged answer ∷ events))
       → ((events : List Event) → P events → P (AttemptLeft ∷ events))
       → (ops : List AcksOperation) → IsKept (events_of cseq ops) × P (events_of cseq ops)
@@ -210,7 +217,8 @@ module _ (P : List Event → Type 0) (cseq : ℕ) where
               )
       by_deed (Acknowledges rack) before = by_name (response_acknowledged_by rack cseq (unacknowledged_responses (events_of cseq ops))) refl
         where
-          by_name : (o : Option ReliableResponse) → response_acknowledged_by rack cseq (unacknowledged_responses (events_of cseq ops)) ≡ o → IsKept (events_with_ack o (events_of cseq ops)) × P (events_with_ack o (events_of cseq ops))
+          by_name : (o : Option ReliableResponse) → response_acknowledged_by rack cseq (unacknowledged_responses (events_of cseq ops)) ≡ o →
+              IsKept (events_with_ack o (events_of cseq ops)) × P (events_with_ack o (events_of cseq ops))
           by_name None e = before
           by_name (Some answer) e =
               let first = named_first rack cseq (unacknowledged_responses (events_of cseq ops)) answer e in

@@ -8,7 +8,8 @@ use Rattle.std.specs.List.Sorted.{IsStrictlyIncreasing, IsStrictlySortedBy}
 use Rattle.std.specs.Ordering.{nat_cmp}
 use Rattle.std.specs.declared.cmp.Ordering.TheVariants.{Less}
 use Rattle.mmtel_reliable.specs.Acks.{comes_next}
-use Rattle.mmtel_reliable.specs.Traces.{acknowledged_responses, AreAwaited, numbers_up_to, AcksOperation, Event, events_of, AreConsecutive, is_acknowledged, IsAwaited, last_number, responses_of_attempt, own_numbers, relayed_responses, unacknowledged_responses}
+use Rattle.mmtel_reliable.specs.Traces.{acknowledged_responses, AreAwaited, numbers_up_to, AcksOperation, Event, events_of, AreConsecutive, is_acknowledged}
+use Rattle.mmtel_reliable.specs.Traces.{IsAwaited, last_number, responses_of_attempt, own_numbers, relayed_responses, unacknowledged_responses}
 use Rattle.mmtel_reliable.specs.Traces.{Relayed}
 use Rattle.mmtel_reliable.specs.declared.acks.ReliableResponse.{ReliableResponse}
 use Rattle.mmtel_reliable.proofs.EventTheorems.{AllAbove, kept, of_deeds, one_more, Rise}

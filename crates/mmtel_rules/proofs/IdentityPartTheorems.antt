@@ -31,18 +31,21 @@ module _ (asks asks2 : Who → Bool) (k : FactsView) where
   further_parts None rest a = a
   further_parts (Some who) rest a = a.1
 
-  rules_same : (when : When) (rules : List Rule) → MatchEqually asks asks2 (identity_parts rules) → AllByRecursion (λ r. rule_holds (with_identity_matches k asks) when r ≡ rule_holds (with_identity_matches k asks2) when r) rules
+  rules_same : (when : When) (rules : List Rule) → MatchEqually asks asks2 (identity_parts rules) →
+      AllByRecursion (λ r. rule_holds (with_identity_matches k asks) when r ≡ rule_holds (with_identity_matches k asks2) when r) rules
   rules_same when [] a = tt
   rules_same when (r ∷ rules) a =
       (condition_same when r.condition (first_part r.condition.identity (identity_parts rules) a), rules_same when rules (further_parts r.condition.identity (identity_parts rules) a))
 
-  pub first_same : (when : When) (rules : List Rule) → MatchEqually asks asks2 (identity_parts rules) → first_that_holds (with_identity_matches k asks) when rules ≡ first_that_holds (with_identity_matches k asks2) when rules
+  pub first_same : (when : When) (rules : List Rule) → MatchEqually asks asks2 (identity_parts rules) →
+      first_that_holds (with_identity_matches k asks) when rules ≡ first_that_holds (with_identity_matches k asks2) when rules
   first_same when rules a = position_same (rule_holds (with_identity_matches k asks) when) (rule_holds (with_identity_matches k asks2) when) rules (rules_same when rules a)
 
   through_same : (rules : List Rule) → MatchEqually asks asks2 (identity_parts rules) → list_any (lets_through (with_identity_matches k asks)) rules ≡ list_any (lets_through (with_identity_matches k asks2)) rules
   through_same rules a =
       list_any_same (lets_through (with_identity_matches k asks)) (lets_through (with_identity_matches k asks2)) rules
-      (all_of (λ r. rule_holds (with_identity_matches k asks) arrival r ≡ rule_holds (with_identity_matches k asks2) arrival r) (λ r. lets_through (with_identity_matches k asks) r ≡ lets_through (with_identity_matches k asks2) r) rules
+      (all_of (λ r. rule_holds (with_identity_matches k asks) arrival r ≡ rule_holds (with_identity_matches k asks2) arrival r)
+      (λ r. lets_through (with_identity_matches k asks) r ≡ lets_through (with_identity_matches k asks2) r) rules
       (λ r e. ap (λ b. allows r.action && b) e) (rules_same arrival rules a))
 
   pub barred_same : (rules : List Rule) → MatchEqually asks asks2 (identity_parts rules) → barred_by (with_identity_matches k asks) rules ≡ barred_by (with_identity_matches k asks2) rules

@@ -64,7 +64,8 @@ last_false false b c d e f h = refl
 module _ (k : FactsView) (when : When) (c : Condition) where
   pub outside_window : window_holds k.now c.window ≡ false → condition_holds k when c ≡ false
   unfolding condition_holds
-  outside_window e = third_false (who_holds k.identity_matches c.identity) (fact_holds k.restricted c.anonymous) (window_holds k.now c.window) (media_holds k.media c.media && (further_holds k c && event_holds when c.event)) e
+  outside_window e = third_false (who_holds k.identity_matches c.identity) (fact_holds k.restricted c.anonymous) (window_holds k.now c.window)
+      (media_holds k.media c.media && (further_holds k c && event_holds when c.event)) e
 
   pub no_event : event_holds when c.event ≡ false → condition_holds k when c ≡ false
   unfolding condition_holds

@@ -13,7 +13,9 @@ use Rattle.mmtel_trust.specs.MaskedMessages.{public_part}
 use Rattle.mmtel_types.specs.declared.numbers.Account.{Account}
 use Rattle.mmtel_run_definitions.specs.OwnResponses.{StatusResponse, plain_response, response_with_allow}
 use Rattle.mmtel_run_definitions.specs.Audio.{ConferencesAreForAudio, is_for_conference}
-use Rattle.mmtel_run_definitions.specs.Refusals.{Disposition, JoinConference, OpenConference, Respond, Subscribe, disposition_by_method, disposition, disposition_by, in_dialog_disposition, first_that_applies, entry_into, is_of_no_subscription, is_subscribe, invite_disposition, invite_disposition_at, invite_disposition_to, is_factory, is_register, is_conference, call_opening, refusals, registration_disposition, registration_disposition_of, conference_number, to_account, audio_or_refusal}
+use Rattle.mmtel_run_definitions.specs.Refusals.{Disposition, JoinConference, OpenConference, Respond, Subscribe, disposition_by_method, disposition, disposition_by, in_dialog_disposition}
+use Rattle.mmtel_run_definitions.specs.Refusals.{first_that_applies, entry_into, is_of_no_subscription, is_subscribe, invite_disposition, invite_disposition_at, invite_disposition_to, is_factory}
+use Rattle.mmtel_run_definitions.specs.Refusals.{is_register, is_conference, call_opening, refusals, registration_disposition, registration_disposition_of, conference_number, to_account, audio_or_refusal}
 use Rattle.mmtel_run_definitions.specs.Ownership.{DialogOwner, InCall, InConference, InSubscription}
 
 false_true : false ≡ true → ⊥
@@ -38,7 +40,8 @@ module _ (d : Directory) (full : Bool) (m : ParsedMessage) where
   to_target : (target : Uri) → is_for_conference (invite_disposition_to d full m target) ≡ true → Offers
   to_target target =
       pick Offers (is_factory d.factory target) (audio_or_refusal m OpenConference) _ (with_it (offers_audio m.body) OpenConference)
-      (pick Offers (is_conference d.sip target) (audio_or_refusal m (JoinConference (conference_number d.sip target))) (call_opening full) (with_it (offers_audio m.body) (JoinConference (conference_number d.sip target))) opens)
+      (pick Offers (is_conference d.sip target) (audio_or_refusal m (JoinConference (conference_number d.sip target))) (call_opening full)
+      (with_it (offers_audio m.body) (JoinConference (conference_number d.sip target))) opens)
 
   at_target : (target : Result Uri Refusal) → is_for_conference (invite_disposition_at d full m target) ≡ true → Offers
   at_target (Ok target) = to_target target

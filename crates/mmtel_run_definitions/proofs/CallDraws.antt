@@ -20,17 +20,22 @@ use Rattle.mmtel_call_services.specs.declared.openings.Arrival.{Arrival}
 use Rattle.mmtel_call_services.specs.declared.openings.Service.{Service}
 use Rattle.mmtel_call.specs.Answered.{acknowledges, after_ack_across, after_departure}
 use Rattle.mmtel_call.specs.Closing.{StepResult, call_end, step_result, with_past}
-use Rattle.mmtel_call.specs.Diverting.{after_attempt, at_target, call_after_diversion, call_refusal, diversion_refusal, diversion_step, diversion_unless_refused, divert, is_diverted, on_end, on_next_step, relayed_refusal, with_notification_of, with_unoffered_meter}
-use Rattle.mmtel_call.specs.RelayedTransactions.{on_accepted_in_flight as agreed_in_flight, on_response_in_flight, on_response_relayed, output_after_dismissal, with_all_dismissals, with_dismissal, with_dismissals, without_in_flight}
-use Rattle.mmtel_call.specs.RelayedTransactions.{is_in_flight, is_updating, on_final_relayed, on_timeout_in_flight, on_timeout_relayed, updating_side, with_response_back, with_settled, with_settled_in, without_transaction}
-use Rattle.mmtel_call.specs.OtherRequests.{as_abandoned, is_answered_invite, is_fork, is_success, on_forked_response, on_other_response, on_other_response_at, on_response_abandoned, on_response_answered, on_response_answered_at, with_retransmitted_ack}
+use Rattle.mmtel_call.specs.Diverting.{after_attempt, at_target, call_after_diversion, call_refusal, diversion_refusal, diversion_step, diversion_unless_refused}
+use Rattle.mmtel_call.specs.Diverting.{divert, is_diverted, on_end, on_next_step, relayed_refusal, with_notification_of, with_unoffered_meter}
+use Rattle.mmtel_call.specs.RelayedTransactions.{on_accepted_in_flight as agreed_in_flight, on_response_in_flight, on_response_relayed}
+use Rattle.mmtel_call.specs.RelayedTransactions.{output_after_dismissal, with_all_dismissals, with_dismissal, with_dismissals, without_in_flight}
+use Rattle.mmtel_call.specs.RelayedTransactions.{is_in_flight, is_updating, on_final_relayed, on_timeout_in_flight, on_timeout_relayed}
+use Rattle.mmtel_call.specs.RelayedTransactions.{updating_side, with_response_back, with_settled, with_settled_in, without_transaction}
+use Rattle.mmtel_call.specs.OtherRequests.{as_abandoned, is_answered_invite, is_fork, is_success, on_forked_response, on_other_response, on_other_response_at}
+use Rattle.mmtel_call.specs.OtherRequests.{on_response_abandoned, on_response_answered, on_response_answered_at, with_retransmitted_ack}
 use Rattle.mmtel_call.specs.OtherRequests.{is_stable, on_other_timeout, on_other_timeout_at, on_retransmitted_success}
 use Rattle.mmtel_call.specs.Detaching.{call_finish, finish_of_phase}
 use Rattle.mmtel_call.specs.Opening.{call_after_opening, caller_of, new_call, unless_refused}
 use Rattle.mmtel_call.specs.Reliable.{named_rseq, on_named_prack, on_rack, on_refused_prack, own_rseq_for, rack_in, with_reliable_response}
 use Rattle.mmtel_call.specs.Reinvites.{ends_dialog, on_accepted_reinvite, on_cancel_across, on_provisional_across, on_response_across}
 use Rattle.mmtel_call.specs.Requests.{is_bye, is_invite, is_prack, is_update, with_refused_request, with_unlisted_response}
-use Rattle.mmtel_call.specs.Ringing.{attempt_after_request as attempt_received, call_without_attempt, end_before_answer, on_answer, on_caller_cancel, on_cancel, on_due, on_failure, on_valid_request, with_attempt_cancel, with_no_reply_timer, with_no_reply_timer_in}
+use Rattle.mmtel_call.specs.Ringing.{attempt_after_request as attempt_received, call_without_attempt, end_before_answer, on_answer, on_caller_cancel}
+use Rattle.mmtel_call.specs.Ringing.{on_cancel, on_due, on_failure, on_valid_request, with_attempt_cancel, with_no_reply_timer, with_no_reply_timer_in}
 use Rattle.mmtel_call.specs.Ringing.{offered_request_check, on_attempt_timeout, on_numbered_provisional, on_other, on_prack_of, on_provisional, on_provisional_by, on_request_if, on_response, on_timeout}
 use Rattle.mmtel_call.specs.Ringing.{on_trying}
 use Rattle.mmtel_call.specs.Sending.{with_relay_to_caller, with_status_to, with_status_to_caller}
@@ -165,7 +170,8 @@ target-on left config now caller later cause target c d =
     turn-on left config now caller later (service_at config now c.opening cause target) cause target
     (decision_at config now c.opening (is_diverted c) cause target (service_at config now c.opening cause target) (peer_for config c.opening target)) c d
 
-unless-on : (refusal : Option Cause) (onward : Call → StepOutput → StepResult) (config : CallConfigView) (at : ℕ) (caller : Leg) (c : Call) (d : StepOutput) → On d (onward c d).output → On d (diversion_unless_refused refusal onward config at caller c d).output
+unless-on : (refusal : Option Cause) (onward : Call → StepOutput → StepResult) (config : CallConfigView) (at : ℕ) (caller : Leg) (c : Call) (d : StepOutput) → On d (onward c d).output →
+    On d (diversion_unless_refused refusal onward config at caller c d).output
 unless-on (Some cause) onward config at caller c d on = none d
 unless-on None onward config at caller c d on = on
 
@@ -183,12 +189,15 @@ divert-on (suc left) config now caller service due c d =
     unless-on (diversion_refusal (suc left) config now.at service due c) onward config now.at caller c d
     (then_on d (with_notification_of config due next d) (at_target (divert left config now caller) config now caller (Some due.cause) target next (with_notification_of config due next d)).output told inner)
 
-call_refusal-on : (config : CallConfigView) (at : ℕ) (caller : Leg) (service : Option Service) (m : Option MessageView) (cause : Cause) (c : Call) (d : StepOutput) → On d (relayed_refusal config at caller service m cause c d).output
+call_refusal-on : (config : CallConfigView) (at : ℕ) (caller : Leg) (service : Option Service) (m : Option MessageView) (cause : Cause) (c : Call) (d : StepOutput) →
+    On d (relayed_refusal config at caller service m cause c d).output
 call_refusal-on config at caller service None cause c d = none d
 call_refusal-on config at caller service (Some m) cause c d =
-    either_step (is_status (status_of m.parsed.start) (relayed_status cause)) d (call_end at cause caller.meter None c (with_relay_to_caller config c service m d)) (call_refusal config at caller cause c d) (none d) (none d)
+    either_step (is_status (status_of m.parsed.start) (relayed_status cause)) d (call_end at cause caller.meter None c (with_relay_to_caller config c service m d))
+    (call_refusal config at caller cause c d) (none d) (none d)
 
-end-on : (config : CallConfigView) (now : SnapshotView) (caller : Leg) (service : Option Service) (m : Option MessageView) (end : StepAfterAttemptView) (c : Call) (d : StepOutput) → On d (on_end config now caller service m end c d).output
+end-on : (config : CallConfigView) (now : SnapshotView) (caller : Leg) (service : Option Service) (m : Option MessageView) (end : StepAfterAttemptView) (c : Call) (d : StepOutput) →
+    On d (on_end config now caller service m end c d).output
 end-on config now caller service m EndAnswered c d = none d
 end-on config now caller service m (EndDivert due) c d = divert-on c.diversions.remaining config now caller service due c d
 end-on config now caller service m (EndRefuse cause) c d = call_refusal-on config now.at caller service m cause c d
@@ -203,13 +212,16 @@ with_no_reply_timer_in-on None at attempt c d = none d
 with_no_reply_timer_in-on (Some time) at attempt c d = none d
 
 with_no_reply_timer-on : (code at : ℕ) (attempt : Attempt) (c : Call) (d : StepOutput) → On d (with_no_reply_timer code at attempt c d)
-with_no_reply_timer-on code at attempt c d = either (rings code && not attempt.rang) d (with_no_reply_timer_in (no_reply_time_of (service_sheet attempt.service)) at attempt c d) d (with_no_reply_timer_in-on (no_reply_time_of (service_sheet attempt.service)) at attempt c d) (none d)
+with_no_reply_timer-on code at attempt c d = either (rings code && not attempt.rang) d (with_no_reply_timer_in (no_reply_time_of (service_sheet attempt.service)) at attempt c d) d
+    (with_no_reply_timer_in-on (no_reply_time_of (service_sheet attempt.service)) at attempt c d) (none d)
 
-reliably-on : (o : Option ℕ) (rseq : ℕ) (config : CallConfigView) (at : ℕ) (x : OfferedAttempt) (key : TKey) (m : MessageView) (code : ℕ) (c : Call) (d : StepOutput) → On d (on_numbered_provisional o rseq config at x key m code c d).output
+reliably-on : (o : Option ℕ) (rseq : ℕ) (config : CallConfigView) (at : ℕ) (x : OfferedAttempt) (key : TKey) (m : MessageView) (code : ℕ) (c : Call) (d : StepOutput) →
+    On d (on_numbered_provisional o rseq config at x key m code c d).output
 reliably-on None rseq config at x key m code c d = none d
 reliably-on (Some own) rseq config at x key m code c d = with_no_reply_timer-on code at x.attempt c (with_reliable_response config c x.attempt.service own m d)
 
-on_provisional_by-on : (o : Option ℕ) (config : CallConfigView) (at : ℕ) (x : OfferedAttempt) (key : TKey) (m : MessageView) (code : ℕ) (c : Call) (d : StepOutput) → On d (on_provisional_by o config at x key m code c d).output
+on_provisional_by-on : (o : Option ℕ) (config : CallConfigView) (at : ℕ) (x : OfferedAttempt) (key : TKey) (m : MessageView) (code : ℕ) (c : Call) (d : StepOutput) →
+    On d (on_provisional_by o config at x key m code c d).output
 on_provisional_by-on None config at x key m code c d = with_no_reply_timer-on code at x.attempt c (with_relay_to_caller config c x.attempt.service m d)
 on_provisional_by-on (Some rseq) config at x key m code c d = reliably-on (own_rseq_for rseq x m c) rseq config at x key m code c d
 
@@ -240,13 +252,15 @@ due-on : (what : DueWord) (config : CallConfigView) (now : SnapshotView) (x : Of
 due-on (due.NoReply number) config now x c d = either_step (number == x.attempt.number) d (on_attempt_timeout config now x NoReply c d) (step_result c d) (timed-on config now x NoReply c d) (none d)
 due-on (due.NoPrack own) config now x c d =
     either_step (has_own own c.acks.waiting) d (end_before_answer causes.Unacknowledged config now.at x c d) (step_result c d) (end_before_answer-on causes.Unacknowledged config now.at x c d) (none d)
-due-on (due.Cap number) config now x c d = either_step (number == x.attempt.number) d (on_attempt_timeout config now x (end_by_time x.attempt.rang) c d) (step_result c d) (timed-on config now x (end_by_time x.attempt.rang) c d) (none d)
+due-on (due.Cap number) config now x c d =
+    either_step (number == x.attempt.number) d (on_attempt_timeout config now x (end_by_time x.attempt.rang) c d) (step_result c d) (timed-on config now x (end_by_time x.attempt.rang) c d) (none d)
 due-on (due.NoAck number) config now x c d = none d
 due-on (due.Expired number) config now x c d = none d
 
 cancel-on : (config : CallConfigView) (at : ℕ) (x : OfferedAttempt) (key : TKey) (m : MessageView) (invite : TKey) (c : Call) (d : StepOutput) → On d (on_cancel config at x key m invite c d).output
 cancel-on config at x key m invite c d =
-    either_step (invite.0 == c.opening.key.0) d (on_caller_cancel config at x c (with_status_to config c key m 200 d)) (step_result c (with_status_to config c key m 200 d)) (on_caller_cancel-on config at x c (with_status_to config c key m 200 d)) (none d)
+    either_step (invite.0 == c.opening.key.0) d (on_caller_cancel config at x c (with_status_to config c key m 200 d)) (step_result c (with_status_to config c key m 200 d))
+    (on_caller_cancel-on config at x c (with_status_to config c key m 200 d)) (none d)
 
 -- the response that awaits its PRACK is no longer retransmitted
 with_settled-on : (config : CallConfigView) (own : Option ℕ) (c : Call) (d : StepOutput) → On d (with_settled config own c d)
@@ -267,7 +281,8 @@ prack_of-on Caller config x key m c d = rack-on config x key m (rack_in m) c d
 prack_of-on Callee config x key m c d = none d
 
 -- an UPDATE, which goes to the other side if none is in flight
-updating_side-on : (o : Option Side) (across : Call → StepOutput → StepResult) (config : CallConfigView) (side : Side) (key : TKey) (m : MessageView) (c : Call) (d : StepOutput) → On d (across c d).output → On d (unless_updating o across config side key m c d).output
+updating_side-on : (o : Option Side) (across : Call → StepOutput → StepResult) (config : CallConfigView) (side : Side) (key : TKey) (m : MessageView) (c : Call) (d : StepOutput) →
+    On d (across c d).output → On d (unless_updating o across config side key m c d).output
 updating_side-on None across config side key m c d on = on
 updating_side-on (Some other) across config side key m c d on = either_step (is_same_side other side) d _ _ (none d) (none d)
 
@@ -293,7 +308,8 @@ step_of_receiver-on config at x Caller key m c d =
     (other_offered-on config x Caller key m c d)
 step_of_receiver-on config at x Callee key m c d = other_offered-on config x Callee key m c d
 
-request_if-on : (r : Result (Unit {0}) DialogueFault) (config : CallConfigView) (at : ℕ) (x : OfferedAttempt) (side : Side) (key : TKey) (m : MessageView) (c : Call) (d : StepOutput) → On d (on_request_if r config at x side key m c d).output
+request_if-on : (r : Result (Unit {0}) DialogueFault) (config : CallConfigView) (at : ℕ) (x : OfferedAttempt) (side : Side) (key : TKey) (m : MessageView) (c : Call) (d : StepOutput) →
+    On d (on_request_if r config at x side key m c d).output
 request_if-on (Ok received) config at x side key m c d = step_of_receiver-on config at (attempt_received side m x) side key m (record c { phase = Offered (attempt_received side m x) }) d
 request_if-on (Err fault) config at x side key m c d = with_refused_request-on config c key m fault d
 
@@ -313,16 +329,19 @@ call_without_attempt-on (Reinviting asking q) config at x side m c d = once d
 
 bye-on : (stage : Stage) (config : CallConfigView) (at : ℕ) (x : EstablishedLegs) (side : Side) (key : TKey) (m : MessageView) (c : Call) (d : StepOutput) → On d (on_bye stage config at x side key m c d).output
 bye-on stage config at x side key m c d =
-    either_step (has_departed stage side) d (step_result c (with_status_to config c key m 481 d)) (after_bye_at stage config at x side m c (with_status_to config c key m 200 d)) (none d) (call_without_attempt-on stage config at x side m c (with_status_to config c key m 200 d))
+    either_step (has_departed stage side) d (step_result c (with_status_to config c key m 481 d)) (after_bye_at stage config at x side m c (with_status_to config c key m 200 d)) (none d)
+    (call_without_attempt-on stage config at x side m c (with_status_to config c key m 200 d))
 
-step_of_receiver_at-on : (stage : Stage) (config : CallConfigView) (at : ℕ) (x : EstablishedLegs) (side : Side) (key : TKey) (m : MessageView) (c : Call) (d : StepOutput) → On d (on_valid_request_at stage config at x side key m c d).output
+step_of_receiver_at-on : (stage : Stage) (config : CallConfigView) (at : ℕ) (x : EstablishedLegs) (side : Side) (key : TKey) (m : MessageView) (c : Call) (d : StepOutput) →
+    On d (on_valid_request_at stage config at x side key m c d).output
 step_of_receiver_at-on stage config at x side key m c d =
     either_step (is_invite m) d (on_invite stage config x side key m c d) _ (invite-on stage config x side key m c d)
     (either_step (is_bye m) d (on_bye stage config at x side key m c d) _ (bye-on stage config at x side key m c d)
     (either_step (is_update m) d (on_update_at stage config x side key m c d) _ (update_at-on stage config x side key m c d)
     (either_step (is_prack m) d (on_refused_prack config key m c d) (step_result c (with_unlisted_response config c key m d)) (none d) (in_order-on config c key m d))))
 
-request_at_if-on : (r : Result (Unit {0}) DialogueFault) (stage : Stage) (config : CallConfigView) (at : ℕ) (x : EstablishedLegs) (side : Side) (key : TKey) (m : MessageView) (c : Call) (d : StepOutput) → On d (on_request_at_if r stage config at x side key m c d).output
+request_at_if-on : (r : Result (Unit {0}) DialogueFault) (stage : Stage) (config : CallConfigView) (at : ℕ) (x : EstablishedLegs) (side : Side) (key : TKey) (m : MessageView) (c : Call) (d : StepOutput) →
+    On d (on_request_at_if r stage config at x side key m c d).output
 request_at_if-on (Ok received) stage config at x side key m c d = step_of_receiver_at-on stage config at _ side key m _ d
 request_at_if-on (Err fault) stage config at x side key m c d = with_refused_request-on config c key m fault d
 
@@ -338,9 +357,11 @@ cancel_at-on (Departing waiting success) config x invite c d = none d
 cancel_at-on Stable config x invite c d = none d
 cancel_at-on (Reinviting asking q) config x invite c d = either_step (invite.0 == q.key.0) d (on_cancel_across config x asking q c d) (step_result c d) (with_due_cancel-on config.sip q.invite d) (none d)
 
-across-on : (config : CallConfigView) (at : ℕ) (x : EstablishedLegs) (side : Side) (q : Reinvite) (key : TKey) (m : MessageView) (code : ℕ) (c : Call) (d : StepOutput) → On d (on_response_across config at x side q key m code c d).output
+across-on : (config : CallConfigView) (at : ℕ) (x : EstablishedLegs) (side : Side) (q : Reinvite) (key : TKey) (m : MessageView) (code : ℕ) (c : Call) (d : StepOutput) →
+    On d (on_response_across config at x side q key m code c d).output
 across-on config at x side q key m code c d =
-    either_step (nat_lt code 200) d (on_provisional_across config x side q key c d) _ (notified-on q.cancel_due d (with_due_cancel config.sip (with_provisional key q.invite) d) (with_due_cancel-on config.sip (with_provisional key q.invite) d))
+    either_step (nat_lt code 200) d (on_provisional_across config x side q key c d) _
+    (notified-on q.cancel_due d (with_due_cancel config.sip (with_provisional key q.invite) d) (with_due_cancel-on config.sip (with_provisional key q.invite) d))
     (either_step (nat_lt code 300) d (on_accepted_reinvite config at x side q key m c d) _ (none d)
     (either_step (ends_dialog code) d _ _ (twice d) (none d)))
 
@@ -400,7 +421,8 @@ step_of_signal-on config key m at (Some t) c d =
     (notified-on (is_stable c.phase) d (with_retransmitted_ack t t.invite.ack d) (again-on t t.invite.ack d)))
 
 -- what is in flight
-on_accepted_reinvite-on : (kind : RelayedKind) (config : CallConfigView) (at : ℕ) (side : Side) (request response : MessageView) (c : Call) (d : StepOutput) → On d (agreed_in_flight kind config at side request response c d).output
+on_accepted_reinvite-on : (kind : RelayedKind) (config : CallConfigView) (at : ℕ) (side : Side) (request response : MessageView) (c : Call) (d : StepOutput) →
+    On d (agreed_in_flight kind config at side request response c d).output
 on_accepted_reinvite-on Prack config at side request response c d = none d
 on_accepted_reinvite-on Update config at side request response c d = none d
 
@@ -507,7 +529,8 @@ due_in-on (Over cause) config now what c d = none d
 on_response_to-on : (o : Option (List ℕ)) (config : CallConfigView) (now : SnapshotView) (key : TKey) (m : MessageView) (c : Call) (d : StepOutput) → On d (on_response_to o config now key m c d).output
 on_response_to-on None config now key m c d = none d
 on_response_to-on (Some branch) config now key m c d =
-    either_step (is_current branch c) d (response_in c.phase config now key m c d) (on_other_response config now.at key m branch c d) (response_in-on c.phase config now key m c d) (other-on config now.at key m branch c d)
+    either_step (is_current branch c) d (response_in c.phase config now key m c d) (on_other_response config now.at key m branch c d) (response_in-on c.phase config now key m c d)
+    (other-on config now.at key m branch c d)
 
 on_timeout_of-on : (o : Option (List ℕ)) (config : CallConfigView) (now : SnapshotView) (c : Call) (d : StepOutput) → On d (on_timeout_of o config now c d).output
 on_timeout_of-on None config now c d = none d
@@ -528,7 +551,8 @@ step-on : (config : CallConfigView) (now : SnapshotView) (x : Signal) (c : Call)
 unfolding step
 step-on config now x c d =
     either_step (leaves x c) d (transition config now x (without_in_flight c) (output_after_dismissal config c d)) (transition config now x c d)
-    (then_on d (output_after_dismissal config c d) (transition config now x (without_in_flight c) (output_after_dismissal config c d)).output (output_after_dismissal-on config c d) (transition-on config now x (without_in_flight c) (output_after_dismissal config c d))) (transition-on config now x c d)
+    (then_on d (output_after_dismissal config c d) (transition config now x (without_in_flight c) (output_after_dismissal config c d)).output (output_after_dismissal-on config c d)
+    (transition-on config now x (without_in_flight c) (output_after_dismissal config c d))) (transition-on config now x c d)
 
 -- ---- how it opens
 
@@ -580,7 +604,8 @@ module _ (config : CallConfigView) (at : ℕ) (view : SheetsInForce) where
 finish_of_phase-on : (p : Phase) (config : CallConfigView) (at : ℕ) (c : Call) (d : StepOutput) → On d (finish_of_phase p config at c d).output
 finish_of_phase-on (Offered x) config at c d = none d
 finish_of_phase-on (Established x stage) config at c d = none d
-finish_of_phase-on (Detached detached) config at c d = then_on d (output_after_dismissal config c d) (finish_of_phase (Detached detached) config at c d).output (output_after_dismissal-on config c d) (once (output_after_dismissal config c d))
+finish_of_phase-on (Detached detached) config at c d =
+    then_on d (output_after_dismissal config c d) (finish_of_phase (Detached detached) config at c d).output (output_after_dismissal-on config c d) (once (output_after_dismissal config c d))
 finish_of_phase-on (Over cause) config at c d = none d
 
 finish_step-on : (config : CallConfigView) (at : ℕ) (d : StepOutput) (e : Entry) → On d (finish_step config at d e).output

@@ -83,7 +83,8 @@ is_rung (signal.Silent branch method) = true
 is_rung (signal.Due call what) = true
 is_rung (signal.Over key) = true
 
-pub fades : (config : CallConfigView) (at : ℕ) (view : SheetsInForce) (number : ℕ) (x : table.Signal) (es : List Entry) (output : StepOutput) → is_rung x ≡ true → Fades es output (step_of_signal config at view number x es output)
+pub fades : (config : CallConfigView) (at : ℕ) (view : SheetsInForce) (number : ℕ) (x : table.Signal) (es : List Entry) (output : StepOutput) → is_rung x ≡ true →
+    Fades es output (step_of_signal config at view number x es output)
 unfolding step_of_signal
 fades config at view number (signal.Arrived key invite served registration identities) es output is = absurd cc
 fades config at view number (signal.Request call side key request) es output is = absurd cc

@@ -18,7 +18,8 @@ use Rattle.mmtel_call.specs.declared.calls.Stage.TheVariants.{Answered, Departin
 use Rattle.mmtel_call.specs.declared.calls.OfferedAttempt.{OfferedAttempt}
 use Rattle.mmtel_call.specs.Closing.{StepResult, call_end, step_result, with_past}
 use Rattle.mmtel_call.specs.Sending.{with_relay_to_caller}
-use Rattle.mmtel_call.specs.Diverting.{after_attempt, at_target, call_after_diversion, call_refusal, diversion_refusal, diversion_step, diversion_unless_refused, divert, is_diverted, on_end, on_next_step, relayed_refusal, with_notification_of, with_unoffered_meter}
+use Rattle.mmtel_call.specs.Diverting.{after_attempt, at_target, call_after_diversion, call_refusal, diversion_refusal, diversion_step, diversion_unless_refused}
+use Rattle.mmtel_call.specs.Diverting.{divert, is_diverted, on_end, on_next_step, relayed_refusal, with_notification_of, with_unoffered_meter}
 use Rattle.mmtel_call.specs.Dismissal.{leaves_on_due, leaves_on_timeout, leaves_on_timeout_at, leaves_on_timer}
 use Rattle.mmtel_call.specs.RelayedTransactions.{is_in_flight, on_timeout_in_flight, on_timeout_relayed, output_after_dismissal, without_in_flight, without_transaction}
 use Rattle.mmtel_call.specs.OtherRequests.{on_other_timeout, on_other_timeout_at, without_key, without_timed_out}
@@ -98,7 +99,8 @@ divert-leaves (suc left) config now caller service due c output =
 
 -- ---- after an attempt
 
-call_refusal-leaves : (config : CallConfigView) (at : ℕ) (caller : Leg) (service : Option Service) (m : Option MessageView) (cause : Cause) (c : Call) (output : StepOutput) → Leaves 0 c (relayed_refusal config at caller service m cause c output)
+call_refusal-leaves : (config : CallConfigView) (at : ℕ) (caller : Leg) (service : Option Service) (m : Option MessageView) (cause : Cause) (c : Call) (output : StepOutput) →
+    Leaves 0 c (relayed_refusal config at caller service m cause c output)
 call_refusal-leaves config at caller service None cause c output = omega arith
 call_refusal-leaves config at caller service (Some m) cause c output = go (is_status (status_in m.parsed.start) (relayed_status cause))
   where
@@ -106,12 +108,14 @@ call_refusal-leaves config at caller service (Some m) cause c output = go (is_st
     go true = omega arith
     go false = omega arith
 
-end-leaves : (config : CallConfigView) (now : SnapshotView) (caller : Leg) (service : Option Service) (m : Option MessageView) (end : StepAfterAttemptView) (c : Call) (output : StepOutput) → Leaves (1 + c.diversions.remaining) c (on_end config now caller service m end c output)
+end-leaves : (config : CallConfigView) (now : SnapshotView) (caller : Leg) (service : Option Service) (m : Option MessageView) (end : StepAfterAttemptView) (c : Call) (output : StepOutput) →
+    Leaves (1 + c.diversions.remaining) c (on_end config now caller service m end c output)
 end-leaves config now caller service m EndAnswered c output = omega arith
 end-leaves config now caller service m (EndDivert due) c output = divert-leaves c.diversions.remaining config now caller service due c output
 end-leaves config now caller service m (EndRefuse cause) c output = let none = call_refusal-leaves config now.at caller service m cause c output in omega (arith, none)
 
-goes-leaves : (config : CallConfigView) (now : SnapshotView) (x : OfferedAttempt) (how : AttemptEndView) (m : Option MessageView) (c : Call) (output : StepOutput) → Leaves (1 + c.diversions.remaining) c (after_attempt config now x how m c output)
+goes-leaves : (config : CallConfigView) (now : SnapshotView) (x : OfferedAttempt) (how : AttemptEndView) (m : Option MessageView) (c : Call) (output : StepOutput) →
+    Leaves (1 + c.diversions.remaining) c (after_attempt config now x how m c output)
 goes-leaves config now x how m c output =
     end-leaves config now x.caller x.attempt.service m (decision_after c.opening now.at (is_diverted c) x.attempt.service how) (with_past x.callee.leg.meter c) output
 
@@ -142,7 +146,8 @@ silenced-fewer : (b : Bool) (config : CallConfigView) (now : SnapshotView) (x : 
 silenced-fewer true config now x c output is leaves = absurd (let f : false ≡ true = leaves in cc)
 silenced-fewer false config now x c output is leaves = fewer x c (after_attempt config now x (NotReachable 408) None c output) is (goes-leaves config now x (NotReachable 408) None c output)
 
-across-fewer : (stage : Stage) (config : CallConfigView) (at : ℕ) (x : EstablishedLegs) (c : Call) (output : StepOutput) → c.phase ≡ Established x stage → leaves_on_timeout_at stage ≡ true → Fewer c (on_timeout_at stage config at x c output)
+across-fewer : (stage : Stage) (config : CallConfigView) (at : ℕ) (x : EstablishedLegs) (c : Call) (output : StepOutput) → c.phase ≡ Established x stage → leaves_on_timeout_at stage ≡ true →
+    Fewer c (on_timeout_at stage config at x c output)
 across-fewer (Answered waiting success) config at x c output is leaves = absurd (let f : false ≡ true = leaves in cc)
 across-fewer (Departing waiting success) config at x c output is leaves = absurd (let f : false ≡ true = leaves in cc)
 across-fewer Stable config at x c output is leaves = absurd (let f : false ≡ true = leaves in cc)
@@ -155,7 +160,8 @@ silence-fewer (Detached detached) config now c output is leaves = absurd (let f 
 silence-fewer (Over cause) config now c output is leaves = absurd (let f : false ≡ true = leaves in cc)
 
 -- where that does not change the call
-rang-stays : (b : Bool) (config : CallConfigView) (now : SnapshotView) (x : OfferedAttempt) (c : Call) (output : StepOutput) → not b ≡ false → Wanes c output (if b then step_result c output else after_attempt config now x (NotReachable 408) None c output)
+rang-stays : (b : Bool) (config : CallConfigView) (now : SnapshotView) (x : OfferedAttempt) (c : Call) (output : StepOutput) → not b ≡ false →
+    Wanes c output (if b then step_result c output else after_attempt config now x (NotReachable 408) None c output)
 rang-stays true config now x c output stay = stays c c output refl
 rang-stays false config now x c output stay = absurd (let f : true ≡ false = stay in cc)
 
@@ -193,7 +199,8 @@ other-wanes (Some at) config branch c output = stays c (without_timed_out branch
 abbrev silence_row : (now_on : Bool) → CallConfigView → SnapshotView → (branch : List ℕ) → Call → StepOutput → StepResult
 silence_row now_on config now branch c output = if now_on then timeout_in c.phase config now c output else on_other_timeout config branch c output
 
-silent-stays : (b : Bool) (config : CallConfigView) (now : SnapshotView) (branch : List ℕ) (c : Call) (output : StepOutput) → b && leaves_on_timeout c.phase ≡ false → Wanes c output (silence_row b config now branch c output)
+silent-stays : (b : Bool) (config : CallConfigView) (now : SnapshotView) (branch : List ℕ) (c : Call) (output : StepOutput) → b && leaves_on_timeout c.phase ≡ false →
+    Wanes c output (silence_row b config now branch c output)
 silent-stays true config now branch c output stay = silence-stays c.phase config now c output stay
 silent-stays false config now branch c output stay = other-wanes (position (is_of_branch branch) c.abandoned) config branch c output
 
@@ -205,18 +212,22 @@ silent-fewer false config now branch c output leave = absurd (let f : false ≡ 
 without_in_flight-fewer : (c : Call) (s : StepResult) → Fewer (without_in_flight c) s → Fewer c s
 without_in_flight-fewer c s less = let few : suc (ways s.call) ≤ ways_in c.phase c.diversions.remaining + 0 = less in omega (arith, few)
 
-on_timeout_of-stays : (branch : Option (List ℕ)) (config : CallConfigView) (now : SnapshotView) (c : Call) (output : StepOutput) → leaves_on_timeout_of branch c ≡ false → Wanes c output (on_timeout_of branch config now c output)
+on_timeout_of-stays : (branch : Option (List ℕ)) (config : CallConfigView) (now : SnapshotView) (c : Call) (output : StepOutput) → leaves_on_timeout_of branch c ≡ false →
+    Wanes c output (on_timeout_of branch config now c output)
 on_timeout_of-stays None config now c output stay = stays c c output refl
 on_timeout_of-stays (Some branch) config now c output stay = silent-stays (is_current branch c) config now branch c output stay
 
-on_timeout_of-fewer : (branch : Option (List ℕ)) (config : CallConfigView) (now : SnapshotView) (c : Call) (output : StepOutput) → leaves_on_timeout_of branch c ≡ true → Fewer c (on_timeout_of branch config now (without_in_flight c) output)
+on_timeout_of-fewer : (branch : Option (List ℕ)) (config : CallConfigView) (now : SnapshotView) (c : Call) (output : StepOutput) → leaves_on_timeout_of branch c ≡ true →
+    Fewer c (on_timeout_of branch config now (without_in_flight c) output)
 on_timeout_of-fewer None config now c output leave = absurd (let f : false ≡ true = leave in cc)
-on_timeout_of-fewer (Some branch) config now c output leave = without_in_flight-fewer c (silence_row (is_current branch c) config now branch (without_in_flight c) output) (silent-fewer (is_current branch c) config now branch (without_in_flight c) output leave)
+on_timeout_of-fewer (Some branch) config now c output leave = without_in_flight-fewer c (silence_row (is_current branch c) config now branch (without_in_flight c) output)
+    (silent-fewer (is_current branch c) config now branch (without_in_flight c) output leave)
 
 -- ---- a timer
 
 -- of an attempt
-timed-fewer : (b : Bool) (config : CallConfigView) (now : SnapshotView) (x : OfferedAttempt) (how : AttemptEndView) (c : Call) (output : StepOutput) → c.phase ≡ Offered x → b ≡ true → Fewer c (if b then on_attempt_timeout config now x how c output else step_result c output)
+timed-fewer : (b : Bool) (config : CallConfigView) (now : SnapshotView) (x : OfferedAttempt) (how : AttemptEndView) (c : Call) (output : StepOutput) → c.phase ≡ Offered x → b ≡ true →
+    Fewer c (if b then on_attempt_timeout config now x how c output else step_result c output)
 timed-fewer true config now x how c output is leave = fewer x c (on_attempt_timeout config now x how c output) is (goes-leaves config now x how None (call_without_attempt x c) (with_attempt_cancel config x output))
 timed-fewer false config now x how c output is leave = absurd (let f : false ≡ true = leave in cc)
 
@@ -225,7 +236,8 @@ given-fewer : (b : Bool) (config : CallConfigView) (now : SnapshotView) (x : Off
 given-fewer true config now x c output is leave = fewer x c (end_before_answer causes.Unacknowledged config now.at x c output) is (omega arith)
 given-fewer false config now x c output is leave = absurd (let f : false ≡ true = leave in cc)
 
-offered-fewer : (what : DueWord) (config : CallConfigView) (now : SnapshotView) (x : OfferedAttempt) (c : Call) (output : StepOutput) → c.phase ≡ Offered x → leaves_on_timer x what c ≡ true → Fewer c (on_due config now x what c output)
+offered-fewer : (what : DueWord) (config : CallConfigView) (now : SnapshotView) (x : OfferedAttempt) (c : Call) (output : StepOutput) → c.phase ≡ Offered x → leaves_on_timer x what c ≡ true →
+    Fewer c (on_due config now x what c output)
 offered-fewer (due.NoReply number) config now x c output is leave = timed-fewer (number == x.attempt.number) config now x NoReply c output is leave
 offered-fewer (due.NoPrack own) config now x c output is leave = given-fewer (has_own own c.acks.waiting) config now x c output is leave
 offered-fewer (due.Cap number) config now x c output is leave = timed-fewer (number == x.attempt.number) config now x (end_by_time x.attempt.rang) c output is leave
@@ -238,7 +250,8 @@ rung-fewer (Departing waiting success) config at x c output is = ends x (Departi
 rung-fewer Stable config at x c output is = ends x Stable c (after_timer_at Stable config at x c output) is refl
 rung-fewer (Reinviting asking q) config at x c output is = ends x (Reinviting asking q) c (after_timer_at (Reinviting asking q) config at x c output) is refl
 
-stage-fewer : (b : Bool) (stage : Stage) (config : CallConfigView) (at : ℕ) (x : EstablishedLegs) (c : Call) (output : StepOutput) → c.phase ≡ Established x stage → b ≡ true → Fewer c (if b then after_timer_at stage config at x c output else step_result c output)
+stage-fewer : (b : Bool) (stage : Stage) (config : CallConfigView) (at : ℕ) (x : EstablishedLegs) (c : Call) (output : StepOutput) → c.phase ≡ Established x stage → b ≡ true →
+    Fewer c (if b then after_timer_at stage config at x c output else step_result c output)
 stage-fewer true stage config at x c output is leave = rung-fewer stage config at x c output is
 stage-fewer false stage config at x c output is leave = absurd (let f : false ≡ true = leave in cc)
 
@@ -267,7 +280,8 @@ unless-stays : (b : Bool) (s : StepResult) (c : Call) (output : StepOutput) → 
 unless-stays true s c output stay = absurd (let f : true ≡ false = stay in cc)
 unless-stays false s c output stay = stays c c output refl
 
-offered-stays : (what : DueWord) (config : CallConfigView) (now : SnapshotView) (x : OfferedAttempt) (c : Call) (output : StepOutput) → leaves_on_timer x what c ≡ false → Wanes c output (on_due config now x what c output)
+offered-stays : (what : DueWord) (config : CallConfigView) (now : SnapshotView) (x : OfferedAttempt) (c : Call) (output : StepOutput) → leaves_on_timer x what c ≡ false →
+    Wanes c output (on_due config now x what c output)
 offered-stays (due.NoReply number) config now x c output stay = unless-stays (number == x.attempt.number) (on_attempt_timeout config now x NoReply c output) c output stay
 offered-stays (due.NoPrack own) config now x c output stay = unless-stays (has_own own c.acks.waiting) (end_before_answer causes.Unacknowledged config now.at x c output) c output stay
 offered-stays (due.Cap number) config now x c output stay = unless-stays (number == x.attempt.number) (on_attempt_timeout config now x (end_by_time x.attempt.rang) c output) c output stay
@@ -291,7 +305,8 @@ is_of_branch_deadline (signal.Due what) = true
 is_of_branch_deadline (signal.Ended key) = true
 
 -- by whether it leaves the attempt, or the call
-by_row : (b : Bool) (x : Signal) (config : CallConfigView) (now : SnapshotView) (c : Call) (output : StepOutput) → (b ≡ false → Wanes c output (transition config now x c output)) → (b ≡ true → Fewer c (transition config now x (without_in_flight c) (output_after_dismissal config c output)))
+by_row : (b : Bool) (x : Signal) (config : CallConfigView) (now : SnapshotView) (c : Call) (output : StepOutput) → (b ≡ false → Wanes c output (transition config now x c output)) →
+    (b ≡ true → Fewer c (transition config now x (without_in_flight c) (output_after_dismissal config c output)))
     → Wanes c output (if b then transition config now x (without_in_flight c) (output_after_dismissal config c output) else transition config now x c output)
 by_row true x config now c output stay leave = inr (leave refl)
 by_row false x config now c output stay leave = stay refl
@@ -306,14 +321,16 @@ transition-stays (signal.Silent branch method) config now c output is stay = on_
 transition-stays (signal.Due what) config now c output is stay = due-stays c.phase config now what c output stay
 transition-stays (signal.Ended key) config now c output is stay = stays c (without_key key c) output refl
 
-transition-fewer : (x : Signal) (config : CallConfigView) (now : SnapshotView) (c : Call) (output : StepOutput) → is_of_branch_deadline x ≡ true → leaves x c ≡ true → Fewer c (transition config now x (without_in_flight c) output)
+transition-fewer : (x : Signal) (config : CallConfigView) (now : SnapshotView) (c : Call) (output : StepOutput) → is_of_branch_deadline x ≡ true → leaves x c ≡ true →
+    Fewer c (transition config now x (without_in_flight c) output)
 unfolding transition
 transition-fewer (signal.Request side key request) config now c output is leave = absurd cc
 transition-fewer (signal.Ack side ack) config now c output is leave = absurd cc
 transition-fewer (signal.Cancel key cancel invite) config now c output is leave = absurd cc
 transition-fewer (signal.Answer key response) config now c output is leave = absurd cc
 transition-fewer (signal.Silent branch method) config now c output is leave = on_timeout_of-fewer (timed_out_branch branch method) config now c output leave
-transition-fewer (signal.Due what) config now c output is leave = without_in_flight-fewer c (due_in c.phase config now what (without_in_flight c) output) (due-fewer c.phase config now what (without_in_flight c) output refl (due-same c.phase what c ∙ leave))
+transition-fewer (signal.Due what) config now c output is leave =
+    without_in_flight-fewer c (due_in c.phase config now what (without_in_flight c) output) (due-fewer c.phase config now what (without_in_flight c) output refl (due-same c.phase what c ∙ leave))
 transition-fewer (signal.Ended key) config now c output is leave = absurd (let f : false ≡ true = leave in cc)
 
 pub wanes : (x : Signal) (config : CallConfigView) (now : SnapshotView) (c : Call) (output : StepOutput) → is_of_branch_deadline x ≡ true → Wanes c output (step config now x c output)

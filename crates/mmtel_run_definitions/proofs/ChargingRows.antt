@@ -37,13 +37,20 @@ use Rattle.mmtel_types.specs.declared.sides.Side.{Side}
 use Rattle.mmtel_run_definitions.specs.Calls.{are_full, arrival_signal, call_config, call_of_invite}
 use Rattle.mmtel_run_definitions.specs.Deadlines.{Deadline, OfCall, OfParticipant, OfServiceTimer, OfSubscription, OfTransaction, ServiceTimer}
 use Rattle.mmtel_run_definitions.specs.Events.{ParsedEvent, Nothing, Refused, Received, WebRequested, TimedEvent, message_in, timed_events}
-use Rattle.mmtel_run_definitions.specs.ChargingRows.{AreFiled, ClosedRow, NoneWaits, RowsAreFiled, RowsAreInOrder, rows_closed, rows_in, rows_of_calls, rows_of_conferences, rows_of_departed, rows_of_step, rows_of_steps, states_of_deadlines, states_of_steps}
+use Rattle.mmtel_run_definitions.specs.ChargingRows.{AreFiled, ClosedRow, NoneWaits, RowsAreFiled, RowsAreInOrder, rows_closed, rows_in, rows_of_calls}
+use Rattle.mmtel_run_definitions.specs.ChargingRows.{rows_of_conferences, rows_of_departed, rows_of_step, rows_of_steps, states_of_deadlines, states_of_steps}
 use Rattle.mmtel_run_definitions.specs.Refusals.{Disposition, Respond, Enter, EnterConference, OpenCall, OpenConference, JoinConference, Register, Subscribe, EnterSubscription, disposition}
-use Rattle.mmtel_run_definitions.specs.Ownership.{DialogOwner, InCall, InSubscription, InConference, OfSubscriptions, OfCalls, OfConferences, Owner, account_of_side, owner_of_key, owner_of_branch, is_of_peer, replacement_in, conference_config, replaced_side}
+use Rattle.mmtel_run_definitions.specs.Ownership.{DialogOwner, InCall, InSubscription, InConference, OfSubscriptions, OfCalls, OfConferences, Owner}
+use Rattle.mmtel_run_definitions.specs.Ownership.{account_of_side, owner_of_key, owner_of_branch, is_of_peer, replacement_in, conference_config, replaced_side}
 use Rattle.mmtel_run_definitions.specs.Run.{after_deadline_if, after_due_deadlines, after_event_in_order, after_events, after_one_deadline, clock_at, first_due_deadline}
 use Rattle.mmtel_web.specs.Uploads.{counts_put_in}
 use Rattle.mmtel_run_definitions.proofs.MailboxFrames.{Stays, after_mailbox_upload_stays, after_subscribe_stays, answered_stays, due_stays, entering_stays}
-use Rattle.mmtel_run_definitions.specs.Transitions.{RunState, subscriptions_in, after_web_reply, after_ack_by, after_adoption_if, adoption_op, after_service_timer, after_classified_message, initial_state, with_next_step, with_call_output, calls_in, after_event, after_cancel, after_cancel_of, output_of_conference_op, with_draws, with_emit, with_emits, after_transaction_end, after_participant_request, after_call_end, after_deadline, after_handover, conference_signal_op, received_now, with_received_action, dialog_owner_in, after_conference_op, join_op, with_call_op, with_conference_output, after_parsed_event, next_tag, after_refer_notify, opening_op, with_retransmission, after_replacing_named, after_replacing_side, after_replaces, after_response_to, after_join_if, after_opening_if, conferences_in, after_due, after_conference_signal, after_call_signal, after_request_timeout, after_detach, after_disposition, tokens_now, after_message}
+use Rattle.mmtel_run_definitions.specs.Transitions.{RunState, subscriptions_in, after_web_reply, after_ack_by, after_adoption_if, adoption_op, after_service_timer, after_classified_message, initial_state}
+use Rattle.mmtel_run_definitions.specs.Transitions.{with_next_step, with_call_output, calls_in, after_event, after_cancel, after_cancel_of, output_of_conference_op, with_draws, with_emit, with_emits}
+use Rattle.mmtel_run_definitions.specs.Transitions.{after_transaction_end, after_participant_request, after_call_end, after_deadline, after_handover, conference_signal_op, received_now, with_received_action}
+use Rattle.mmtel_run_definitions.specs.Transitions.{dialog_owner_in, after_conference_op, join_op, with_call_op, with_conference_output, after_parsed_event, next_tag, after_refer_notify, opening_op}
+use Rattle.mmtel_run_definitions.specs.Transitions.{with_retransmission, after_replacing_named, after_replacing_side, after_replaces, after_response_to, after_join_if, after_opening_if, conferences_in}
+use Rattle.mmtel_run_definitions.specs.Transitions.{after_due, after_conference_signal, after_call_signal, after_request_timeout, after_detach, after_disposition, tokens_now, after_message}
 
 -- ---- CDRs that are one list after another
 
@@ -165,7 +172,8 @@ with_emits_same at (x ∷ xs) w =
 
 module _ (d : Directory) (o : RunState) where
   -- an operation on the calls that closes these CDRs
-  with_call_output_adds : (at : ℕ) (op : TableOp) (output : StepOutput) (w : RunState) → rows_closed (call_config d) (op ∷ w.call_ops) ≡ rows_closed (call_config d) w.call_ops ++ output.rows → AddsParticipants d o w → Adds d o (with_call_output at op output w)
+  with_call_output_adds : (at : ℕ) (op : TableOp) (output : StepOutput) (w : RunState) → rows_closed (call_config d) (op ∷ w.call_ops) ≡ rows_closed (call_config d) w.call_ops ++ output.rows →
+      AddsParticipants d o w → Adds d o (with_call_output at op output w)
   with_call_output_adds at op output w closes e =
       let done : RunState = record w { call_ops = Drops (length output.rows) ∷ op ∷ w.call_ops; drawn = output.tokens.drawn; waiting = w.waiting ++ output.rows } in
       same_adds d o (with_call_output at op output w) done (with_emits_same at output.out done) (record {
@@ -180,7 +188,8 @@ module _ (d : Directory) (o : RunState) where
       })
 
   -- one on the conferences
-  with_conference_output_adds : (at : ℕ) (op : rooms.TableOp) (output : StepOutput) (w : RunState) → (rooms.effects_after (conference_config d) w.conference_ops op).output.rows ≡ output.rows → AddsParticipants d o w → AddsParticipants d o (with_conference_output at op output w)
+  with_conference_output_adds : (at : ℕ) (op : rooms.TableOp) (output : StepOutput) (w : RunState) → (rooms.effects_after (conference_config d) w.conference_ops op).output.rows ≡ output.rows →
+      AddsParticipants d o w → AddsParticipants d o (with_conference_output at op output w)
   with_conference_output_adds at op output w closes e =
       let done : RunState = record w { conference_ops = rooms.Drops (length output.rows) ∷ op ∷ w.conference_ops; waiting = w.waiting ++ output.rows } in
       same_seats d o (with_conference_output at op output w) done (with_emits_same at output.out done) (record {
@@ -250,7 +259,8 @@ module _ (d : Directory) (token : List ℕ) (start : RunState) where
 
   after_due_adds : (x : Due) (w : RunState) → AddsParticipants d start w → Adds d start (after_due d token x w)
   after_due_adds (due.Again peer at text) w e = alone _ (unmoved _ w refl refl refl e)
-  after_due_adds (due.Silent key branch method at) w e = after_request_timeout_adds at branch method (owner_of_branch (timed_out_branch branch method) (behind_cookie branch) (calls_in d w).entries (subscriptions_in w)) w e
+  after_due_adds (due.Silent key branch method at) w e =
+      after_request_timeout_adds at branch method (owner_of_branch (timed_out_branch branch method) (behind_cookie branch) (calls_in d w).entries (subscriptions_in w)) w e
   after_due_adds (due.Over key at) w e = ended_adds at key (owner_of_key key (calls_in d w).entries) w e
   after_due_adds due.Nothing w e = alone w e
 
@@ -468,7 +478,8 @@ module _ (d : Directory) (token : List ℕ) where
   after_events_filed fuel (x ∷ xs) w e =
       let now : ℕ = clock_at w x.at in
       let v : RunState = after_due_deadlines d token fuel now w in
-      after_events_filed fuel xs (after_event_in_order d token fuel x w) (step_filed d v (after_event_in_order d token fuel x w) (after_event_adds d token v now x.parsed x.accepted) (after_due_deadlines_filed fuel now w e))
+      after_events_filed fuel xs (after_event_in_order d token fuel x w)
+      (step_filed d v (after_event_in_order d token fuel x w) (after_event_adds d token v now x.parsed x.accepted) (after_due_deadlines_filed fuel now w e))
 
 pub rows_are_filed : RowsAreFiled
 rows_are_filed d token loaded fuel recorded = after_events_filed d token fuel (timed_events d recorded) (initial_state loaded) (record { closed = []; all = refl; calls = refl; participants = refl })

@@ -9,19 +9,26 @@ use Rattle.mmtel_output.specs.AbandonedInvites.{is_of_branch}
 use Rattle.mmtel_output.specs.Sending.{with_bye}
 use Rattle.mmtel_output.specs.declared.outputs.StepOutput.{StepOutput}
 use Rattle.mmtel_output.specs.declared.sent_invites.AbandonedInvite.{AbandonedInvite}
-use Rattle.mmtel_focus.specs.Responses.{after_ack_retransmission, after_connect, after_end, after_invite_end, after_missing_ack, after_own_ack, after_ringing_limit, has_outstanding_number, invite_after_due_cancel, is_ack_pending, is_success, on_any_response, on_cap, on_due, on_failure, on_no_ack, on_outstanding_response, on_provisional, on_response_to, on_retransmission, on_success, on_timeout, to_tag_of, with_failure_ack, with_invite_cancel}
+use Rattle.mmtel_focus.specs.Responses.{after_ack_retransmission, after_connect, after_end, after_invite_end, after_missing_ack, after_own_ack, after_ringing_limit, has_outstanding_number}
+use Rattle.mmtel_focus.specs.Responses.{invite_after_due_cancel, is_ack_pending, is_success, on_any_response, on_cap, on_due, on_failure, on_no_ack, on_outstanding_response}
+use Rattle.mmtel_focus.specs.Responses.{on_provisional, on_response_to, on_retransmission, on_success, on_timeout, to_tag_of, with_failure_ack, with_invite_cancel}
 use Rattle.mmtel_focus.specs.Operations as rooms
 use Rattle.mmtel_focus.specs.Operations.{TableOp, effects_of, table_after}
 use Rattle.mmtel_focus.specs.Joining.{after_adoption, after_failure_notify, after_invite, after_invite_if_peer, after_join, after_refer, new_conference}
 use Rattle.mmtel_focus.specs.Referrals.{referral_in}
-use Rattle.mmtel_focus.specs.Requests.{after_accepted_refer, acknowledges, after_reinvite, after_response, participant_after_request, is_invite_outstanding, on_ack, on_bye, on_request_in_order, on_checked_request, on_invite, on_referral, on_request, after_refusal, request_check, invite_in_flight, after_trying, after_out_of_order}
+use Rattle.mmtel_focus.specs.Requests.{after_accepted_refer, acknowledges, after_reinvite, after_response, participant_after_request, is_invite_outstanding, on_ack, on_bye, on_request_in_order}
+use Rattle.mmtel_focus.specs.Requests.{on_checked_request, on_invite, on_referral, on_request, after_refusal, request_check, invite_in_flight, after_trying, after_out_of_order}
 use Rattle.mmtel_focus.specs.Conferences.{Conference, StepResult, no_effects, with_output}
 use Rattle.mmtel_focus.specs.ParticipantSignals as of_seat
 use Rattle.mmtel_focus.specs.ParticipantSignals.{ParticipantSignal}
-use Rattle.mmtel_focus.specs.Participants.{after_close, after_close_with, after_dismissal, after_leave, after_notify, after_notify_referrer, after_notify_to, at_participant, at_place, by_participant, dialogue_of, effects_of_dismissal, effects_of_leave, has_seat_number, is_connected, is_creator, is_full, leg_of, participant_after_bye, place_of, with_notify_to_party, with_participant, with_row_of_meter}
+use Rattle.mmtel_focus.specs.Participants.{after_close, after_close_with, after_dismissal, after_leave, after_notify, after_notify_referrer, after_notify_to}
+use Rattle.mmtel_focus.specs.Participants.{at_participant, at_place, by_participant, dialogue_of, effects_of_dismissal, effects_of_leave, has_seat_number, is_connected}
+use Rattle.mmtel_focus.specs.Participants.{is_creator, is_full, leg_of, participant_after_bye, place_of, with_notify_to_party, with_participant, with_row_of_meter}
 use Rattle.mmtel_focus.specs.ConferenceConfig.{ConferenceConfigView}
 use Rattle.mmtel_focus.specs.Table as table
-use Rattle.mmtel_focus.specs.Table.{ConferenceStep, Table, TableStep, access, conference_has_branch, is_provisional, next_room_number, open_result_at, open_result_in, participant_has_branch, step_by_branch, step_by_number, step_if_access, step_of_abandoned_response, step_of_adoption, step_of_join, step_of_notify, step_of_participant, step_of_response, step_of_response_at, step_of_signal, step_of_timeout, step_of_timeout_at, step_result_at, step_result_in, with_abandoned}
+use Rattle.mmtel_focus.specs.Table.{ConferenceStep, Table, TableStep, access, conference_has_branch, is_provisional, next_room_number, open_result_at, open_result_in, participant_has_branch}
+use Rattle.mmtel_focus.specs.Table.{step_by_branch, step_by_number, step_if_access, step_of_abandoned_response, step_of_adoption, step_of_join, step_of_notify, step_of_participant}
+use Rattle.mmtel_focus.specs.Table.{step_of_response, step_of_response_at, step_of_signal, step_of_timeout, step_of_timeout_at, step_result_at, step_result_in, with_abandoned}
 use Rattle.mmtel_output.specs.ResponseMatching.{awaited_request_branch, timed_out_branch}
 use Rattle.mmtel_focus.specs.Texts.{own_status, status_line}
 use Rattle.mmtel_focus.specs.declared.faults.RoomFault.{RoomFault}
@@ -120,7 +127,8 @@ after_dismissal_on : (config : ConferenceConfigView) (now : ℕ) (seat : Partici
 after_dismissal_on config now seat e = by (is_connected seat)
   where
     by : (b : Bool) → On e.output (if b then effects_of_leave now true (participant_after_bye seat) (record e { output = with_bye config.sip (dialogue_of seat) e.output }) else effects_of_leave now false seat e).output
-    by true = then_on e.output (with_bye config.sip (dialogue_of seat) e.output) (effects_of_leave now true (participant_after_bye seat) (record e { output = with_bye config.sip (dialogue_of seat) e.output })).output (once e.output)
+    by true = then_on e.output (with_bye config.sip (dialogue_of seat) e.output)
+        (effects_of_leave now true (participant_after_bye seat) (record e { output = with_bye config.sip (dialogue_of seat) e.output })).output (once e.output)
         (after_leave_on now true (participant_after_bye seat) (record e { output = with_bye config.sip (dialogue_of seat) e.output }))
     by false = after_leave_on now false seat e
 
@@ -131,7 +139,8 @@ after_close_draws : (config : ConferenceConfigView) (now : ℕ) (seats : List Pa
 unfolding after_close
 after_close_draws config now [] s = stays s
 after_close_draws config now (seat ∷ seats) s =
-    then_draws s (after_dismissal config now 0 seat s) (after_close config now seats (after_dismissal config now 0 seat s)) (after_dismissal_draws config now 0 seat s) (after_close_draws config now seats (after_dismissal config now 0 seat s))
+    then_draws s (after_dismissal config now 0 seat s) (after_close config now seats (after_dismissal config now 0 seat s)) (after_dismissal_draws config now 0 seat s)
+    (after_close_draws config now seats (after_dismissal config now 0 seat s))
 
 after_close_with_draws : (config : ConferenceConfigView) (now number : ℕ) (s : StepResult) → Draws s (after_close_with config now number s)
 after_close_with_draws config now number s = draws_if (is_creator number) s (after_close config now s.conference.participants s) s (after_close_draws config now s.conference.participants s) (stays s)
@@ -147,7 +156,8 @@ failure_draws config by code s = after_notify_to_draws config false (own_status 
 
 after_invite_if_peer_draws : (config : ConferenceConfigView) (now by : ℕ) (o : Option Peer) (u : Uri) (s : StepResult) → Draws s (after_invite_if_peer config now by o u s)
 after_invite_if_peer_draws config now by None u s = failure_draws config by 404 s
-after_invite_if_peer_draws config now by (Some peer) u s = draws_if (is_full s.conference) s (after_failure_notify config by 503 s) (after_invite config now by peer u s) (failure_draws config by 503 s) (thrice (output_of_step s))
+after_invite_if_peer_draws config now by (Some peer) u s =
+    draws_if (is_full s.conference) s (after_failure_notify config by 503 s) (after_invite config now by peer u s) (failure_draws config by 503 s) (thrice (output_of_step s))
 
 after_refer_draws : (config : ConferenceConfigView) (now by : ℕ) (o : Option Uri) (s : StepResult) → Draws s (after_refer config now by o s)
 unfolding after_refer
@@ -174,7 +184,8 @@ on_referral_draws config now key m referral.Missing place seat s = stays s
 on_referral_draws config now key m referral.OtherMethod place seat s = stays s
 on_referral_draws config now key m (referral.Invite u) place seat s =
     let tried : StepResult = after_trying config seat.number (after_accepted_refer config key m place seat s) in
-    then_draws s tried (after_refer config now seat.number u tried) (after_notify_to_draws config true (own_status 100) seat.number (after_accepted_refer config key m place seat s)) (after_refer_draws config now seat.number u tried)
+    then_draws s tried (after_refer config now seat.number u tried) (after_notify_to_draws config true (own_status 100) seat.number (after_accepted_refer config key m place seat s))
+    (after_refer_draws config now seat.number u tried)
 on_referral_draws config now key m (referral.Replace r) place seat s = stays s
 
 on_request_in_order_draws : (config : ConferenceConfigView) (now : ℕ) (key : TKey) (m : MessageView) → TransitionDraws (on_request_in_order config now key m)
@@ -191,7 +202,8 @@ after_out_of_order_draws config key m Unfinished place seat s = stays s
 
 on_checked_request_draws : (config : ConferenceConfigView) (now : ℕ) (key : TKey) (m : MessageView) (r : Result (Unit {0}) DialogueFault) → TransitionDraws (on_checked_request config now key m r)
 on_checked_request_draws config now key m (Err fault) place seat s = after_out_of_order_draws config key m fault place seat s
-on_checked_request_draws config now key m (Ok received) place seat s = at_participant_draws (on_request_in_order config now key m) (on_request_in_order_draws config now key m) place (with_participant place (participant_after_request m seat) s)
+on_checked_request_draws config now key m (Ok received) place seat s =
+    at_participant_draws (on_request_in_order config now key m) (on_request_in_order_draws config now key m) place (with_participant place (participant_after_request m seat) s)
 
 on_request_draws : (config : ConferenceConfigView) (now : ℕ) (key : TKey) (m : MessageView) → TransitionDraws (on_request config now key m)
 unfolding on_request
@@ -240,7 +252,8 @@ on_retransmission_draws m tag ack place seat s = draws_if (is_success (status_of
 on_outstanding_response_draws : (config : ConferenceConfigView) (now : ℕ) (key : TKey) (m : MessageView) → TransitionDraws (on_outstanding_response config now key m)
 on_outstanding_response_draws config now key m place seat s =
     draws_if (nat_lt (status_of m.parsed.start) 200) s (on_provisional key place seat s) _ (stays s)
-    (draws_if (nat_lt (status_of m.parsed.start) 300) s (on_success config now m place seat s) (on_failure config now key m place seat s) (on_success_draws config now m place seat s) (on_failure_draws config now key m place seat s))
+    (draws_if (nat_lt (status_of m.parsed.start) 300) s (on_success config now m place seat s) (on_failure config now key m place seat s) (on_success_draws config now m place seat s)
+    (on_failure_draws config now key m place seat s))
 
 on_response_to_draws : (o : Option Invite) (config : ConferenceConfigView) (now : ℕ) (key : TKey) (m : MessageView) → TransitionDraws (on_response_to o config now key m)
 on_response_to_draws None config now key m place seat s = stays s
@@ -253,7 +266,8 @@ on_any_response_draws config now key m place seat s = on_response_to_draws seat.
 
 on_timeout_draws : (config : ConferenceConfigView) (now : ℕ) → TransitionDraws (on_timeout config now)
 unfolding on_timeout
-on_timeout_draws config now place seat s = draws_if (is_invite_outstanding seat.invite) s (after_invite_end config now (own_status 408) place seat s) s (after_invite_end_draws config now (own_status 408) place seat s) (stays s)
+on_timeout_draws config now place seat s =
+    draws_if (is_invite_outstanding seat.invite) s (after_invite_end config now (own_status 408) place seat s) s (after_invite_end_draws config now (own_status 408) place seat s) (stays s)
 
 with_invite_cancel_on : (sip : Addr) (o : Option Invite) (d : StepOutput) → On d (with_invite_cancel sip o d)
 with_invite_cancel_on sip None d = none d
@@ -267,7 +281,8 @@ after_ringing_limit_draws config now place seat s =
     (at_participant_draws (after_end config now (own_status 408)) (after_end_draws config now (own_status 408)) place asked)
 
 on_cap_draws : (config : ConferenceConfigView) (now number : ℕ) → TransitionDraws (on_cap config now number)
-on_cap_draws config now number place seat s = draws_if (not (is_connected seat) && has_outstanding_number number seat.invite) s (after_ringing_limit config now place seat s) s (after_ringing_limit_draws config now place seat s) (stays s)
+on_cap_draws config now number place seat s =
+    draws_if (not (is_connected seat) && has_outstanding_number number seat.invite) s (after_ringing_limit config now place seat s) s (after_ringing_limit_draws config now place seat s) (stays s)
 
 after_missing_ack_draws : (config : ConferenceConfigView) (now : ℕ) → TransitionDraws (after_missing_ack config now)
 after_missing_ack_draws config now place seat s =
@@ -325,7 +340,8 @@ module _ (config : ConferenceConfigView) (now : ℕ) (rooms : List Conference) (
   in_on room seat x = step_result_in_on (table.step_of_first config now (has_seat_number seat) x) (received_draws config now (has_seat_number seat) x) (table.place_of room rooms) rooms e
 
   of_on : (branch : List ℕ) (x : ParticipantSignal) → On e.output (step_by_branch config now branch x rooms e).effects.output
-  of_on branch x = step_result_in_on (table.step_of_first config now (participant_has_branch branch) x) (received_draws config now (participant_has_branch branch) x) (position (conference_has_branch branch) rooms) rooms e
+  of_on branch x = step_result_in_on (table.step_of_first config now (participant_has_branch branch) x) (received_draws config now (participant_has_branch branch) x)
+      (position (conference_has_branch branch) rooms) rooms e
 
   abandoned_answered : (key : TKey) (m : MessageView) (place : ℕ) (o : Option AbandonedInvite) → On e.output (step_of_abandoned_response config.sip key m place o rooms abandoned e).effects.output
   abandoned_answered key m place None = none e.output
@@ -358,11 +374,13 @@ module _ (config : ConferenceConfigView) (now : ℕ) (rooms : List Conference) (
 
 -- ---- an operation
 
-step_of_join_on : (config : ConferenceConfigView) (now room : ℕ) (leg : Released) (account : Option Account) (key : TKey) (m : MessageView) (rooms : List Conference) (e : Effects) → On e.output (step_of_join config now room leg account key m rooms e).effects.output
+step_of_join_on : (config : ConferenceConfigView) (now room : ℕ) (leg : Released) (account : Option Account) (key : TKey) (m : MessageView) (rooms : List Conference) (e : Effects) →
+    On e.output (step_of_join config now room leg account key m rooms e).effects.output
 unfolding step_of_join
 step_of_join_on config now room leg account key m rooms e = step_if_access_on (after_join config now leg account key m) (after_join_draws config now leg account key m) (access room rooms) rooms e
 
-step_of_adoption_on : (config : ConferenceConfigView) (now room : ℕ) (leg : Released) (account : Option Account) (by : ℕ) (rooms : List Conference) (e : Effects) → On e.output (step_of_adoption config now room leg account by rooms e).effects.output
+step_of_adoption_on : (config : ConferenceConfigView) (now room : ℕ) (leg : Released) (account : Option Account) (by : ℕ) (rooms : List Conference) (e : Effects) →
+    On e.output (step_of_adoption config now room leg account by rooms e).effects.output
 unfolding step_of_adoption
 step_of_adoption_on config now room leg account by rooms e = step_if_access_on (after_adoption config now leg account by) (after_adoption_draws config now leg account by) (access room rooms) rooms e
 

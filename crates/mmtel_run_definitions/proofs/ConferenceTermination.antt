@@ -11,10 +11,12 @@ use Rattle.mmtel_focus.specs.Requests.{is_invite_outstanding}
 use Rattle.mmtel_focus.specs.Conferences.{Conference, StepResult, with_output}
 use Rattle.mmtel_focus.specs.ParticipantSignals as of_seat
 use Rattle.mmtel_focus.specs.ParticipantSignals.{ParticipantSignal}
-use Rattle.mmtel_focus.specs.Participants.{after_close, after_dismissal, after_notify, after_notify_referrer, at_participant, at_place, by_participant, has_seat_number, is_connected, is_creator, participant_after_notify, place_of, with_participant}
+use Rattle.mmtel_focus.specs.Participants.{after_close, after_dismissal, after_notify, after_notify_referrer, at_participant, at_place, by_participant}
+use Rattle.mmtel_focus.specs.Participants.{has_seat_number, is_connected, is_creator, participant_after_notify, place_of, with_participant}
 use Rattle.mmtel_focus.specs.ConferenceConfig.{ConferenceConfigView}
 use Rattle.mmtel_focus.specs.Table as table
-use Rattle.mmtel_focus.specs.Table.{ConferenceStep, TableStep, conference_has_branch, participant_has_branch, step_by_branch, step_by_number, step_of_participant, step_of_signal, step_of_timeout, step_of_timeout_at, step_result_at, step_result_by, step_result_in}
+use Rattle.mmtel_focus.specs.Table.{ConferenceStep, TableStep, conference_has_branch, participant_has_branch, step_by_branch, step_by_number}
+use Rattle.mmtel_focus.specs.Table.{step_of_participant, step_of_signal, step_of_timeout, step_of_timeout_at, step_result_at, step_result_by, step_result_in}
 use Rattle.mmtel_output.specs.ResponseMatching.{timed_out_branch}
 use Rattle.mmtel_focus.specs.Texts.{own_status}
 use Rattle.mmtel_participants.specs.declared.effects.Effects.{Effects}
@@ -105,14 +107,16 @@ after_close_if_keeps false config now s = omega arith
 
 -- ---- the transitions of timers
 
-ended_fewer : (config : ConferenceConfigView) (now : ℕ) (line : List ℕ) (place : ℕ) (x : ParticipantState) (s : StepResult) → slice_get s.conference.participants place ≡ Some x → Fewer s (after_end config now line place x s)
+ended_fewer : (config : ConferenceConfigView) (now : ℕ) (line : List ℕ) (place : ℕ) (x : ParticipantState) (s : StepResult) → slice_get s.conference.participants place ≡ Some x →
+    Fewer s (after_end config now line place x s)
 ended_fewer config now line place x s there =
     let gone : Fewer s (after_dismissal config now place x s) = after_dismissal_fewer config now place x s there in
     let told : Keeps (after_dismissal config now place x s) (after_end config now line place x s) = after_notify_referrer_keeps config false line x.by (after_dismissal config now place x s) in
     omega (arith, gone, told)
 
 -- of the participant that is at this place now
-ended_at_fewer : (config : ConferenceConfigView) (now : ℕ) (line : List ℕ) (place : ℕ) (old x : ParticipantState) (s : StepResult) → slice_get s.conference.participants place ≡ Some old → Fewer s (at_participant (after_end config now line) place (with_participant place x s))
+ended_at_fewer : (config : ConferenceConfigView) (now : ℕ) (line : List ℕ) (place : ℕ) (old x : ParticipantState) (s : StepResult) → slice_get s.conference.participants place ≡ Some old →
+    Fewer s (at_participant (after_end config now line) place (with_participant place x s))
 ended_at_fewer config now line place old x s there =
     let v : StepResult = with_participant place x s in
     let is : slice_get v.conference.participants place ≡ Some x = with_participant_there place old x s there in
@@ -136,7 +140,8 @@ no_ack_fewer config now place x s there =
     let rest : Keeps (after_dismissal config now place x s) (after_missing_ack config now place x s) = after_close_if_keeps (is_creator x.number) config now (after_dismissal config now place x s) in
     omega (arith, gone, rest)
 
-due_fades : (config : ConferenceConfigView) (now : ℕ) (what : RoomWord) (place : ℕ) (x : ParticipantState) (s : StepResult) → slice_get s.conference.participants place ≡ Some x → Fades s (on_due config now what place x s)
+due_fades : (config : ConferenceConfigView) (now : ℕ) (what : RoomWord) (place : ℕ) (x : ParticipantState) (s : StepResult) → slice_get s.conference.participants place ≡ Some x →
+    Fades s (on_due config now what place x s)
 unfolding on_due
 due_fades config now (due.Cap number) place x s there =
     fades_if (not (is_connected x) && has_outstanding_number number x.invite) s (after_ringing_limit config now place x s) s (inr (long_fewer config now place x s there)) (stays s)
@@ -151,7 +156,8 @@ is_of_branch_deadline (of_seat.Answer key response) = false
 is_of_branch_deadline of_seat.Silent = true
 is_of_branch_deadline (of_seat.Due what) = true
 
-step_of_participant_fades : (config : ConferenceConfigView) (now : ℕ) (x : ParticipantSignal) (place : ℕ) (seat : ParticipantState) (s : StepResult) → is_of_branch_deadline x ≡ true → slice_get s.conference.participants place ≡ Some seat → Fades s (step_of_participant config now x place seat s)
+step_of_participant_fades : (config : ConferenceConfigView) (now : ℕ) (x : ParticipantSignal) (place : ℕ) (seat : ParticipantState) (s : StepResult) → is_of_branch_deadline x ≡ true →
+    slice_get s.conference.participants place ≡ Some seat → Fades s (step_of_participant config now x place seat s)
 unfolding step_of_participant
 step_of_participant_fades config now (of_seat.Request key request) place seat s is there = absurd cc
 step_of_participant_fades config now (of_seat.Ack ack) place seat s is there = absurd cc
@@ -173,7 +179,8 @@ module _ (config : ConferenceConfigView) (now : ℕ) (x : ParticipantSignal) (is
   room_fades None s = stays s
   room_fades (Some place) s = at_fades place (slice_get s.conference.participants place) s refl
 
-  by_fades : (place : ℕ) (room : Conference) (s : StepResult) (live : List Conference) (e : Effects) → slice_get live place ≡ Some room → Fades (record { conference = room; effects = e }) s → FadesIn live e (step_result_by place s live)
+  by_fades : (place : ℕ) (room : Conference) (s : StepResult) (live : List Conference) (e : Effects) → slice_get live place ≡ Some room → Fades (record { conference = room; effects = e }) s →
+      FadesIn live e (step_result_by place s live)
   by_fades place room s live e there (inl quiet) =
       let put = put_sum seats_of s.effects.closes place room s.conference live there in
       let less : seats_of s.conference ≤ seats_of room = quiet.1 in

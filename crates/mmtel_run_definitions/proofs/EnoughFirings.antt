@@ -33,13 +33,16 @@ use Rattle.mmtel_transaction.specs.Tokens.{TokensView}
 use Rattle.mmtel_transaction.specs.declared.words.Emit.{Emit}
 use Rattle.mmtel_transaction.specs.declared.words.TKey.{TKey}
 use Rattle.mmtel_run_definitions.specs.Calls.{call_config, calls_after}
-use Rattle.mmtel_run_definitions.specs.Deadlines.{Deadline, FirstTimer, OfCall, OfParticipant, OfServiceTimer, OfSubscription, OfTransaction, PendingTimer, ServiceTimer, comes_before, first_deadline, first_due_timer, first_timer, first_timer_if, is_sooner}
+use Rattle.mmtel_run_definitions.specs.Deadlines.{Deadline, FirstTimer, OfCall, OfParticipant, OfServiceTimer, OfSubscription, OfTransaction, PendingTimer}
+use Rattle.mmtel_run_definitions.specs.Deadlines.{ServiceTimer, comes_before, first_deadline, first_due_timer, first_timer, first_timer_if, is_sooner}
 use Rattle.mmtel_run_definitions.specs.Events.{EventRecord, TimedEvent, timed_events}
 use Rattle.mmtel_run_definitions.specs.TopTheorem.{GivesAlways, GivesOnce, MoreChangesNothing}
 use Rattle.mmtel_run_definitions.specs.Records.{in_force}
 use Rattle.mmtel_run_definitions.specs.Ownership.{OfSubscriptions, OfCalls, OfConferences, Owner, owner_of_key, owner_of_branch, conferences_after, conference_config}
-use Rattle.mmtel_run_definitions.specs.Run.{IsEnough, IsEnoughAfter, IsSettled, after_deadline_if, after_due_deadlines, after_event_in_order, after_events, after_one_deadline, clock_at, first_due_deadline, offers_of_run, state_after}
-use Rattle.mmtel_run_definitions.specs.Transitions.{RunState, subscriptions_in, with_draws, next_tag, after_service_timer, initial_state, with_next_step, calls_in, after_event, with_emits, after_transaction_end, after_deadline, conference_signal_op, received_now, conferences_in, after_due, after_conference_signal, after_call_signal, after_request_timeout, tokens_now}
+use Rattle.mmtel_run_definitions.specs.Run.{IsEnough, IsEnoughAfter, IsSettled, after_deadline_if, after_due_deadlines, after_event_in_order}
+use Rattle.mmtel_run_definitions.specs.Run.{after_events, after_one_deadline, clock_at, first_due_deadline, offers_of_run, state_after}
+use Rattle.mmtel_run_definitions.specs.Transitions.{RunState, subscriptions_in, with_draws, next_tag, after_service_timer, initial_state, with_next_step, calls_in, after_event, with_emits, after_transaction_end}
+use Rattle.mmtel_run_definitions.specs.Transitions.{after_deadline, conference_signal_op, received_now, conferences_in, after_due, after_conference_signal, after_call_signal, after_request_timeout, tokens_now}
 use Rattle.mmtel_run_definitions.proofs.EmitFrames.{with_emits_boxes, with_emits_ops, with_emits_rooms}
 use Rattle.mmtel_run_definitions.proofs.ConferenceTermination.{all_seats, rooms_fade}
 use Rattle.mmtel_run_definitions.proofs.ConferenceTermination.{is_rung as is_rung_there}
@@ -97,7 +100,11 @@ module _ (d : Directory) (token : List ℕ) where
   moved_by at x w = step_on_receive_after (call_config d) w.call_ops (received_now token at x w)
 
   abbrev received_in : ℕ → Signal → RunState → RunState
-  received_in at x w = record w { call_ops = Drops (length (moved_by at x w).output.rows) ∷ Receives (received_now token at x w) ∷ w.call_ops; drawn = (moved_by at x w).output.tokens.drawn; waiting = w.waiting ++ (moved_by at x w).output.rows }
+  received_in at x w = record w {
+    call_ops = Drops (length (moved_by at x w).output.rows) ∷ Receives (received_now token at x w) ∷ w.call_ops;
+    drawn = (moved_by at x w).output.tokens.drawn;
+    waiting = w.waiting ++ (moved_by at x w).output.rows;
+  }
 
   -- commands change neither
   with_emits_ways : (at : ℕ) (out : List Emit) (v : RunState) → ways_left (with_emits at out v) ≡ ways_left v
@@ -159,7 +166,8 @@ module _ (d : Directory) (token : List ℕ) where
   table_after_notify_last_quietens at sub s w e =
       let u : RunState = with_mailbox_op (Notifies sub (next_tag token w)) (with_draws 1 w) in
       let some : peer_of sub (subscriptions_in w) ≡ Some s.leg.dialogue.peer = ap (option_map (λ (x : Subscription). x.leg.dialogue.peer)) e in
-      let fewer : suc (length (table_after_end sub (table_after_notify sub (next_tag token w) (subscriptions_in w))).live) ≡ length (subscriptions_in w).live = last_fewer sub (next_tag token w) (subscriptions_in w) s e in
+      let fewer : suc (length (table_after_end sub (table_after_notify sub (next_tag token w) (subscriptions_in w))).live) ≡ length (subscriptions_in w).live =
+      last_fewer sub (next_tag token w) (subscriptions_in w) s e in
       let emits = notify_emits s.leg.dialogue.peer (notify_request d.sip sub true (next_tag token w) at (subscriptions_in w)) in
       let there : after_last_notify d token at sub w ≡ with_mailbox_op (Ends sub) (with_emits at emits u) = ap (λ (o : Option Peer). with_mailbox_op (Ends sub) (after_notify_to_peer d token at sub true o w)) some in
       let calls = with_emits_ops at emits u in
@@ -195,7 +203,8 @@ module _ (d : Directory) (token : List ℕ) where
 
   after_due_quietens : (x : Due) (w : RunState) → Quietens (after_due d token x w) w
   after_due_quietens (due.Again peer at text) w = inl (omega arith, omega arith)
-  after_due_quietens (due.Silent key branch method at) w = after_request_timeout_quietens at branch method (owner_of_branch (timed_out_branch branch method) (behind_cookie branch) (calls_in d w).entries (subscriptions_in w)) w
+  after_due_quietens (due.Silent key branch method at) w =
+      after_request_timeout_quietens at branch method (owner_of_branch (timed_out_branch branch method) (behind_cookie branch) (calls_in d w).entries (subscriptions_in w)) w
   after_due_quietens (due.Over key at) w = table_after_end_quietens at key (owner_of_key key (calls_in d w).entries) w
   after_due_quietens due.Nothing w = inl (omega arith, omega arith)
 
@@ -262,7 +271,8 @@ module _ (d : Directory) (token : List ℕ) where
         alarm_falls now armed others w (ap (λ (l : List PendingTimer). suc (length l)) is.2 ∙ fewer)
 
     fired_falls : (now : ℕ) (x : Deadline) (w : RunState) → first_due_deadline now w ≡ Some x → Falls (after_deadline d token now x w) w
-    fired_falls now x w e = first_falls now x w (subst (IsFirstOf (next_due now (live w.actions)) (first_due_timer now w.pending_timers)) e (is_first (next_due now (live w.actions)) (first_due_timer now w.pending_timers)))
+    fired_falls now x w e = first_falls now x w
+        (subst (IsFirstOf (next_due now (live w.actions)) (first_due_timer now w.pending_timers)) e (is_first (next_due now (live w.actions)) (first_due_timer now w.pending_timers)))
 
     -- ---- enough
 
@@ -280,7 +290,8 @@ module _ (d : Directory) (token : List ℕ) where
           rest v (omega (arith, left, ways)) (omega (arith, waiting, few))
       falls_settle n now v w rest ways few (inr less) = let left : suc (ways_left v) ≤ ways_left w = less in fewer_settle now v (omega (arith, left, ways))
 
-      settles_at : (n now : ℕ) (w : RunState) (o : Option Deadline) → first_due_deadline now w ≡ o → ((u : RunState) → ways_left u ≤ most → suc (waits u) ≤ n → Settles now u) → ways_left w ≤ most → waits w ≤ n → Settles now w
+      settles_at : (n now : ℕ) (w : RunState) (o : Option Deadline) → first_due_deadline now w ≡ o → ((u : RunState) → ways_left u ≤ most → suc (waits u) ≤ n → Settles now u) → ways_left w ≤ most →
+          waits w ≤ n → Settles now w
       settles_at n now w None e rest ways few = (0, e)
       settles_at n now w (Some x) e rest ways few = one_more_settles now x w e (falls_settle n now (after_deadline d token now x w) w rest ways few (fired_falls now x w e))
 

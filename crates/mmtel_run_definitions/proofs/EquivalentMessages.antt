@@ -31,7 +31,9 @@ use Rattle.mmtel_run_definitions.specs.OwnResponses.{StatusResponse, response_to
 use Rattle.mmtel_run_definitions.specs.Events.{message_in}
 use Rattle.mmtel_run_definitions.specs.Calls.{named_by}
 use Rattle.mmtel_run_definitions.specs.Mask.{by_privacy_header, is_hiding, masked_message}
-use Rattle.mmtel_run_definitions.specs.Refusals.{Disposition, JoinConference, OpenConference, Respond, Subscribe, audio_or_refusal, call_opening, conference_number, disposition, disposition_by, disposition_by_method, disposition_of, first_that_applies, invite_disposition, invite_disposition_at, invite_disposition_to, is_conference, is_factory, is_register, is_subscribe, refusals, registrant, registration_disposition, registration_disposition_of, to_account}
+use Rattle.mmtel_run_definitions.specs.Refusals.{Disposition, JoinConference, OpenConference, Respond, Subscribe, audio_or_refusal, call_opening, conference_number, disposition}
+use Rattle.mmtel_run_definitions.specs.Refusals.{disposition_by, disposition_by_method, disposition_of, first_that_applies, invite_disposition, invite_disposition_at, invite_disposition_to}
+use Rattle.mmtel_run_definitions.specs.Refusals.{is_conference, is_factory, is_register, is_subscribe, refusals, registrant, registration_disposition, registration_disposition_of, to_account}
 use Rattle.mmtel_run_definitions.specs.Ownership.{DialogOwner, participant_named_by, subscription_named_by}
 use Rattle.mmtel_run_definitions.specs.OwnResponses.{plain_response, response_with_allow}
 
@@ -110,7 +112,8 @@ module _ (d e : Directory) (equal : EqualButForAccounts d e) where
       else if is_method (codes "INVITE") m.start then invite_disposition e full m
       else c) (registered_same m same))
 
-  disposition_same : (full : Bool) (named : Option DialogOwner) (m : ParsedMessage) (o : Option StatusResponse) → registrant d.names.accounts m ≡ registrant e.names.accounts m → disposition_by d full named m o ≡ disposition_by e full named m o
+  disposition_same : (full : Bool) (named : Option DialogOwner) (m : ParsedMessage) (o : Option StatusResponse) → registrant d.names.accounts m ≡ registrant e.names.accounts m →
+      disposition_by d full named m o ≡ disposition_by e full named m o
   disposition_same full None m None same = method_same full m same
   disposition_same full (Some named) m None same = refl
   disposition_same full named m (Some answer) same = refl
@@ -154,7 +157,8 @@ module _ (d e : Directory) (equal : EqualButForAccounts d e) where
     method_request (Status code phrase) e = absurd (true_false (sym e))
 
     opening_request : is_private by_privacy_header [] m ≡ true → is_request m.start ≡ true
-    opening_request e = method_request m.start (and_true (is_method (codes "INVITE") m.start) (is_none m.to_tag) (and_true m.trusted (is_method (codes "INVITE") m.start && is_none m.to_tag) (and_true (is_opening m) (is_hiding m.wants) e).0).1).0
+    opening_request e = method_request m.start
+        (and_true (is_method (codes "INVITE") m.start) (is_none m.to_tag) (and_true m.trusted (is_method (codes "INVITE") m.start && is_none m.to_tag) (and_true (is_opening m) (is_hiding m.wants) e).0).1).0
 
     -- the private places of From and To are none of a message that opens no restricted call
     no_from : (b : Bool) (es : Entries) → b ≡ false → (joined_fields (private_in_opening_if b) (only_entries es)).from ≡ false
@@ -200,14 +204,16 @@ module _ (d e : Directory) (equal : EqualButForAccounts d e) where
     }
 
   module _ (decides : DecidesEqually) (kept : PublicResponsesAreKept) (heads : EquivalentParsedHaveOneHead) (responses : EquivalentResponsesHaveOneHead) where
-    kin_by : (b : Bool) (peer : Peer) (source : Addr) (m n : ParsedMessage) → trusts d peer ≡ b → masked_message b m ≡ masked_message b n → registrant d.names.accounts m ≡ registrant e.names.accounts n → EquivalentMessages d e peer source m n
+    kin_by : (b : Bool) (peer : Peer) (source : Addr) (m n : ParsedMessage) → trusts d peer ≡ b → masked_message b m ≡ masked_message b n →
+        registrant d.names.accounts m ≡ registrant e.names.accounts n → EquivalentMessages d e peer source m n
     kin_by true peer source m n known same register = kin_masked decides kept heads responses peer source m n same known register
     kin_by false peer source m n known same register =
         let one : m ≡ n = ap (λ (x : MaskedMessage). x.message) same in
         subst (λ (x : ParsedMessage). EquivalentMessages d e peer source m x) one
         (kin_self peer source m (register ∙ ap (registrant e.names.accounts) (sym one)))
 
-    pub kin_of : (peer : Peer) (source : Addr) (m n : ParsedMessage) → masked_message (trusts d peer) m ≡ masked_message (trusts d peer) n → registrant d.names.accounts m ≡ registrant e.names.accounts n → EquivalentMessages d e peer source m n
+    pub kin_of : (peer : Peer) (source : Addr) (m n : ParsedMessage) → masked_message (trusts d peer) m ≡ masked_message (trusts d peer) n →
+        registrant d.names.accounts m ≡ registrant e.names.accounts n → EquivalentMessages d e peer source m n
     kin_of peer source m n same register = kin_by (trusts d peer) peer source m n refl same register
 
 pub kinship : DecidesEqually → PublicResponsesAreKept → EquivalentParsedHaveOneHead → EquivalentResponsesHaveOneHead → EqualMasksAreEquivalent

@@ -58,14 +58,21 @@ use Rattle.mmtel_sheet_values.specs.declared.values.Sheet.{Sheet}
 use Rattle.mmtel_web.specs.Uploads.{counts_put_in, stored_upload, upload_in}
 use Rattle.mmtel_run_definitions.specs.Calls.{are_full, arrival_signal, call_config, call_of_invite}
 use Rattle.mmtel_run_definitions.specs.Deadlines.{Deadline, OfCall, OfParticipant, OfServiceTimer, OfSubscription, OfTransaction, ServiceTimer}
-use Rattle.mmtel_run_definitions.specs.Events.{ParsedEvent, Nothing, Refused, Received, WebRequested, EventRecord, TimedEvent, parsed_datagram, parsed_event, parsed_from, parsed_result, message_in, timed_event_of, timed_events, parsed_refusal}
+use Rattle.mmtel_run_definitions.specs.Events.{ParsedEvent, Nothing, Refused, Received, WebRequested, EventRecord, TimedEvent, parsed_datagram}
+use Rattle.mmtel_run_definitions.specs.Events.{parsed_event, parsed_from, parsed_result, message_in, timed_event_of, timed_events, parsed_refusal}
 use Rattle.mmtel_run_definitions.specs.InForce.{CallsSeeWhatIsInForce, LastIsInForce, TextsAreThoseKept, last_of, last_or, text_for, upload_at, uploads_of}
 use Rattle.mmtel_run_definitions.specs.Records.{with_ends, with_records}
 use Rattle.mmtel_run_definitions.specs.Refusals.{Disposition, Respond, Enter, EnterConference, OpenCall, OpenConference, JoinConference, Register, Subscribe, EnterSubscription, disposition}
-use Rattle.mmtel_run_definitions.specs.Ownership.{DialogOwner, InCall, InSubscription, InConference, OfSubscriptions, OfCalls, OfConferences, Owner, account_of_side, owner_of_key, owner_of_branch, is_of_peer, replacement_in, replaced_side}
+use Rattle.mmtel_run_definitions.specs.Ownership.{DialogOwner, InCall, InSubscription, InConference, OfSubscriptions, OfCalls, OfConferences}
+use Rattle.mmtel_run_definitions.specs.Ownership.{Owner, account_of_side, owner_of_key, owner_of_branch, is_of_peer, replacement_in, replaced_side}
 use Rattle.mmtel_run_definitions.specs.Run.{after_deadline_if, after_due_deadlines, after_event_in_order, after_events, after_one_deadline, clock_at, first_due_deadline}
 use Rattle.mmtel_run_definitions.proofs.MailboxFrames.{after_mailbox_upload_stays, after_subscribe_stays, answered_stays, due_stays, entering_stays}
-use Rattle.mmtel_run_definitions.specs.Transitions.{RunState, subscriptions_in, after_web_reply, after_ack_by, after_adoption_if, adoption_op, after_service_timer, after_classified_message, initial_state, with_next_step, with_call_output, calls_in, after_event, after_cancel, after_cancel_of, output_of_conference_op, with_draws, with_emit, with_emits, after_transaction_end, after_participant_request, after_call_end, after_deadline, after_handover, conference_signal_op, received_now, with_received_action, dialog_owner_in, after_conference_op, join_op, with_call_op, with_conference_output, after_parsed_event, next_tag, after_refer_notify, opening_op, with_retransmission, after_replacing_named, after_replacing_side, after_replaces, after_response_to, after_join_if, after_opening_if, conferences_in, after_due, after_conference_signal, after_call_signal, after_request_timeout, after_detach, after_disposition, tokens_now, after_message}
+use Rattle.mmtel_run_definitions.specs.Transitions.{RunState, subscriptions_in, after_web_reply, after_ack_by, after_adoption_if, adoption_op, after_service_timer, after_classified_message, initial_state}
+use Rattle.mmtel_run_definitions.specs.Transitions.{with_next_step, with_call_output, calls_in, after_event, after_cancel, after_cancel_of, output_of_conference_op, with_draws, with_emit, with_emits}
+use Rattle.mmtel_run_definitions.specs.Transitions.{after_transaction_end, after_participant_request, after_call_end, after_deadline, after_handover, conference_signal_op, received_now, with_received_action}
+use Rattle.mmtel_run_definitions.specs.Transitions.{dialog_owner_in, after_conference_op, join_op, with_call_op, with_conference_output, after_parsed_event, next_tag, after_refer_notify, opening_op}
+use Rattle.mmtel_run_definitions.specs.Transitions.{with_retransmission, after_replacing_named, after_replacing_side, after_replaces, after_response_to, after_join_if, after_opening_if, conferences_in}
+use Rattle.mmtel_run_definitions.specs.Transitions.{after_due, after_conference_signal, after_call_signal, after_request_timeout, after_detach, after_disposition, tokens_now, after_message}
 
 -- ---- the last one counts
 
@@ -168,7 +175,8 @@ module _ (d : Directory) (token : List ℕ) where
   after_service_timer_texts at (OfSubscription sub set) w = (due_stays d token at sub set w).texts
 
   after_deadline_texts : (now : ℕ) (x : Deadline) (w : RunState) → (after_deadline d token now x w).texts ≡ w.texts
-  after_deadline_texts now OfTransaction w = after_due_texts (due_result (next_due now (live (with_next_step w).actions))) (record (with_next_step w) { actions = after_firing (with_next_step w).actions (next_due now (live (with_next_step w).actions)) })
+  after_deadline_texts now OfTransaction w = after_due_texts (due_result (next_due now (live (with_next_step w).actions)))
+      (record (with_next_step w) { actions = after_firing (with_next_step w).actions (next_due now (live (with_next_step w).actions)) })
   after_deadline_texts now (OfServiceTimer armed others) w = after_service_timer_texts armed.at armed.timer (record (with_next_step w) { pending_timers = others })
 
   if_fired_texts : (now : ℕ) (o : Option Deadline) (w : RunState) → (after_deadline_if d token now o w).texts ≡ w.texts
@@ -188,7 +196,8 @@ module _ (d : Directory) (token : List ℕ) (at : ℕ) (s : MessageView) where
   joined_texts key room tag (Err fault) w = refl
   joined_texts key room tag (Ok place) w = after_conference_op_texts d at (join_op d at key s room tag (tokens_now token w)) w
 
-  after_adoption_if_texts : (room : RoomNo) (seat : ℕ) (call : CallNo) (leg : Released) (account : Option Account) (r : Result ℕ RoomFault) (w : RunState) → (after_adoption_if d token at room seat call leg account r w).texts ≡ w.texts
+  after_adoption_if_texts : (room : RoomNo) (seat : ℕ) (call : CallNo) (leg : Released) (account : Option Account) (r : Result ℕ RoomFault) (w : RunState) →
+      (after_adoption_if d token at room seat call leg account r w).texts ≡ w.texts
   after_adoption_if_texts room seat call leg account (Ok place) w =
       after_call_end_texts d token at call (after_conference_op d at (adoption_op token at room seat leg account w) w) ∙ after_conference_op_texts d at (adoption_op token at room seat leg account w) w
   after_adoption_if_texts room seat call leg account (Err fault) w = after_refer_notify_texts d token at room seat 503 (with_call_op (Restores call.0 leg) w)
@@ -213,7 +222,8 @@ module _ (d : Directory) (token : List ℕ) (at : ℕ) (s : MessageView) where
 
   entering_texts : (key : TKey) (room : RoomNo) (seat : ℕ) (w : RunState) → (after_participant_request d token at key s room seat w).texts ≡ w.texts
   entering_texts key room seat w =
-      after_replaces_texts s.peer room seat (replacement_in s.parsed (output_of_conference_op d (conference_signal_op token at (of_room.Request room seat key s) w) w).out) (after_conference_signal d token at (of_room.Request room seat key s) w)
+      after_replaces_texts s.peer room seat (replacement_in s.parsed (output_of_conference_op d (conference_signal_op token at (of_room.Request room seat key s) w) w).out)
+      (after_conference_signal d token at (of_room.Request room seat key s) w)
       ∙ after_conference_signal_texts d token at (of_room.Request room seat key s) w
 
   after_disposition_texts : (key : TKey) (c : Disposition) (w : RunState) → (after_disposition d token at key s c w).texts ≡ w.texts
@@ -252,7 +262,8 @@ module _ (d : Directory) (token : List ℕ) (at : ℕ) (s : MessageView) where
 
   after_classified_message_texts : (o : Option transaction.Heard) (w : RunState) → (after_classified_message d token at s o w).texts ≡ w.texts
   after_classified_message_texts None w = refl
-  after_classified_message_texts (Some (heard.Fresh key message)) w = after_disposition_texts key (disposition d (is_merged key.0 (live w.actions)) (are_full (calls_in d w).entries) (dialog_owner_in d s.parsed w) s.parsed) w
+  after_classified_message_texts (Some (heard.Fresh key message)) w =
+      after_disposition_texts key (disposition d (is_merged key.0 (live w.actions)) (are_full (calls_in d w).entries) (dialog_owner_in d s.parsed w) s.parsed) w
   after_classified_message_texts (Some (heard.Answer key message)) w = responding_texts key (owner_of_branch (awaited_request_branch s) (branch_in s.parsed.vias) (calls_in d w).entries (subscriptions_in w)) w
   after_classified_message_texts (Some (heard.Repeat sent)) w = with_retransmission_texts sent w
   after_classified_message_texts (Some (heard.Acked key)) w = refl
@@ -290,7 +301,8 @@ module _ (d : Directory) (token : List ℕ) where
 
   more_texts : (fuel : ℕ) (x : TimedEvent) (w : RunState) → (after_event_in_order d token fuel x w).texts ≡ put_stored (kept_in d.names x.parsed) w.texts
   more_texts fuel x w =
-      after_event_texts (clock_at w x.at) x.parsed x.accepted (after_due_deadlines d token fuel (clock_at w x.at) w) ∙ ap (put_stored (kept_in d.names x.parsed)) (after_due_deadlines_texts d token fuel (clock_at w x.at) w)
+      after_event_texts (clock_at w x.at) x.parsed x.accepted (after_due_deadlines d token fuel (clock_at w x.at) w)
+      ∙ ap (put_stored (kept_in d.names x.parsed)) (after_due_deadlines_texts d token fuel (clock_at w x.at) w)
 
   -- nothing is stored for a datagram
   refused_keeps : (peer : Peer) (source : Addr) (o : Option (Message Start)) → kept_in d.names (parsed_refusal peer source o) ≡ None

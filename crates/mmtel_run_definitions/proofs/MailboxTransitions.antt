@@ -17,8 +17,10 @@ use Rattle.mmtel_run_definitions.specs.OwnResponses.{StatusResponse, plain_respo
 use Rattle.mmtel_run_definitions.specs.Deadlines.{PendingTimer}
 use Rattle.mmtel_run_definitions.specs.RunState.{RunState, next_tag, subscriptions_in, with_draws, with_emits, with_response, with_timer}
 use Rattle.mmtel_run_definitions.specs.Ownership.{leg_by}
-use Rattle.mmtel_run_definitions.specs.Subscriptions.{after_checked_request, after_expiry, after_notify_response, after_request_in_order, after_subscription, after_subscription_for, after_subscription_request, grant_response, notify_emits, other_response, with_expiry_timer, with_mailbox_op}
-use Rattle.mmtel_run_definitions.specs.Subscriptions.{after_activation, after_last_notify, after_mailbox_upload, after_notify, after_notify_to_each, after_notify_to_peer, after_refresh_by, after_subscribe, after_subscribe_by, refusal_response}
+use Rattle.mmtel_run_definitions.specs.Subscriptions.{after_checked_request, after_expiry, after_notify_response, after_request_in_order, after_subscription, after_subscription_for}
+use Rattle.mmtel_run_definitions.specs.Subscriptions.{after_subscription_request, grant_response, notify_emits, other_response, with_expiry_timer, with_mailbox_op}
+use Rattle.mmtel_run_definitions.specs.Subscriptions.{after_activation, after_last_notify, after_mailbox_upload, after_notify, after_notify_to_each}
+use Rattle.mmtel_run_definitions.specs.Subscriptions.{after_notify_to_peer, after_refresh_by, after_subscribe, after_subscribe_by, refusal_response}
 use Rattle.mmtel_run_definitions.proofs.MailboxSteps as steps
 use Rattle.mmtel_run_definitions.proofs.MailboxSteps.{AreResponses, AreSteps, tells_in}
 

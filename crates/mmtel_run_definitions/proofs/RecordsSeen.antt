@@ -43,7 +43,8 @@ module _ (config : CallConfigView) (at : ℕ) (one other : SheetsInForce) (same 
   unfolding opening_step
   open_same busy a output = ap (λ (now : SnapshotView). call_after_opening config now a output) (snapshot_at_same busy)
 
-  at_same : (x : calls.Signal) (invites : List InviteKey) (place : ℕ) (o : Option Entry) (es : List Entry) (output : StepOutput) → step_of_entry_at config at one x invites place o es output ≡ step_of_entry_at config at other x invites place o es output
+  at_same : (x : calls.Signal) (invites : List InviteKey) (place : ℕ) (o : Option Entry) (es : List Entry) (output : StepOutput) →
+      step_of_entry_at config at one x invites place o es output ≡ step_of_entry_at config at other x invites place o es output
   at_same x invites place None es output = refl
   at_same x invites place (Some e) es output = ap (λ (s : StepResult). step_of_entry place invites e s es) (step_same (busy_beside e.call.opening.number.0 es) x output e)
 
@@ -51,7 +52,8 @@ module _ (config : CallConfigView) (at : ℕ) (one other : SheetsInForce) (same 
   in_same x invites None es output = refl
   in_same x invites (Some place) es output = at_same x invites place (slice_get es place) es output
 
-  step_of_receiver_same : (whose : Entry → Bool) (x : calls.Signal) (invites : List InviteKey) (es : List Entry) (output : StepOutput) → step_of_receiver config at one whose x invites es output ≡ step_of_receiver config at other whose x invites es output
+  step_of_receiver_same : (whose : Entry → Bool) (x : calls.Signal) (invites : List InviteKey) (es : List Entry) (output : StepOutput) →
+      step_of_receiver config at one whose x invites es output ≡ step_of_receiver config at other whose x invites es output
   step_of_receiver_same whose x invites es output = in_same x invites (position whose es) es output
 
   step_of_arrival_same : (a : Arrival) (es : List Entry) (output : StepOutput) → step_of_arrival config at one a es output ≡ step_of_arrival config at other a es output

@@ -2,7 +2,8 @@
 use Rattle.std.proofs.Common.{◌≡◌, ℕ, suc, ◌≤◌, List, [], ◌∷◌, length, refl, ap, Bool, true, false, Option, Some, None, arith, inl, inr}
 use Rattle.std.proofs.lemmas.Bool.{cases_Bool}
 use Rattle.std.specs.Prelude.{find, if◌then◌else◌}
-use Rattle.mmtel_mwi.specs.Boxes.{Table, changed, is_final, is_numbered, subscription_after_notify, subscription_numbered, subscription_refused_by, table_after_end, table_after_end_if, table_after_notify, table_after_response, without, without_pending}
+use Rattle.mmtel_mwi.specs.Boxes.{Table, changed, is_final, is_numbered, subscription_after_notify, subscription_numbered, subscription_refused_by}
+use Rattle.mmtel_mwi.specs.Boxes.{table_after_end, table_after_end_if, table_after_notify, table_after_response, without, without_pending}
 use Rattle.mmtel_mwi.specs.declared.subscriptions.Subscription.{Subscription}
 use Rattle.mmtel_types.specs.declared.numbers.SubNo.{SubNo}
 
@@ -26,7 +27,8 @@ module _ {X : Type 0} (p : X → Bool) where
       ]
 
 -- a live subscription gets its last NOTIFY, and ends
-pub last_fewer : (sub : SubNo) (branch : List ℕ) (table : Table) (s : Subscription) → subscription_numbered sub table ≡ Some s → suc (length (table_after_end sub (table_after_notify sub branch table)).live) ≡ length table.live
+pub last_fewer : (sub : SubNo) (branch : List ℕ) (table : Table) (s : Subscription) → subscription_numbered sub table ≡ Some s →
+    suc (length (table_after_end sub (table_after_notify sub branch table)).live) ≡ length table.live
 last_fewer sub branch table s e = one_fewer (is_numbered sub) subscription_after_notify (λ x. refl) s table.live e
 
 -- a NOTIFY has a response, or none

@@ -3,7 +3,8 @@ use Rattle.std.specs.Prelude.{◌≡◌, Bool, true, false, Option}
 use Rattle.mmtel_directory.specs.declared.directories.Directory.{Directory}
 use Rattle.mmtel_sdp.specs.Offers.{offers_audio}
 use Rattle.mmtel_trust.specs.ParsedMessage.{ParsedMessage}
-use Rattle.mmtel_run_definitions.specs.Refusals.{Disposition, Respond, Enter, EnterConference, OpenCall, OpenConference, JoinConference, Register, Subscribe, EnterSubscription, disposition}
+use Rattle.mmtel_run_definitions.specs.Refusals.{Disposition, Respond, Enter, EnterConference, OpenCall, OpenConference}
+use Rattle.mmtel_run_definitions.specs.Refusals.{JoinConference, Register, Subscribe, EnterSubscription, disposition}
 use Rattle.mmtel_run_definitions.specs.Ownership.{DialogOwner}
 
 -- it asks for a conference, or to join one

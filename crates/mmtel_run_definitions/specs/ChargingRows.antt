@@ -71,7 +71,8 @@ RowsAreFiled = (directory : Directory) (token : List ℕ) (loaded : Texts) (fuel
 -- the states after each of the timers that are due at a moment, one after another
 abbrev pub states_of_deadlines : Directory → (token : List ℕ) → (fuel : ℕ) → ℕ → RunState → List RunState
 states_of_deadlines directory token zero now state = []
-states_of_deadlines directory token (suc fuel) now state = after_one_deadline directory token now state ∷ states_of_deadlines directory token fuel now (after_one_deadline directory token now state)
+states_of_deadlines directory token (suc fuel) now state = after_one_deadline directory token now state ∷
+    states_of_deadlines directory token fuel now (after_one_deadline directory token now state)
 
 -- the states after each step of a run: before each event the timers that are due by then, and then the event
 abbrev pub states_of_steps : Directory → (token : List ℕ) → (fuel : ℕ) → List TimedEvent → RunState → List RunState
@@ -101,4 +102,5 @@ RowsAreInOrder = (directory : Directory) (token : List ℕ) (loaded : Texts) (fu
 
 -- none waits after an event in which the keeper accepted what was handed to it
 abbrev pub NoneWaits : Type 0
-NoneWaits = (directory : Directory) (token : List ℕ) (at : ℕ) (parsed_input : ParsedEvent) (state : RunState) → (after_event directory token at parsed_input true state).waiting ≡ []
+NoneWaits = (directory : Directory) (token : List ℕ) (at : ℕ) (parsed_input : ParsedEvent) (state : RunState) →
+    (after_event directory token at parsed_input true state).waiting ≡ []

@@ -76,5 +76,7 @@ pub record HaveSameRecords (one other : SheetsInForce) : Type 0 where
 
 -- what a signal causes is the same with both
 abbrev pub CallsSeeRecordsAlone : Type 0
-CallsSeeRecordsAlone = (config : CallConfigView) (at number : ℕ) (one other : SheetsInForce) (signal : Signal) (entries : List Entry) (output : StepOutput) → HaveSameRecords one other →
+CallsSeeRecordsAlone =
+    (config : CallConfigView) (at number : ℕ) (one other : SheetsInForce) (signal : Signal) (entries : List Entry) (output : StepOutput) →
+    HaveSameRecords one other →
     step_of_signal config at one number signal entries output ≡ step_of_signal config at other number signal entries output

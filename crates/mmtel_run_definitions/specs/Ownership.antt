@@ -87,7 +87,9 @@ subscription_named_by message table = find_subscription (dialog_name message) ta
 
 -- the owner of the dialog that a message names
 abbrev pub dialog_owner_of : ParsedMessage → List Entry → List Conference → mailboxes.Table → Option DialogOwner
-dialog_owner_of message entries live table = in_call_or (in_conference_or (in_subscription (subscription_named_by message table)) (participant_named_by message live)) (named_by message entries)
+dialog_owner_of message entries live table =
+    in_call_or (in_conference_or (in_subscription (subscription_named_by message table)) (participant_named_by message live))
+    (named_by message entries)
 
 -- an INVITE of some call has this branch
 abbrev pub is_of_calls : (branch : Option (List ℕ)) → List Entry → Bool

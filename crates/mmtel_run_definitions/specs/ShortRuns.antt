@@ -33,7 +33,8 @@ abbrev pub CallsDrawOn : Type 0
 CallsDrawOn = (config : CallConfigView) (ops : List TableOp) (received : ReceivedSignal) → DrawsOn received.tokens (step_on_receive_after config ops received).output.tokens
 
 abbrev pub CallsEndOn : Type 0
-CallsEndOn = (config : CallConfigView) (ops : List TableOp) (number at : ℕ) (tokens : TokensView) → DrawsOn tokens (step_on_finish config number at tokens (table_after config ops)).output.tokens
+CallsEndOn = (config : CallConfigView) (ops : List TableOp) (number at : ℕ) (tokens : TokensView) →
+    DrawsOn tokens (step_on_finish config number at tokens (table_after config ops)).output.tokens
 
 -- the tokens that an operation on the conferences gets
 abbrev pub tokens_of_op : rooms.TableOp → TokensView
@@ -48,4 +49,5 @@ tokens_of_op (rooms.Drops count) = rooms.no_tokens
 
 -- and for whatever is done on conferences
 abbrev pub ConferencesDrawOn : Type 0
-ConferencesDrawOn = (config : focus.ConferenceConfigView) (ops : List rooms.TableOp) (op : rooms.TableOp) → DrawsOn (tokens_of_op op) (rooms.effects_after config ops op).output.tokens
+ConferencesDrawOn = (config : focus.ConferenceConfigView) (ops : List rooms.TableOp) (op : rooms.TableOp) →
+    DrawsOn (tokens_of_op op) (rooms.effects_after config ops op).output.tokens

@@ -123,7 +123,8 @@ after_subscribe directory token at key message state = after_subscribe_by direct
 abbrev pub after_refresh_by : Directory → (token : List ℕ) → ℕ → TKey → MessageView → SubNo → Option ℕ → RunState → RunState
 after_refresh_by directory token at key message sub None state =
     after_activation directory token at sub (granted_seconds message.parsed.expires)
-    (with_response directory token at key message (grant_response (granted_seconds message.parsed.expires)) (with_mailbox_op (Refreshes sub (until_of at (granted_seconds message.parsed.expires))) state))
+    (with_response directory token at key message (grant_response (granted_seconds message.parsed.expires))
+    (with_mailbox_op (Refreshes sub (until_of at (granted_seconds message.parsed.expires))) state))
 after_refresh_by directory token at key message sub (Some code) state = with_response directory token at key message (refusal_response code) state
 
 -- any other: 200 for OPTIONS with the allowed methods, 403 for REFER, and else 481
@@ -142,10 +143,12 @@ after_request_in_order directory token at key message sub state =
 -- a CSeq number that is too low is refused, and changes nothing; each that is accepted raises the last one, also where the request is refused for another cause
 abbrev pub after_checked_request : Directory → (token : List ℕ) → ℕ → TKey → MessageView → SubNo → Result (Unit {0}) DialogueFault → RunState → RunState
 after_checked_request directory token at key message sub (Err fault) state = with_response directory token at key message (plain_response 500) state
-after_checked_request directory token at key message sub (Ok done) state = after_request_in_order directory token at key message sub (with_mailbox_op (Receives sub (message_in message.parsed)) state)
+after_checked_request directory token at key message sub (Ok done) state =
+    after_request_in_order directory token at key message sub (with_mailbox_op (Receives sub (message_in message.parsed)) state)
 
 abbrev pub after_subscription_request : Directory → (token : List ℕ) → ℕ → TKey → MessageView → SubNo → RunState → RunState
-after_subscription_request directory token at key message sub state = after_checked_request directory token at key message sub (request_check sub (message_in message.parsed) (subscriptions_in state)) state
+after_subscription_request directory token at key message sub state =
+    after_checked_request directory token at key message sub (request_check sub (message_in message.parsed) (subscriptions_in state)) state
 
 -- ---- an upload that was accepted: each subscriber gets a NOTIFY, in the order in which they subscribed
 
@@ -155,7 +158,8 @@ after_notify_to_each directory token at (sub ∷ subs) state = after_notify_to_e
 
 abbrev pub after_mailbox_upload : Directory → (token : List ℕ) → ℕ → Option (Account × Counts) → RunState → RunState
 after_mailbox_upload directory token at None state = state
-after_mailbox_upload directory token at (Some put) state = after_notify_to_each directory token at (subscribers_of put.0 (subscriptions_in state)) (with_mailbox_op (Puts put.0 put.1) state)
+after_mailbox_upload directory token at (Some put) state =
+    after_notify_to_each directory token at (subscribers_of put.0 (subscriptions_in state)) (with_mailbox_op (Puts put.0 put.1) state)
 
 -- ---- a subscription expires, unless a later SUBSCRIBE set another moment
 

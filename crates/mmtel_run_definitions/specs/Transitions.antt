@@ -48,12 +48,15 @@ use Rattle.mmtel_run_definitions.specs.Calls.{are_full, arrival_signal, call_con
 use Rattle.mmtel_run_definitions.specs.Deadlines.{Deadline, OfCall, OfParticipant, OfServiceTimer, OfSubscription, OfTransaction, PendingTimer, ServiceTimer}
 use Rattle.mmtel_run_definitions.specs.Events.{ParsedEvent, Nothing, Refused, Received, WebRequested, message_in}
 use Rattle.mmtel_run_definitions.specs.Records.{in_force, until_of}
-use Rattle.mmtel_run_definitions.specs.Refusals.{Disposition, Respond, Enter, EnterConference, OpenCall, OpenConference, JoinConference, Register, Subscribe, EnterSubscription, disposition}
-use Rattle.mmtel_run_definitions.specs.Ownership.{DialogOwner, InCall, InConference, InSubscription, OfSubscriptions, OfCalls, OfConferences, Owner, account_of_side, dialog_owner_of, is_of_peer, leg_by, replacement_in}
+use Rattle.mmtel_run_definitions.specs.Refusals.{Disposition, Respond, Enter, EnterConference, OpenCall, OpenConference}
+use Rattle.mmtel_run_definitions.specs.Refusals.{JoinConference, Register, Subscribe, EnterSubscription, disposition}
+use Rattle.mmtel_run_definitions.specs.Ownership.{DialogOwner, InCall, InConference, InSubscription, OfSubscriptions, OfCalls, OfConferences}
+use Rattle.mmtel_run_definitions.specs.Ownership.{Owner, account_of_side, dialog_owner_of, is_of_peer, leg_by, replacement_in}
 use Rattle.mmtel_run_definitions.specs.Ownership.{conference_config, owner_of_branch, owner_of_key, replaced_side, status_of_fault}
 use Rattle.mmtel_mwi.specs.Boxes as mailboxes
 use Rattle.mmtel_compose.specs.ReceivedMessages.{status_of}
-pub use Rattle.mmtel_run_definitions.specs.RunState.{RunState, calls_in, dialog_owner_in, initial_state, is_registered_in, next_tag, subscriptions_in, with_action, with_draws, with_emit, with_emits, with_offers, with_timer}
+pub use Rattle.mmtel_run_definitions.specs.RunState.{RunState, calls_in, dialog_owner_in, initial_state, is_registered_in, next_tag}
+pub use Rattle.mmtel_run_definitions.specs.RunState.{subscriptions_in, with_action, with_draws, with_emit, with_emits, with_offers, with_timer}
 pub use Rattle.mmtel_run_definitions.specs.RunState.{conferences_in, record_in_force, to_peer, tokens_now, with_refusal_of_bytes, with_response, with_stateless_response}
 use Rattle.mmtel_run_definitions.specs.Subscriptions.{after_expiry, after_mailbox_upload, after_notify_response, after_subscribe, after_subscription_request}
 
@@ -71,7 +74,8 @@ received_now token at signal state = record { at = at; view = in_force state.tex
 -- the calls receive it
 abbrev pub after_call_signal : Directory → (token : List ℕ) → ℕ → Signal → RunState → RunState
 after_call_signal directory token at signal state =
-    with_call_output at (Receives (received_now token at signal state)) (step_on_receive_after (call_config directory) state.call_ops (received_now token at signal state)).output state
+    with_call_output at (Receives (received_now token at signal state))
+    (step_on_receive_after (call_config directory) state.call_ops (received_now token at signal state)).output state
 
 -- a leg is taken out of a call, or put back: nothing is output
 abbrev pub with_call_op : TableOp → RunState → RunState
@@ -80,13 +84,15 @@ with_call_op op state = record state { call_ops = op ∷ state.call_ops }
 -- the call ends without that leg
 abbrev pub after_call_end : Directory → (token : List ℕ) → ℕ → CallNo → RunState → RunState
 after_call_end directory token at call state =
-    with_call_output at (Finishes call.0 at (tokens_now token state)) (step_on_finish (call_config directory) call.0 at (tokens_now token state) (calls_in directory state)).output state
+    with_call_output at (Finishes call.0 at (tokens_now token state))
+    (step_on_finish (call_config directory) call.0 at (tokens_now token state) (calls_in directory state)).output state
 
 -- ---- operations on the conferences
 
 -- this operation on the conferences, which draws no number, with this output
 abbrev pub with_conference_output : ℕ → rooms.TableOp → StepOutput → RunState → RunState
-with_conference_output at op output state = with_emits at output.out (record state { conference_ops = rooms.Drops (length output.rows) ∷ op ∷ state.conference_ops; waiting = state.waiting ++ output.rows })
+with_conference_output at op output state = with_emits at output.out
+    (record state { conference_ops = rooms.Drops (length output.rows) ∷ op ∷ state.conference_ops; waiting = state.waiting ++ output.rows })
 
 -- one that draws numbers: their count is that of the output
 abbrev pub with_conference_draws : ℕ → rooms.TableOp → StepOutput → RunState → RunState
@@ -138,7 +144,8 @@ after_due directory token due.Nothing state = state
 
 -- the first timer of the transactions that is due fires
 abbrev pub after_transaction_timer : Directory → (token : List ℕ) → ℕ → RunState → RunState
-after_transaction_timer directory token now state = after_due directory token (due_result (next_due now (live state.actions))) (record state { actions = after_firing state.actions (next_due now (live state.actions)) })
+after_transaction_timer directory token now state = after_due directory token (due_result (next_due now (live state.actions)))
+    (record state { actions = after_firing state.actions (next_due now (live state.actions)) })
 
 -- one of a call, of a participant or of a subscription fires
 abbrev pub after_service_timer : Directory → (token : List ℕ) → ℕ → ServiceTimer → RunState → RunState
@@ -162,7 +169,8 @@ with_registration account until state = record state { registrations = (account,
 
 -- and the request gets its response
 abbrev pub after_register : Directory → (token : List ℕ) → ℕ → TKey → MessageView → Account → (seconds : ℕ) → RunState → RunState
-after_register directory token at key message account seconds state = with_response directory token at key message (plain_response 200) (with_registration account (until_of at seconds) state)
+after_register directory token at key message account seconds state =
+    with_response directory token at key message (plain_response 200) (with_registration account (until_of at seconds) state)
 
 -- ---- web requests
 
@@ -177,7 +185,8 @@ after_web_reply directory at request kept rows state =
 
 -- and after it the NOTIFYs that an upload to a mailbox causes
 abbrev pub after_web_request : Directory → (token : List ℕ) → ℕ → ParsedRequestView → KeeperOutcomeView → List Row → RunState → RunState
-after_web_request directory token at request kept rows state = after_mailbox_upload directory token at (counts_put_in directory.names request kept) (after_web_reply directory at request kept rows state)
+after_web_request directory token at request kept rows state = after_mailbox_upload directory token at
+    (counts_put_in directory.names request kept) (after_web_reply directory at request kept rows state)
 
 -- ---- who joins a conference (RFC 4579 §5.1, §5.4): a tag is drawn for the response, a refusal too
 
@@ -192,10 +201,12 @@ opening_op directory at key message tag = rooms.Opens (join_request at (leg_by t
 -- a conference of its own, unless as many are live as may
 abbrev pub after_opening_if : Directory → ℕ → TKey → MessageView → (tag : List ℕ) → (is_full : Bool) → RunState → RunState
 after_opening_if directory at key message tag true state = after_newcomer_refusal directory at key message tag 503 state
-after_opening_if directory at key message tag false state = with_conference_output at (opening_op directory at key message tag) (output_of_conference_op directory (opening_op directory at key message tag) state) state
+after_opening_if directory at key message tag false state = with_conference_output at (opening_op directory at key message tag)
+    (output_of_conference_op directory (opening_op directory at key message tag) state) state
 
 abbrev pub after_factory_invite : Directory → (token : List ℕ) → ℕ → TKey → MessageView → RunState → RunState
-after_factory_invite directory token at key message state = after_opening_if directory at key message (next_tag token state) (is_table_full (conferences_in directory state).live) (with_draws 1 state)
+after_factory_invite directory token at key message state = after_opening_if directory at key message (next_tag token state)
+    (is_table_full (conferences_in directory state).live) (with_draws 1 state)
 
 abbrev pub join_op : Directory → ℕ → TKey → MessageView → RoomNo → (tag : List ℕ) → TokensView → rooms.TableOp
 join_op directory at key message room tag tokens = rooms.Joins room.0 (record {
@@ -247,12 +258,14 @@ after_replacing_named directory token at peer room seat (Some named) state =
     after_replacing_side directory token at room seat named.0 named.1 (is_of_peer peer (party named.0.0 named.1 (calls_in directory state).entries)) state
 
 abbrev pub after_replacing : Directory → (token : List ℕ) → ℕ → Peer → RoomNo → (seat : ℕ) → Replaces → RunState → RunState
-after_replacing directory token at peer room seat replaces state = after_replacing_named directory token at peer room seat (replaced_side replaces (calls_in directory state).entries) state
+after_replacing directory token at peer room seat replaces state =
+    after_replacing_named directory token at peer room seat (replaced_side replaces (calls_in directory state).entries) state
 
 -- the participant is notified of 100 (Trying), and then of the outcome
 abbrev pub after_replaces : Directory → (token : List ℕ) → ℕ → Peer → RoomNo → (seat : ℕ) → Option Replaces → RunState → RunState
 after_replaces directory token at peer room seat None state = state
-after_replaces directory token at peer room seat (Some replaces) state = after_replacing directory token at peer room seat replaces (after_refer_notify directory token at room seat 100 state)
+after_replaces directory token at peer room seat (Some replaces) state =
+    after_replacing directory token at peer room seat replaces (after_refer_notify directory token at room seat 100 state)
 
 -- a request of a participant, and what follows from it where it was accepted
 abbrev pub after_participant_request : Directory → (token : List ℕ) → ℕ → TKey → MessageView → RoomNo → (seat : ℕ) → RunState → RunState
@@ -277,7 +290,8 @@ after_disposition directory token at key message (EnterSubscription sub) state =
 -- a request that opened a transaction, in this state of the calls, the conferences and the mailboxes
 abbrev pub after_new_request_among : Directory → (token : List ℕ) → ℕ → TKey → MessageView → List Entry → List Conference → mailboxes.Table → RunState → RunState
 after_new_request_among directory token at key message entries live_rooms table state =
-    after_disposition directory token at key message (disposition directory (is_merged key.0 (live state.actions)) (are_full entries) (dialog_owner_of message.parsed entries live_rooms table) message.parsed) state
+    after_disposition directory token at key message (disposition directory (is_merged key.0 (live state.actions)) (are_full entries)
+    (dialog_owner_of message.parsed entries live_rooms table) message.parsed) state
 
 abbrev pub after_new_request : Directory → (token : List ℕ) → ℕ → TKey → MessageView → RunState → RunState
 after_new_request directory token at key message state =

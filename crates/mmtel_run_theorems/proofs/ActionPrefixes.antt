@@ -39,13 +39,20 @@ use Rattle.mmtel_run_definitions.specs.Deadlines.{Deadline, OfCall, OfParticipan
 use Rattle.mmtel_run_definitions.specs.Events.{ParsedEvent, Nothing, Refused, Received, WebRequested, TimedEvent, message_in}
 use Rattle.mmtel_run_definitions.specs.Records.{until_of}
 use Rattle.mmtel_run_definitions.specs.Refusals.{Disposition, Respond, Enter, EnterConference, OpenCall, OpenConference, JoinConference, Register, Subscribe, EnterSubscription, disposition}
-use Rattle.mmtel_run_definitions.specs.Ownership.{DialogOwner, InSubscription, InCall, InConference, OfSubscriptions, OfCalls, OfConferences, Owner, account_of_side, owner_of_branch, owner_of_key, is_of_peer, replacement_in, replaced_side, status_of_fault}
+use Rattle.mmtel_run_definitions.specs.Ownership.{DialogOwner, InSubscription, InCall, InConference, OfSubscriptions, OfCalls, OfConferences, Owner}
+use Rattle.mmtel_run_definitions.specs.Ownership.{account_of_side, owner_of_branch, owner_of_key, is_of_peer, replacement_in, replaced_side, status_of_fault}
 use Rattle.mmtel_run_definitions.specs.Run.{after_deadline_if, after_due_deadlines, after_event_in_order, after_events, after_one_deadline, clock_at, first_due_deadline}
 use Rattle.mmtel_web.specs.Uploads.{counts_put_in}
 use Rattle.mmtel_run_definitions.specs.Subscriptions.{grant_response, other_response, refusal_response, with_mailbox_op}
 use Rattle.mmtel_run_definitions.proofs.MailboxSteps as mailing
 use Rattle.mmtel_run_definitions.proofs.MailboxSteps.{AreResponses, AreSteps, tells_in}
-use Rattle.mmtel_run_definitions.specs.Transitions.{RunState, subscriptions_in, after_web_reply, after_ack_by, after_adoption_if, adoption_op, after_service_timer, after_classified_message, with_next_step, with_call_output, calls_in, after_event, after_cancel, after_cancel_of, output_of_conference_op, with_draws, with_emit, with_emits, after_transaction_end, after_participant_request, after_deadline, after_call_end, after_handover, conference_signal_op, received_now, with_received_action, dialog_owner_in, after_conference_op, join_op, after_conference_invite, with_call_op, with_conference_output, after_parsed_event, next_tag, after_refer_notify, opening_op, after_factory_invite, with_registration, with_retransmission, after_replacing, after_replacing_named, after_replacing_side, after_replaces, with_response, after_response_to, after_join_if, after_opening_if, conferences_in, after_due, after_conference_signal, after_call_signal, after_request_timeout, after_detach, after_disposition, after_message, tokens_now}
+use Rattle.mmtel_run_definitions.specs.Transitions.{RunState, subscriptions_in, after_web_reply, after_ack_by, after_adoption_if, adoption_op, after_service_timer, after_classified_message}
+use Rattle.mmtel_run_definitions.specs.Transitions.{with_next_step, with_call_output, calls_in, after_event, after_cancel, after_cancel_of, output_of_conference_op, with_draws, with_emit}
+use Rattle.mmtel_run_definitions.specs.Transitions.{with_emits, after_transaction_end, after_participant_request, after_deadline, after_call_end, after_handover, conference_signal_op, received_now}
+use Rattle.mmtel_run_definitions.specs.Transitions.{with_received_action, dialog_owner_in, after_conference_op, join_op, after_conference_invite, with_call_op, with_conference_output}
+use Rattle.mmtel_run_definitions.specs.Transitions.{after_parsed_event, next_tag, after_refer_notify, opening_op, after_factory_invite, with_registration, with_retransmission, after_replacing}
+use Rattle.mmtel_run_definitions.specs.Transitions.{after_replacing_named, after_replacing_side, after_replaces, with_response, after_response_to, after_join_if, after_opening_if, conferences_in}
+use Rattle.mmtel_run_definitions.specs.Transitions.{after_due, after_conference_signal, after_call_signal, after_request_timeout, after_detach, after_disposition, after_message, tokens_now}
 
 -- P holds for all operations, and for all before
 -- whatever is requested, and whatever refuses it

@@ -56,11 +56,21 @@ use Rattle.mmtel_run_definitions.specs.Deadlines.{Deadline, OfCall, OfParticipan
 use Rattle.mmtel_run_definitions.specs.Events.{ParsedEvent, Nothing, Refused, Received, WebRequested, EventRecord, TimedEvent, message_in, timed_event_of, timed_events}
 use Rattle.mmtel_run_definitions.specs.Records.{until_of}
 use Rattle.mmtel_run_definitions.specs.Refusals.{Disposition, Respond, Enter, EnterConference, OpenCall, OpenConference, JoinConference, Register, Subscribe, EnterSubscription, disposition}
-use Rattle.mmtel_run_definitions.specs.Ownership.{DialogOwner, InSubscription, InCall, InConference, OfSubscriptions, OfCalls, OfConferences, Owner, account_of_side, leg_by, owner_of_key, owner_of_branch, is_of_peer, replacement_in, replaced_side, status_of_fault}
+use Rattle.mmtel_run_definitions.specs.Ownership.{DialogOwner, InSubscription, InCall, InConference, OfSubscriptions, OfCalls, OfConferences, Owner, account_of_side}
+use Rattle.mmtel_run_definitions.specs.Ownership.{leg_by, owner_of_key, owner_of_branch, is_of_peer, replacement_in, replaced_side, status_of_fault}
 use Rattle.mmtel_run_definitions.specs.Run.{after_deadline_if, after_due_deadlines, after_event_in_order, after_events, after_one_deadline, clock_at, first_due_deadline, state_after}
-use Rattle.mmtel_run_definitions.specs.Subscriptions.{after_checked_request, after_expiry, after_notify_response, after_request_in_order, after_subscription, after_subscription_for, after_subscription_request, grant_response, is_last_set, named_mailbox, notify_emits, subscribe_request_of, with_expiry_timer, with_mailbox_op}
-use Rattle.mmtel_run_definitions.specs.Subscriptions.{after_activation, after_last_notify, after_mailbox_upload, after_notify, after_notify_to_each, after_notify_to_peer, after_refresh_by, after_subscribe, after_subscribe_by, other_response, refusal_response}
-use Rattle.mmtel_run_definitions.specs.Transitions.{RunState, after_ack_by, after_adoption_if, adoption_op, after_service_timer, after_classified_message, initial_state, with_next_step, subscriptions_in, with_call_output, calls_in, after_event, after_cancel, after_cancel_of, output_of_conference_op, with_draws, with_emit, with_emits, after_event_end, after_transaction_end, after_participant_request, after_call_end, after_deadline, after_handover, conference_signal_op, received_now, with_received_action, dialog_owner_in, after_conference_op, join_op, after_conference_invite, with_upload, with_call_op, with_conference_output, after_parsed_event, next_tag, after_refer_notify, with_offers, opening_op, after_factory_invite, with_refusal_of_bytes, with_registration, with_retransmission, after_replacing, after_replacing_named, after_replacing_side, after_replaces, with_response, with_stateless_response, after_response_to, after_join_if, after_opening_if, conferences_in, after_due, after_conference_signal, after_web_reply, after_call_signal, after_request_timeout, after_detach, after_disposition, after_message, tokens_now, after_newcomer_refusal}
+use Rattle.mmtel_run_definitions.specs.Subscriptions.{after_checked_request, after_expiry, after_notify_response, after_request_in_order, after_subscription, after_subscription_for}
+use Rattle.mmtel_run_definitions.specs.Subscriptions.{after_subscription_request, grant_response, is_last_set, named_mailbox, notify_emits, subscribe_request_of, with_expiry_timer, with_mailbox_op}
+use Rattle.mmtel_run_definitions.specs.Subscriptions.{after_activation, after_last_notify, after_mailbox_upload, after_notify, after_notify_to_each}
+use Rattle.mmtel_run_definitions.specs.Subscriptions.{after_notify_to_peer, after_refresh_by, after_subscribe, after_subscribe_by, other_response, refusal_response}
+use Rattle.mmtel_run_definitions.specs.Transitions.{RunState, after_ack_by, after_adoption_if, adoption_op, after_service_timer, after_classified_message, initial_state, with_next_step}
+use Rattle.mmtel_run_definitions.specs.Transitions.{subscriptions_in, with_call_output, calls_in, after_event, after_cancel, after_cancel_of, output_of_conference_op, with_draws, with_emit}
+use Rattle.mmtel_run_definitions.specs.Transitions.{with_emits, after_event_end, after_transaction_end, after_participant_request, after_call_end, after_deadline, after_handover}
+use Rattle.mmtel_run_definitions.specs.Transitions.{conference_signal_op, received_now, with_received_action, dialog_owner_in, after_conference_op, join_op, after_conference_invite, with_upload}
+use Rattle.mmtel_run_definitions.specs.Transitions.{with_call_op, with_conference_output, after_parsed_event, next_tag, after_refer_notify, with_offers, opening_op, after_factory_invite}
+use Rattle.mmtel_run_definitions.specs.Transitions.{with_refusal_of_bytes, with_registration, with_retransmission, after_replacing, after_replacing_named, after_replacing_side, after_replaces}
+use Rattle.mmtel_run_definitions.specs.Transitions.{with_response, with_stateless_response, after_response_to, after_join_if, after_opening_if, conferences_in, after_due, after_conference_signal}
+use Rattle.mmtel_run_definitions.specs.Transitions.{after_web_reply, after_call_signal, after_request_timeout, after_detach, after_disposition, after_message, tokens_now, after_newcomer_refusal}
 use Rattle.mmtel_run_theorems.specs.Additions.{DeadlinesAdd, EventsAdd, RunsAdd, with_earlier_offers, without_offers}
 
 -- an operation appends its outputs to those before
@@ -167,7 +177,8 @@ module _ (d : Directory) (token : List ℕ) where
   after_subscription_for_adds : (at : ℕ) (key : TKey) (s : MessageView) (o : Option Account) → Adds (after_subscription_for d token at key s o)
   after_subscription_for_adds at key s None b w = with_response_adds at key s (plain_response 403) b w
   after_subscription_for_adds at key s (Some account) b w =
-      either_adds (is_full (subscriptions_in w)) (with_response d token at key s (plain_response 503)) (after_subscription d token at key s account (granted_seconds s.parsed.expires)) (with_response_adds at key s (plain_response 503))
+      either_adds (is_full (subscriptions_in w)) (with_response d token at key s (plain_response 503)) (after_subscription d token at key s account (granted_seconds s.parsed.expires))
+      (with_response_adds at key s (plain_response 503))
       (after_subscription_adds at key s account (granted_seconds s.parsed.expires)) b w
 
   after_subscribe_by_adds : (at : ℕ) (key : TKey) (s : MessageView) (o : Option ℕ) → Adds (after_subscribe_by d token at key s o)
@@ -227,7 +238,8 @@ module _ (d : Directory) (token : List ℕ) where
 
   after_due_adds : (x : Due) → Adds (after_due d token x)
   after_due_adds (due.Again peer at text) b w = with_offers_adds (offer.To peer at text ∷ []) b w
-  after_due_adds (due.Silent key branch method at) b w = after_request_timeout_adds at branch method (owner_of_branch (timed_out_branch branch method) (behind_cookie branch) (calls_in d w).entries (subscriptions_in w)) b w
+  after_due_adds (due.Silent key branch method at) b w =
+      after_request_timeout_adds at branch method (owner_of_branch (timed_out_branch branch method) (behind_cookie branch) (calls_in d w).entries (subscriptions_in w)) b w
   after_due_adds (due.Over key at) b w = after_transaction_end_adds at key (owner_of_key key (calls_in d w).entries) b w
   after_due_adds due.Nothing b w = refl
 
@@ -237,7 +249,8 @@ module _ (d : Directory) (token : List ℕ) where
   after_service_timer_adds at (OfSubscription sub set) b w = after_expiry_adds at sub set b w
 
   after_deadline_adds : (now : ℕ) (x : Deadline) → Adds (after_deadline d token now x)
-  after_deadline_adds now OfTransaction b w = after_due_adds (due_result (next_due now (live (with_next_step w).actions))) b (record (with_next_step w) { actions = after_firing (with_next_step w).actions (next_due now (live (with_next_step w).actions)) })
+  after_deadline_adds now OfTransaction b w = after_due_adds (due_result (next_due now (live (with_next_step w).actions))) b
+      (record (with_next_step w) { actions = after_firing (with_next_step w).actions (next_due now (live (with_next_step w).actions)) })
   after_deadline_adds now (OfServiceTimer armed others) b w = after_service_timer_adds armed.at armed.timer b (record (with_next_step w) { pending_timers = others })
 
   if_fired_adds : (now : ℕ) (o : Option Deadline) → Adds (after_deadline_if d token now o)

@@ -55,7 +55,8 @@ charged-more config op older at moment c is k =
     record {
       book = k.book ++ dated_entries at c.booked.entries;
       runs =
-          runs-behind [] k.book (running_meters (table_after config older).live) (rows_of_departed config older) (dated_entries at c.booked.entries) (running_meters (table_after config (op ∷ older)).live) (effects_after config older op).output.rows k.runs
+          runs-behind [] k.book (running_meters (table_after config older).live) (rows_of_departed config older) (dated_entries at c.booked.entries)
+          (running_meters (table_after config (op ∷ older)).live) (effects_after config older op).output.rows k.runs
           (subst (λ (rows : List Row). RunsOn (running_meters (table_after config older).live) (dated_entries at c.booked.entries) (running_meters (table_after config (op ∷ older)).live) rows) same
           (follows-on at (running_meters (table_after config older).live) c.booked.entries (running_meters (table_after config (op ∷ older)).live) c.rows c.booked.follows));
       of_operations = (
@@ -63,13 +64,18 @@ charged-more config op older at moment c is k =
         dated_entries at c.booked.entries,
         refl,
         k.of_operations,
-        subst (λ (o : Option ℕ). IsBookAt o (running_meters (table_after config older).live) (running_meters (table_after config (op ∷ older)).live) (effects_after config older op).output.rows (dated_entries at c.booked.entries)) (sym moment)
-            (c.booked.entries, refl, subst (λ (rows : List Row). Follows at (running_meters (table_after config older).live) c.booked.entries (running_meters (table_after config (op ∷ older)).live) rows) same c.booked.follows),
+        subst (λ (o : Option ℕ). IsBookAt o (running_meters (table_after config older).live) (running_meters (table_after config (op ∷ older)).live) (effects_after config older op).output.rows
+            (dated_entries at c.booked.entries)) (sym moment) (
+              c.booked.entries,
+              refl,
+              subst (λ (rows : List Row). Follows at (running_meters (table_after config older).live) c.booked.entries (running_meters (table_after config (op ∷ older)).live) rows) same c.booked.follows,
+            ),
       );
     }
 
 -- nothing was filed, and the same meters run
-uncharged-more : (config : ConferenceConfigView) (op : TableOp) (older : List TableOp) → moment_of op ≡ None → running_meters (table_after config (op ∷ older)).live ≡ running_meters (table_after config older).live → (effects_after config older op).output.rows ≡ [] →
+uncharged-more : (config : ConferenceConfigView) (op : TableOp) (older : List TableOp) → moment_of op ≡ None →
+    running_meters (table_after config (op ∷ older)).live ≡ running_meters (table_after config older).live → (effects_after config older op).output.rows ≡ [] →
     Kept config older → Kept config (op ∷ older)
 uncharged-more config op older moment runs none k = record {
   book = k.book;
@@ -81,7 +87,8 @@ uncharged-more config op older moment runs none k = record {
     [],
     sym (append-nil k.book),
     k.of_operations,
-    subst (λ (o : Option ℕ). IsBookAt o (running_meters (table_after config older).live) (running_meters (table_after config (op ∷ older)).live) (effects_after config older op).output.rows []) (sym moment) (refl, runs, none),
+    subst (λ (o : Option ℕ). IsBookAt o (running_meters (table_after config older).live) (running_meters (table_after config (op ∷ older)).live) (effects_after config older op).output.rows [])
+        (sym moment) (refl, runs, none),
   );
 }
 
@@ -146,7 +153,8 @@ of_seats before (x ∷ book) after rows h f =
     each_behind IsPlace front (option_to_list x.entry.started ++ back) (each_first IsPlace front (closed ++ back) all)
     (each_behind IsPlace (option_to_list x.entry.started) back (begun-places x.at x.entry.started begun) (each_last IsPlace closed back behind)) in
     subst AreOfParticipants (sym is)
-    (each_behind IsParticipantRow (rows_of_closed x.at x.entry.closed) later (closed-seats x.at x.entry.closed (each_first IsPlace closed back behind)) (of_seats (among front x.entry.started back) book after later next rest))
+    (each_behind IsParticipantRow (rows_of_closed x.at x.entry.closed) later (closed-seats x.at x.entry.closed (each_first IsPlace closed back behind))
+    (of_seats (among front x.entry.started back) book after later next rest))
 
 -- ---- each once
 

@@ -103,7 +103,8 @@ some_same : (A : Type 0) (x y : A) → Some x ≡ Some y → x ≡ y
 some_same A x y e = cc
 
 -- of a request that the server sent it is that one, or nothing is read of it
-branch_by : (o : Option Five) (m : Message Start) (sip : Addr) (branch : List ℕ) → five_at m.lines ≡ o → via_in m.lines ≡ Some (via_of sip branch) → ((head_with m.start o).branch ≡ []) ⊎ ((head_with m.start o).branch ≡ cookie ++ branch)
+branch_by : (o : Option Five) (m : Message Start) (sip : Addr) (branch : List ℕ) → five_at m.lines ≡ o → via_in m.lines ≡ Some (via_of sip branch) →
+    ((head_with m.start o).branch ≡ []) ⊎ ((head_with m.start o).branch ≡ cookie ++ branch)
 branch_by None m sip branch e via = inl refl
 branch_by (Some five) m sip branch e via =
     let same : five.via ≡ via_of sip branch = some_same Via five.via (via_of sip branch) (sym (five_via m.lines five e) ∙ via) in
@@ -181,7 +182,8 @@ module _ (fives : (b : List ℕ) (m : Message Start) → read_result b ≡ Ok m 
     (vias : (b : List ℕ) (m : Message Start) (five : Five) → read_result b ≡ Ok m → five_at m.lines ≡ Some five → (v : List ℕ) × (first_value (codes "Via") m.lines ≡ Some v) × (via_at v ≡ Some five.via))
     (cseqs : (ls : List Line) (five : Five) → five_at ls ≡ Some five → (v : List ℕ) × IsOnly (codes "CSeq") ls v × (cseq_at v ≡ Some five.cseq)) where
   answered_by : (trusted : Bool) (n : Message Start) (five : Five) (v c : List ℕ) → five_at n.lines ≡ Some five → first_value (codes "Via") n.lines ≡ Some v → via_at v ≡ Some five.via
-      → first_value (codes "CSeq") n.lines ≡ Some c → cseq_at c ≡ Some five.cseq → (branch : List ℕ) → (if is_awaited_response (parsed_message trusted n).cseq then branch_in (parsed_message trusted n).vias else None) ≡ Some branch
+      → first_value (codes "CSeq") n.lines ≡ Some c → cseq_at c ≡ Some five.cseq → (branch : List ℕ) →
+      (if is_awaited_response (parsed_message trusted n).cseq then branch_in (parsed_message trusted n).vias else None) ≡ Some branch
       → (param_text (codes "branch") five.via.params ≡ cookie ++ branch) × (is_awaited_method five.cseq.method ≡ true)
   answered_by trusted n five v c is value via number cseq branch e =
       let awaited : is_awaited_response (first_value (codes "CSeq") n.lines) ≡ is_awaited_method five.cseq.method = ap is_awaited_response number ∙ ap is_awaited_cseq cseq in

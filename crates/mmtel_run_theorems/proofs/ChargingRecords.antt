@@ -78,7 +78,8 @@ seats-alone (one ∷ closed) c s = go one.of_calls c s (λ c s. seats-alone clos
   where
     go : (b : Bool) → AreOfCalls (if b then one.row ∷ rows_of_calls closed else rows_of_calls closed) → AreOfParticipants (if b then rows_of_conferences closed else one.row ∷ rows_of_conferences closed) →
         (AreOfCalls (rows_of_calls closed) → AreOfParticipants (rows_of_conferences closed) → filter is_participant_row (rows_in closed) ≡ rows_of_conferences closed) →
-        cond (is_participant_row one.row) (one.row ∷ filter is_participant_row (rows_in closed)) (filter is_participant_row (rows_in closed)) ≡ (if b then rows_of_conferences closed else one.row ∷ rows_of_conferences closed)
+        cond (is_participant_row one.row) (one.row ∷ filter is_participant_row (rows_in closed)) (filter is_participant_row (rows_in closed))
+        ≡ (if b then rows_of_conferences closed else one.row ∷ rows_of_conferences closed)
     go true c s later =
         ap (λ (b : Bool). cond b (one.row ∷ filter is_participant_row (rows_in closed)) (filter is_participant_row (rows_in closed))) (call-no-seat (is_participant_row one.row) c.0) ∙ later c.1 s
     go false c s later =

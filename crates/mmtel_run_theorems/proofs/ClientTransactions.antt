@@ -18,8 +18,10 @@ use Rattle.mmtel_base.specs.Numbers.{token_text}
 use Rattle.mmtel_base.proofs.Runs.{and_true}
 use Rattle.mmtel_transaction.specs.Results.{ack_class, by_key, class_of, is_client_of, is_full, is_invite_of, is_server_of, peer_of, request_class, response_class}
 use Rattle.mmtel_transaction.specs.Matching.{OwnersAreLive, if_refused}
-use Rattle.mmtel_transaction.specs.Operations.{DidAck, DidAsk, DidBegin, DidFire, DidHear, DidReply, DidSettle, TransactionOp, change, change_on_receipt, entry_of, is_live, live, opened_on_receipt, openings, opens, send_count, step_of}
-use Rattle.mmtel_transaction.specs.Changes.{after_ack_2xx, after_any_reply, after_failure_ack, after_final, after_provisional, after_reply, after_response, after_settling, after_timer, after_timer_by, change_of_key, is_ack_of, reliable_response_of, with_kept_ack, with_reliable_if}
+use Rattle.mmtel_transaction.specs.Operations.{DidAck, DidAsk, DidBegin, DidFire, DidHear, DidReply, DidSettle, TransactionOp, change}
+use Rattle.mmtel_transaction.specs.Operations.{change_on_receipt, entry_of, is_live, live, opened_on_receipt, openings, opens, send_count, step_of}
+use Rattle.mmtel_transaction.specs.Changes.{after_ack_2xx, after_any_reply, after_failure_ack, after_final, after_provisional, after_reply, after_response}
+use Rattle.mmtel_transaction.specs.Changes.{after_settling, after_timer, after_timer_by, change_of_key, is_ack_of, reliable_response_of, with_kept_ack, with_reliable_if}
 use Rattle.mmtel_transaction.specs.Deadlines.{foremost_in, state_retransmission_at}
 use Rattle.mmtel_transaction.specs.Heads.{head_of, is_ack, is_cancel, is_invite, is_provisional, is_refusal}
 use Rattle.mmtel_transaction.specs.Theorems.{TokensDiffer}
@@ -92,7 +94,8 @@ asks_after (emit.ArmSeat room seat what at ∷ out) asks = asks_after out asks
 
 -- a request that was sent before, or is among these, was sent then
 module _ (sip : Addr) (method branch : List ℕ) (peer : Peer) where
-  pub sent_after : (out : List Emit) (asks : List (Peer × Message Start)) → RequestWasSent sip asks method branch peer ⊎ RequestWasSent sip (requests_in out) method branch peer → RequestWasSent sip (asks_after out asks) method branch peer
+  pub sent_after : (out : List Emit) (asks : List (Peer × Message Start)) → RequestWasSent sip asks method branch peer ⊎ RequestWasSent sip (requests_in out) method branch peer →
+      RequestWasSent sip (asks_after out asks) method branch peer
   sent_after [] asks (inl is) = is
   sent_after [] asks (inr is) = absurd is
   sent_after (emit.Ask p m ∷ out) asks (inl is) = sent_after out ((p, m) ∷ asks) (inl (inr is))
@@ -132,7 +135,8 @@ module _ (asks : List (Peer × Message Start)) where
   change_of_key_asked key f e is after = either (e.key == key) (f e) e after is
 
   after_timer_by_asked : (first : Option (ℕ × TransactionTimer)) (step : ℕ) (e : Entry) → IsOfSentRequest asks e → IsOfSentRequest asks (after_timer_by first step e)
-  after_timer_by_asked None step e is = either (is_some (state_retransmission_at e)) (record e { retransmissions = e.retransmissions + 1; step = step }) (record e { is_terminated = true }) (record { client = is.client }) (record { client = is.client })
+  after_timer_by_asked None step e is = either (is_some (state_retransmission_at e)) (record e { retransmissions = e.retransmissions + 1; step = step }) (record e { is_terminated = true })
+      (record { client = is.client }) (record { client = is.client })
   after_timer_by_asked (Some first) step e is = record { client = is.client }
 
   after_timer_asked : (step : ℕ) (e : Entry) → IsOfSentRequest asks e → IsOfSentRequest asks (after_timer step e)
@@ -315,7 +319,8 @@ module _ (sip : Addr) (text : List ℕ) where
   AwaitedWasSent (ask ∷ asks) branch peer = ((ask.0 ≡ peer) × IsAwaited sip branch ask.1) ⊎ AwaitedWasSent asks branch peer
 
   -- where one of such a method is
-  pub asked_awaited : (method : List ℕ) → is_awaited_method method ≡ true → (asks : List (Peer × Message Start)) (branch : List ℕ) (peer : Peer) → RequestWasSent sip asks method branch peer → AwaitedWasSent asks branch peer
+  pub asked_awaited : (method : List ℕ) → is_awaited_method method ≡ true → (asks : List (Peer × Message Start)) (branch : List ℕ) (peer : Peer) → RequestWasSent sip asks method branch peer →
+      AwaitedWasSent asks branch peer
   asked_awaited method waits [] branch peer is = absurd is
   asked_awaited method waits (ask ∷ asks) branch peer (inl here) = inl (here.0, record { method = method; awaited = waits; request = here.1 })
   asked_awaited method waits (ask ∷ asks) branch peer (inr there) = inr (asked_awaited method waits asks branch peer there)
@@ -387,7 +392,8 @@ module _ (sip : Addr) (text : List ℕ) where
     unfolding head_of
     head_no m none = none (five_at m.lines)
 
-    by_kind : (asks : List (Peer × Message Start)) (peer : Peer) (m : Message Start) (branch : List ℕ) → Kind asks peer m → is_awaited_method (head_of m).method ≡ true → (head_of m).branch ≡ cookie ++ branch → AwaitedWasSent asks branch peer
+    by_kind : (asks : List (Peer × Message Start)) (peer : Peer) (m : Message Start) (branch : List ℕ) → Kind asks peer m → is_awaited_method (head_of m).method ≡ true →
+        (head_of m).branch ≡ cookie ++ branch → AwaitedWasSent asks branch peer
     by_kind asks peer m branch (inl none) is_one same = absurd (true_false (sym is_one ∙ head_no m none))
     by_kind asks peer m branch (inr x) is_one same = read_back (awaited_branch m sip (token_text text x.0) is_source port (drawn_token text x.0 x.1 is_token) x.2)
       where
@@ -395,7 +401,8 @@ module _ (sip : Addr) (text : List ℕ) where
         read_back (inl none) = absurd (no_cookie branch (sym none ∙ same))
         read_back (inr is) = subst (λ (b : List ℕ). AwaitedWasSent asks b peer) (cookie_same (token_text text x.0) branch (sym is ∙ same)) x.3
 
-    found_sent : (high : ℕ) (h : List TransactionOp) (m : Head) (branch : List ℕ) (e : Entry) → high ≤ 2 ^ 60 → Falls high (asks_of h) → find (is_client_of m) (live h) ≡ Some e → m.branch ≡ cookie ++ branch → is_awaited_method m.method ≡ true
+    found_sent : (high : ℕ) (h : List TransactionOp) (m : Head) (branch : List ℕ) (e : Entry) → high ≤ 2 ^ 60 → Falls high (asks_of h) → find (is_client_of m) (live h) ≡ Some e →
+        m.branch ≡ cookie ++ branch → is_awaited_method m.method ≡ true
         → AwaitedWasSent (asks_of h) branch e.peer
     found_sent high h m branch e top f found same is_one =
         let it = each_found (IsOfSentRequest (asks_of h)) (is_client_of m) (live h) e (live_asked h) found in
@@ -431,7 +438,8 @@ module _ (sip : Addr) (text : List ℕ) where
     answered_key m None key is = let apart_is : part.Stray ≡ part.Answer key = is in absurd cc
     answered_key m (Some e) key is = (e, refl, answered_by (is_invite e.head && e.is_refused && is_refusal m.status) e key is)
 
-    response_part : (b c : Bool) (m : Head) (es : List Entry) (key : ℕ) → b ≡ false → (if b then (if c then ack_class (find (is_server_of m) es) else request_class (is_full es) (find (is_server_of m) es)) else response_class m (find (is_client_of m) es)) ≡ part.Answer key
+    response_part : (b c : Bool) (m : Head) (es : List Entry) (key : ℕ) → b ≡ false →
+        (if b then (if c then ack_class (find (is_server_of m) es) else request_class (is_full es) (find (is_server_of m) es)) else response_class m (find (is_client_of m) es)) ≡ part.Answer key
         → response_class m (find (is_client_of m) es) ≡ part.Answer key
     response_part true c m es key is e = absurd (true_false is)
     response_part false c m es key is e = e
@@ -441,7 +449,8 @@ module _ (sip : Addr) (text : List ℕ) where
     owner_by true m es e is found = absurd (true_false is)
     owner_by false m es e is found = found
 
-    pub answer_sent : (owners : OwnersAreLive) (high : ℕ) (h : List TransactionOp) (m : Message Start) (branch : List ℕ) (key : ℕ) → high ≤ 2 ^ 60 → Falls high (asks_of h) → class_of (head_of m) (live h) ≡ part.Answer key
+    pub answer_sent : (owners : OwnersAreLive) (high : ℕ) (h : List TransactionOp) (m : Message Start) (branch : List ℕ) (key : ℕ) → high ≤ 2 ^ 60 → Falls high (asks_of h) →
+        class_of (head_of m) (live h) ≡ part.Answer key
         → (head_of m).is_request ≡ false → (head_of m).branch ≡ cookie ++ branch → is_awaited_method (head_of m).method ≡ true → (q : Peer) × (peer_of key (live h) ≡ Some q) × AwaitedWasSent (asks_of h) branch q
     answer_sent owners high h m branch key top f part_is response same is_one =
         let n : Head = head_of m in

@@ -224,13 +224,15 @@ module _ (was : List ℕ → Peer → Type 0) (config : ConferenceConfigView) (t
   with_bye_goes d output =
       let given : RequestPartsView = own_parts config.sip (token output) [] [] in
       let m : Message Start = request_of d (codes "BYE") given in
-      then_goes output (after_draw output) (with_emit (emit.Ask d.peer m) (after_draw output)) (after_draw_goes output) (emit_goes (emit.Ask d.peer m) (after_draw output) (λ n. inl (refl, no_bye d (next_number d.local_cseq) given)))
+      then_goes output (after_draw output) (with_emit (emit.Ask d.peer m) (after_draw output)) (after_draw_goes output)
+      (emit_goes (emit.Ask d.peer m) (after_draw output) (λ n. inl (refl, no_bye d (next_number d.local_cseq) given)))
 
   notify_goes : (d : Dialogue) (named : List Line) (body : List ℕ) (output : StepOutput) → Goes output (with_own_request config.sip (codes "NOTIFY") d named body output)
   notify_goes d named body output =
       let given : RequestPartsView = own_parts config.sip (token output) named body in
       let m : Message Start = request_of d (codes "NOTIFY") given in
-      then_goes output (after_draw output) (with_emit (emit.Ask d.peer m) (after_draw output)) (after_draw_goes output) (emit_goes (emit.Ask d.peer m) (after_draw output) (λ n. inl (refl, no_notify d (next_number d.local_cseq) given)))
+      then_goes output (after_draw output) (with_emit (emit.Ask d.peer m) (after_draw output)) (after_draw_goes output)
+      (emit_goes (emit.Ask d.peer m) (after_draw output) (λ n. inl (refl, no_notify d (next_number d.local_cseq) given)))
 
   with_ack_goes : (d : Dialogue) (output : StepOutput) → Goes output (with_ack config.sip d output)
   with_ack_goes d output = then_goes output (after_draw output) (with_ack config.sip d output) (after_draw_goes output) (emit_goes _ (after_draw output) (λ n. refl))
@@ -284,7 +286,8 @@ module _ (was : List ℕ → Peer → Type 0) (config : ConferenceConfigView) (t
   emit_moves P e s quiet = output_moves P (with_emit e s.effects.output) s (emit_goes e s.effects.output quiet)
 
   with_participant_moves : (seat new : ParticipantState) (place : ℕ) (s : StepResult) → (SeatIs seat → SeatIs new) → Moves (SeatIs seat) s (with_participant place new s)
-  with_participant_moves seat new place s on = record { output_in = stays s.effects.output; room_in = λ all p room. each_set SeatIs s.conference.participants place new (on p) room; abandoned_in = λ all p room abandoned. abandoned }
+  with_participant_moves seat new place s on =
+      record { output_in = stays s.effects.output; room_in = λ all p room. each_set SeatIs s.conference.participants place new (on p) room; abandoned_in = λ all p room abandoned. abandoned }
 
   abbrev SeatRow : Type 0
   SeatRow = (place : ℕ) → ParticipantState → StepResult → StepResult
@@ -325,7 +328,8 @@ module _ (was : List ℕ → Peer → Type 0) (config : ConferenceConfigView) (t
   notified_moves goes_on line place seat s =
       then_moves (SeatIs seat) (Unit {0}) s (with_participant place (seats.participant_after_notify seat) s) _
       (with_participant_moves seat (seats.participant_after_notify seat) place s (notified_sent seat.party seat.invite)) (λ p. tt)
-      (output_moves (Unit {0}) (seats.with_notify_to_party config s.conference.number goes_on line seat.party s.effects.output) (with_participant place (seats.participant_after_notify seat) s) (notified_goes s.conference.number goes_on line seat.party s.effects.output))
+      (output_moves (Unit {0}) (seats.with_notify_to_party config s.conference.number goes_on line seat.party s.effects.output) (with_participant place (seats.participant_after_notify seat) s)
+      (notified_goes s.conference.number goes_on line seat.party s.effects.output))
 
   notified_to_moves : (P : Type 0) (goes_on : Bool) (line : List ℕ) (number : ℕ) (s : StepResult) → Moves P s (seats.after_notify_to config goes_on line number s)
   notified_to_moves P goes_on line number s = at_place_moves P (seats.after_notify config goes_on line) (notified_moves goes_on line) (seats.place_of number s.conference.participants) s
@@ -354,7 +358,8 @@ module _ (was : List ℕ → Peer → Type 0) (config : ConferenceConfigView) (t
     abandoned_in = λ all p room abandoned. each_append (AbandonedWasSent was) s.effects.abandoned (seats.abandoned_of_invite had_bye seat.party seat.invite) abandoned (abandoned_sent had_bye seat.party seat.invite p);
   }
 
-  with_bye_sent : (party : Party) (d : Dialogue) (invite : Option Invite) → d.peer ≡ (leg_of party).dialogue.peer → ParticipantInviteWasSent was (leg_of party).dialogue.peer invite → ParticipantInviteWasSent was (leg_of (seats.with_leg (record (leg_of party) { dialogue = d }) party)).dialogue.peer invite
+  with_bye_sent : (party : Party) (d : Dialogue) (invite : Option Invite) → d.peer ≡ (leg_of party).dialogue.peer → ParticipantInviteWasSent was (leg_of party).dialogue.peer invite →
+      ParticipantInviteWasSent was (leg_of (seats.with_leg (record (leg_of party) { dialogue = d }) party)).dialogue.peer invite
   with_bye_sent (Invited leg) d invite same_peer is = subst (λ (p : Peer). ParticipantInviteWasSent was p invite) (sym same_peer) is
   with_bye_sent (DialedIn leg) d invite same_peer is = subst (λ (p : Peer). ParticipantInviteWasSent was p invite) (sym same_peer) is
   with_bye_sent (DialedOut leg) d invite same_peer is = subst (λ (p : Peer). ParticipantInviteWasSent was p invite) (sym same_peer) is
@@ -367,7 +372,8 @@ module _ (was : List ℕ → Peer → Type 0) (config : ConferenceConfigView) (t
   dismissed_by : (now : ℕ) (b : Bool) (seat : ParticipantState) (e : Effects) → Departs seat e
       (if b then seats.effects_of_leave now true (seats.participant_after_bye seat) (record e { output = with_bye config.sip (dialogue_of seat) e.output }) else seats.effects_of_leave now false seat e)
   dismissed_by now true seat e = record {
-    output_in = then_goes e.output (with_bye config.sip (dialogue_of seat) e.output) _ (with_bye_goes (dialogue_of seat) e.output) (filed_goes now (leg_of (seats.participant_after_bye seat).party).meter (with_bye config.sip (dialogue_of seat) e.output));
+    output_in = then_goes e.output (with_bye config.sip (dialogue_of seat) e.output) _ (with_bye_goes (dialogue_of seat) e.output)
+        (filed_goes now (leg_of (seats.participant_after_bye seat).party).meter (with_bye config.sip (dialogue_of seat) e.output));
     abandoned_in = λ p abandoned. each_append (AbandonedWasSent was) e.abandoned (seats.abandoned_of_invite true (seats.participant_after_bye seat).party seat.invite) abandoned
         (abandoned_sent true (seats.participant_after_bye seat).party seat.invite (with_bye_sent seat.party _ seat.invite refl p));
   }
@@ -387,7 +393,8 @@ module _ (was : List ℕ → Peer → Type 0) (config : ConferenceConfigView) (t
   closed_moves now (seat ∷ others) s =
       let m = dismissed_moves now 0 seat s in
       then_moves (Each SeatIs (seat ∷ others)) (Each SeatIs others) s (seats.after_dismissal config now 0 seat s) (seats.after_close config now others (seats.after_dismissal config now 0 seat s))
-      (record { output_in = m.output_in; room_in = λ all p room. m.room_in all p.0 room; abandoned_in = λ all p room abandoned. m.abandoned_in all p.0 room abandoned }) (λ p. p.1) (closed_moves now others (seats.after_dismissal config now 0 seat s))
+      (record { output_in = m.output_in; room_in = λ all p room. m.room_in all p.0 room; abandoned_in = λ all p room abandoned. m.abandoned_in all p.0 room abandoned }) (λ p. p.1)
+      (closed_moves now others (seats.after_dismissal config now 0 seat s))
 
   closed_with_moves : (P : Type 0) (now number : ℕ) (s : StepResult) → Moves P s (seats.after_close_with config now number s)
   closed_with_moves P now number s =
@@ -443,7 +450,8 @@ module _ (was : List ℕ → Peer → Type 0) (config : ConferenceConfigView) (t
   bidden_moves P now by (Some u) s = invited_at_moves P now by (route_of u config.peers.routes) u s
 
   adopted_sent : (meter : Option MeterView) (leg : Released) (branch : List ℕ) (number : ℕ) → was branch (released_leg leg).dialogue.peer →
-      ParticipantInviteWasSent was (leg_of (joining.party_of meter (joining.released_after_reinvite leg))).dialogue.peer (Some (Outstanding number (sent_invite (joining.leg_after_invite (released_leg leg)).dialogue (next_number (released_leg leg).dialogue.local_cseq) branch)))
+      ParticipantInviteWasSent was (leg_of (joining.party_of meter (joining.released_after_reinvite leg))).dialogue.peer
+      (Some (Outstanding number (sent_invite (joining.leg_after_invite (released_leg leg)).dialogue (next_number (released_leg leg).dialogue.local_cseq) branch)))
   adopted_sent meter (released.Caller leg) branch number is = (is, is)
   adopted_sent meter (released.Callee leg) branch number is = (is, is)
 
@@ -476,7 +484,8 @@ module _ (was : List ℕ → Peer → Type 0) (config : ConferenceConfigView) (t
 
   on_invite_moves : (now : ℕ) (key : TKey) (m : MessageView) → RowMoves (requests.on_invite config now key m)
   on_invite_moves now key m place seat s =
-      if_moves (SeatIs seat) (offers_audio m.parsed.body) s (requests.after_reinvite config now key m place seat s) (requests.after_refusal config key m 488 place seat s) (agreed_again_moves now key m place seat s) (refused_moves key m 488 place seat s)
+      if_moves (SeatIs seat) (offers_audio m.parsed.body) s (requests.after_reinvite config now key m place seat s) (requests.after_refusal config key m 488 place seat s)
+      (agreed_again_moves now key m place seat s) (refused_moves key m 488 place seat s)
 
   on_bye_moves : (now : ℕ) (key : TKey) (m : MessageView) → RowMoves (requests.on_bye config now key m)
   on_bye_moves now key m place seat s =
@@ -495,7 +504,8 @@ module _ (was : List ℕ → Peer → Type 0) (config : ConferenceConfigView) (t
       let one : StepResult = requests.after_accepted_refer config key m place seat s in
       let two : StepResult = requests.after_trying config seat.number one in
       then_moves (SeatIs seat) (SeatIs seat) s one (joining.after_refer config now seat.number u two) (accepted_moves key m place seat s) (λ p. p)
-      (then_moves (SeatIs seat) (SeatIs seat) one two (joining.after_refer config now seat.number u two) (notified_to_moves (SeatIs seat) true (own_status 100) seat.number one) (λ p. p) (bidden_moves (SeatIs seat) now seat.number u two))
+      (then_moves (SeatIs seat) (SeatIs seat) one two (joining.after_refer config now seat.number u two) (notified_to_moves (SeatIs seat) true (own_status 100) seat.number one) (λ p. p)
+      (bidden_moves (SeatIs seat) now seat.number u two))
   on_referral_moves now key m (referral.Replace r) place seat s = accepted_moves key m place seat s
 
   on_received_moves : (now : ℕ) (key : TKey) (m : MessageView) → RowMoves (requests.on_request_in_order config now key m)
@@ -520,7 +530,8 @@ module _ (was : List ℕ → Peer → Type 0) (config : ConferenceConfigView) (t
   on_receiving_moves now key m (Err fault) place seat s = refused_request_moves key m fault place seat s
   on_receiving_moves now key m (Ok received) place seat s =
       let one : StepResult = with_participant place (requests.participant_after_request m seat) s in
-      then_moves (SeatIs seat) (Unit {0}) s one (at_participant (requests.on_request_in_order config now key m) place one) (with_participant_moves seat (requests.participant_after_request m seat) place s (received_sent seat.party m seat.invite)) (λ p. tt)
+      then_moves (SeatIs seat) (Unit {0}) s one (at_participant (requests.on_request_in_order config now key m) place one)
+      (with_participant_moves seat (requests.participant_after_request m seat) place s (received_sent seat.party m seat.invite)) (λ p. tt)
       (at_participant_moves (Unit {0}) (requests.on_request_in_order config now key m) (on_received_moves now key m) place one)
 
   on_request_moves : (now : ℕ) (key : TKey) (m : MessageView) → RowMoves (requests.on_request config now key m)
@@ -552,7 +563,8 @@ module _ (was : List ℕ → Peer → Type 0) (config : ConferenceConfigView) (t
   standing_moves : (now : ℕ) (remote : Remote) → RowMoves (answers.after_connect now remote)
   standing_moves now remote place seat s = record {
     output_in = stays s.effects.output;
-    room_in = λ all p room. each_set SeatIs s.conference.participants place (answers.connected_participant s.conference.number now remote seat) (stood_sent s.conference.number now seat.account remote seat.party seat.invite p) room;
+    room_in = λ all p room. each_set SeatIs s.conference.participants place (answers.connected_participant s.conference.number now remote seat)
+        (stood_sent s.conference.number now seat.account remote seat.party seat.invite p) room;
     abandoned_in = λ all p room abandoned. abandoned;
   }
 
@@ -602,7 +614,8 @@ module _ (was : List ℕ → Peer → Type 0) (config : ConferenceConfigView) (t
 
   repeat_moves : (m : MessageView) (tag ack : List ℕ) → RowMoves (answers.on_retransmission m tag ack)
   repeat_moves m tag ack place seat s =
-      if_moves (SeatIs seat) (answers.is_success (status_of m.parsed.start) && bytes_eq (answers.to_tag_of m) tag) s _ s (emit_moves (SeatIs seat) (emit.Plain (dialogue_of seat).peer ack) s (λ n. refl)) (same (SeatIs seat) s)
+      if_moves (SeatIs seat) (answers.is_success (status_of m.parsed.start) && bytes_eq (answers.to_tag_of m) tag) s _ s
+      (emit_moves (SeatIs seat) (emit.Plain (dialogue_of seat).peer ack) s (λ n. refl)) (same (SeatIs seat) s)
 
   response_moves : (now : ℕ) (key : TKey) (m : MessageView) → RowMoves (answers.on_outstanding_response config now key m)
   response_moves now key m place seat s =
@@ -629,7 +642,8 @@ module _ (was : List ℕ → Peer → Type 0) (config : ConferenceConfigView) (t
   with_due_cancel_in_goes (Some (Outstanding number i)) output = with_due_cancel_goes i output
   with_due_cancel_in_goes (Some (Accepted branch tag ack)) output = stays output
 
-  once_sent : (number : ℕ) (peer : Peer) (i : SentInvite) (b : Bool) → ParticipantInviteWasSent was peer (Some (Outstanding number i)) → ParticipantInviteWasSent was peer (Some (Outstanding number (if b then record i { cancelled = true } else i)))
+  once_sent : (number : ℕ) (peer : Peer) (i : SentInvite) (b : Bool) → ParticipantInviteWasSent was peer (Some (Outstanding number i)) →
+      ParticipantInviteWasSent was peer (Some (Outstanding number (if b then record i { cancelled = true } else i)))
   once_sent number peer i true is = is
   once_sent number peer i false is = is
 
@@ -644,7 +658,8 @@ module _ (was : List ℕ → Peer → Type 0) (config : ConferenceConfigView) (t
       let new : ParticipantState = record seat { invite = answers.invite_after_due_cancel seat.invite } in
       then_moves (SeatIs seat) (SeatIs seat) s one (answers.after_ringing_limit config now place seat s)
       (output_moves (SeatIs seat) (answers.with_invite_cancel config.sip seat.invite s.effects.output) s (with_due_cancel_in_goes seat.invite s.effects.output)) (λ p. p)
-      (then_moves (SeatIs seat) (Unit {0}) one (with_participant place new one) (answers.after_ringing_limit config now place seat s) (with_participant_moves seat new place one (once_cancelled_sent (dialogue_of seat).peer seat.invite)) (λ p. tt)
+      (then_moves (SeatIs seat) (Unit {0}) one (with_participant place new one) (answers.after_ringing_limit config now place seat s)
+      (with_participant_moves seat new place one (once_cancelled_sent (dialogue_of seat).peer seat.invite)) (λ p. tt)
       (at_participant_moves (Unit {0}) (answers.after_end config now (own_status 408)) (ended_without_moves now (own_status 408)) place (with_participant place new one)))
 
   unacknowledged_moves : (now : ℕ) → RowMoves (answers.after_missing_ack config now)
@@ -756,7 +771,10 @@ module _ (was : List ℕ → Peer → Type 0) (config : ConferenceConfigView) (t
   rest_success l remote (Some d) output = record { output_in = with_ack_goes d output; remaining_in = λ is. (is, tt) }
   rest_success l remote None output =
       let d : Dialogue = dialogue_of_success l.in_dialog l.invite.early l.invite.early_cseq l.invite.dialogue remote in
-      record { output_in = then_goes output (with_ack config.sip d output) (with_bye config.sip d (with_ack config.sip d output)) (with_ack_goes d output) (with_bye_goes d (with_ack config.sip d output)); remaining_in = λ is. (is, tt) }
+      record {
+        output_in = then_goes output (with_ack config.sip d output) (with_bye config.sip d (with_ack config.sip d output)) (with_ack_goes d output) (with_bye_goes d (with_ack config.sip d output));
+        remaining_in = λ is. (is, tt);
+      }
 
   if_rest : (b : Bool) (l : AbandonedInvite) (output : StepOutput) (one two : AfterResponse) → Rests l output one → Rests l output two → Rests l output (if b then one else two)
   if_rest true l output one two e f = e
@@ -787,7 +805,8 @@ module _ (was : List ℕ → Peer → Type 0) (config : ConferenceConfigView) (t
   received_of : (now : ℕ) (branch : List ℕ) (received : ParticipantSignal) (live : List Conference) (abandoned : List AbandonedInvite) (e : Effects) →
       MovesTable live abandoned e (tables.with_abandoned abandoned (tables.step_by_branch config now branch received live e))
   received_of now branch received live abandoned e =
-      beside live abandoned e _ (stepped_in (tables.step_of_first config now (tables.participant_has_branch branch) received) (λ s. received_moves now (tables.participant_has_branch branch) received s) (position (tables.conference_has_branch branch) live) live e)
+      beside live abandoned e _ (stepped_in (tables.step_of_first config now (tables.participant_has_branch branch) received)
+      (λ s. received_moves now (tables.participant_has_branch branch) received s) (position (tables.conference_has_branch branch) live) live e)
 
   received_in : (now room seat : ℕ) (received : ParticipantSignal) (live : List Conference) (abandoned : List AbandonedInvite) (e : Effects) →
       MovesTable live abandoned e (tables.with_abandoned abandoned (tables.step_by_number config now room seat received live e))
@@ -807,7 +826,8 @@ module _ (was : List ℕ → Peer → Type 0) (config : ConferenceConfigView) (t
   silenced_at : (now : ℕ) (branch : List ℕ) (o : Option ℕ) (live : List Conference) (abandoned : List AbandonedInvite) (e : Effects) →
       MovesTable live abandoned e (tables.step_of_timeout_at config now branch o live abandoned e)
   silenced_at now branch None live abandoned e = received_of now branch of_seat.Silent live abandoned e
-  silenced_at now branch (Some place) live abandoned e = record { output_in = stays e.output; live_in = λ all each. each; abandoned_in = λ each. each_without_at (AbandonedWasSent was) place abandoned each; new_in = λ all each new. new }
+  silenced_at now branch (Some place) live abandoned e =
+      record { output_in = stays e.output; live_in = λ all each. each; abandoned_in = λ each. each_without_at (AbandonedWasSent was) place abandoned each; new_in = λ all each new. new }
 
   silenced_by : (now : ℕ) (o : Option (List ℕ)) (live : List Conference) (abandoned : List AbandonedInvite) (e : Effects) → MovesTable live abandoned e (tables.step_of_timeout config now o live abandoned e)
   silenced_by now None live abandoned e = beside live abandoned e (tables.unchanged_step live e) (unmoved live e)
@@ -896,7 +916,8 @@ module _ (was : List ℕ → Peer → Type 0) (config : ConferenceConfigView) (t
       Steps live e (tables.step_of_notify config room seat code live e).live (tables.step_of_notify config room seat code live e).effects
   unfolding tables.step_of_notify
   notified_in room seat code live e =
-      stays_in (seats.after_notify_to config (tables.is_provisional code) (own_status code) seat) (λ s. notified_to_moves (Unit {0}) (tables.is_provisional code) (own_status code) seat s) (tables.place_of room live) live e
+      stays_in (seats.after_notify_to config (tables.is_provisional code) (own_status code) seat) (λ s. notified_to_moves (Unit {0}) (tables.is_provisional code) (own_status code) seat s)
+      (tables.place_of room live) live e
 
   quiet_does : (op : TableOp) (table : Table) → histories.effects_of config op table ≡ no_effects (tokens_of_op op) →
       (TableWasSent was table → TableWasSent was (histories.table_after_op config op table)) → Does op table

@@ -36,8 +36,10 @@ use Rattle.mmtel_types.specs.declared.sides.Side.{Side}
 use Rattle.mmtel_types.specs.declared.sides.Side.TheVariants.{Caller, Callee}
 use Rattle.mmtel_run_definitions.specs.OwnResponses.{StatusResponse, plain_response}
 use Rattle.mmtel_run_definitions.specs.Calls.{find_dialog, name_by, named_by}
-use Rattle.mmtel_run_definitions.specs.Refusals.{Disposition, Enter, EnterConference, EnterSubscription, JoinConference, OpenCall, OpenConference, Register, Respond, Subscribe, always_known, disposition, disposition_by, disposition_by_method, entry_into, first_that_applies, in_dialog_disposition, invite_disposition, invite_disposition_at}
-use Rattle.mmtel_run_definitions.specs.Refusals.{is_conference, is_factory, is_known_method, is_of_no_subscription, is_register, is_subscribe, known_if_reliable, known_if_waiting, refusals, registration_disposition, registration_disposition_of, to_account}
+use Rattle.mmtel_run_definitions.specs.Refusals.{Disposition, Enter, EnterConference, EnterSubscription, JoinConference, OpenCall, OpenConference, Register, Respond, Subscribe, always_known}
+use Rattle.mmtel_run_definitions.specs.Refusals.{disposition, disposition_by, disposition_by_method, entry_into, first_that_applies, in_dialog_disposition, invite_disposition, invite_disposition_at}
+use Rattle.mmtel_run_definitions.specs.Refusals.{is_conference, is_factory, is_known_method, is_of_no_subscription, is_register, is_subscribe, known_if_reliable}
+use Rattle.mmtel_run_definitions.specs.Refusals.{known_if_waiting, refusals, registration_disposition, registration_disposition_of, to_account}
 use Rattle.mmtel_run_definitions.specs.Events.{message_in}
 use Rattle.mmtel_run_definitions.specs.Ownership.{DialogOwner, InCall, InConference, InSubscription, in_call_or, in_conference_or, in_subscription}
 use Rattle.mmtel_run_definitions.specs.Transitions.{RunState, calls_in}
@@ -102,7 +104,8 @@ if_no k false x y e f = f
 
 -- ---- what enters a dialog names it
 
-registers : (k : Disposition → Bool) (o : Option Account) (m : ParsedMessage) → ((answer : StatusResponse) → k (Respond answer) ≡ false) → ((account : Account) (seconds : ℕ) → k (Register account seconds) ≡ false) → k (registration_disposition_of o m) ≡ false
+registers : (k : Disposition → Bool) (o : Option Account) (m : ParsedMessage) → ((answer : StatusResponse) → k (Respond answer) ≡ false) →
+    ((account : Account) (seconds : ℕ) → k (Register account seconds) ≡ false) → k (registration_disposition_of o m) ≡ false
 registers k None m e f = e (plain_response 404)
 registers k (Some account) m e f = f account _
 
@@ -228,7 +231,8 @@ untagged d merged m e =
     let three = passes (later (later xs)) two.1 in
     some_none m.to_tag (passes (later (later (later xs))) three.1).0
 
-opens_by : (d : Directory) (merged full : Bool) (named : Option DialogOwner) (m : ParsedMessage) (o : Option StatusResponse) → first_that_applies (refusals d merged (is_some named) m) ≡ o → opens (disposition_by d full named m o) ≡ true → is_opening m ≡ true
+opens_by : (d : Directory) (merged full : Bool) (named : Option DialogOwner) (m : ParsedMessage) (o : Option StatusResponse) → first_that_applies (refusals d merged (is_some named) m) ≡ o →
+    opens (disposition_by d full named m o) ≡ true → is_opening m ≡ true
 opens_by d merged full None m None none e = elim (cases_Bool (is_method (codes "INVITE") m.start)) [
   | inl y ↦ ap (λ (b : Bool). b && is_none m.to_tag) y ∙ untagged d merged m none
   | inr n ↦ absurd (true_false (sym e ∙ method_opens d full m n))

@@ -29,7 +29,9 @@ use Rattle.mmtel_types.specs.declared.addrs.Addr.{Addr}
 use Rattle.mmtel_types.specs.declared.numbers.Account.{Account}
 use Rattle.mmtel_types.specs.declared.numbers.Peer.{Peer}
 use Rattle.mmtel_run_definitions.specs.OwnResponses.{StatusResponse, bad_extension, completed_reply, further_methods, is_unsupported, plain_response, response_to, tag_for, unsupported_line, unsupported_options}
-use Rattle.mmtel_run_definitions.specs.Refusals.{Disposition, Enter, EnterSubscription, EnterConference, JoinConference, OpenCall, OpenConference, Respond, Register, Subscribe, is_of_no_subscription, is_subscribe, disposition_by_method, disposition, disposition_by, disposition_in, first_that_applies, entry_into, invite_disposition_at, is_factory, is_foreign, is_foreign_uri, is_known_method, is_register, is_conference, call_opening, refusals, registration_disposition_of, conference_number, to_account, audio_or_refusal}
+use Rattle.mmtel_run_definitions.specs.Refusals.{Disposition, Enter, EnterSubscription, EnterConference, JoinConference, OpenCall, OpenConference, Respond, Register, Subscribe, is_of_no_subscription}
+use Rattle.mmtel_run_definitions.specs.Refusals.{is_subscribe, disposition_by_method, disposition, disposition_by, disposition_in, first_that_applies, entry_into, invite_disposition_at, is_factory, is_foreign}
+use Rattle.mmtel_run_definitions.specs.Refusals.{is_foreign_uri, is_known_method, is_register, is_conference, call_opening, refusals, registration_disposition_of, conference_number, to_account, audio_or_refusal}
 use Rattle.mmtel_run_definitions.specs.Ownership.{DialogOwner, InCall, InConference, InSubscription}
 use Rattle.mmtel_run_theorems.proofs.Received.{IsReadWell}
 
@@ -59,7 +61,8 @@ tag_no_injection token drawn (Some tag) h = refl
 abbrev pub ResponseHasNoInjection : StatusResponse → Type 0
 ResponseHasNoInjection answer = LinesHaveNoInjection answer.lines
 
-pub answer_no_injection : (sip : Addr) (tag : List ℕ) (s : MessageView) (answer : StatusResponse) → HasNoInjection tag → LinesHaveNoInjection s.parsed.lines → ResponseHasNoInjection answer → MessageHasNoInjection (response_to sip tag s answer)
+pub answer_no_injection : (sip : Addr) (tag : List ℕ) (s : MessageView) (answer : StatusResponse) → HasNoInjection tag → LinesHaveNoInjection s.parsed.lines → ResponseHasNoInjection answer →
+    MessageHasNoInjection (response_to sip tag s answer)
 answer_no_injection sip tag s answer t l a =
     response_no_injection s.parsed.start s.parsed.lines _ l (record { phrase_in = phrase_no_injection answer.code; tag_in = t; contact_in = contact_no_injection sip; passed_in = refl; named_in = a })
 
@@ -153,13 +156,16 @@ module _ (d : Directory) (full : Bool) (m : ParsedMessage) where
   in-no_injection None uri = method-no_injection uri
   in-no_injection (Some owner) uri = either m.start (is_subscribe m && is_of_no_subscription owner) (Respond (plain_response 481)) (entry_into owner) refl (dialog-no_injection owner)
 
-  by-no_injection : (named : Option DialogOwner) (o : Option StatusResponse) → IfSome o ResponseHasNoInjection → (o ≡ None → HasNoInjection (request_uri m.start)) → DispositionHasNoInjection m.start (disposition_by d full named m o)
+  by-no_injection : (named : Option DialogOwner) (o : Option StatusResponse) → IfSome o ResponseHasNoInjection → (o ≡ None → HasNoInjection (request_uri m.start)) →
+      DispositionHasNoInjection m.start (disposition_by d full named m o)
   by-no_injection named None h uri = in-no_injection named (uri refl)
   by-no_injection named (Some answer) h uri = h
 
-pub disposition_no_injection : ReadingHasNoInjection → (d : Directory) (merged full : Bool) (named : Option DialogOwner) (m : ParsedMessage) → IsReadWithFields m → DispositionHasNoInjection m.start (disposition d merged full named m)
+pub disposition_no_injection : ReadingHasNoInjection → (d : Directory) (merged full : Bool) (named : Option DialogOwner) (m : ParsedMessage) → IsReadWithFields m →
+    DispositionHasNoInjection m.start (disposition d merged full named m)
 unfolding disposition
 disposition_no_injection read d merged full named m h =
     by-no_injection d full (public_part m) named (first_that_applies (refusals d merged (is_some named) (public_part m)))
-    (first-no_injection (refusals d merged (is_some named) (public_part m)) (allowed_no_injection (further_methods d), (refl, (refl, (refl, (refl, (without_no_injection d (public_part m) h.required, (refl, (refl, tt)))))))))
+    (first-no_injection (refusals d merged (is_some named) (public_part m))
+    (allowed_no_injection (further_methods d), (refl, (refl, (refl, (refl, (without_no_injection d (public_part m) h.required, (refl, (refl, tt)))))))))
     (λ none. uri-no_injection read m.start h.uri (second-none (not (is_known_method d m.start)) (is_foreign m.start) _ _ _ none))

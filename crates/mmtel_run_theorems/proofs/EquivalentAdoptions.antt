@@ -28,13 +28,16 @@ use Rattle.mmtel_run_definitions.specs.Equivalence.{trusts}
 use Rattle.mmtel_run_definitions.specs.Calls.{DialogName, find_dialog, name_by}
 use Rattle.mmtel_run_definitions.specs.InForce.{CallsSeeWhatIsInForce}
 use Rattle.mmtel_run_definitions.specs.Ownership.{account_at, account_of_side, is_of_peer, replaced_side}
-use Rattle.mmtel_run_definitions.specs.Transitions.{RunState, adoption_op, after_adoption_if, after_conference_op, after_detach, after_refer_notify, after_replaces, after_replacing, after_replacing_named, after_replacing_side, calls_in, conferences_in, tokens_now, with_call_op}
+use Rattle.mmtel_run_definitions.specs.Transitions.{RunState, adoption_op, after_adoption_if, after_conference_op, after_detach, after_refer_notify, after_replaces}
+use Rattle.mmtel_run_definitions.specs.Transitions.{after_replacing, after_replacing_named, after_replacing_side, calls_in, conferences_in, tokens_now, with_call_op}
 use Rattle.mmtel_run_theorems.specs.EquivalentStates.{EquivalentConfigs}
-use Rattle.mmtel_run_theorems.proofs.EquivalentOperations.{TableTheorems, after_call_end-equivalent, after_conference_op-equivalent, after_refer_notify-equivalent, bare, releasing-equivalent, restoring-equivalent, tables_equivalent, tokens_same}
+use Rattle.mmtel_run_theorems.proofs.EquivalentOperations.{TableTheorems, after_call_end-equivalent, after_conference_op-equivalent, after_refer_notify-equivalent}
+use Rattle.mmtel_run_theorems.proofs.EquivalentOperations.{bare, releasing-equivalent, restoring-equivalent, tables_equivalent, tokens_same}
 use Rattle.mmtel_run_theorems.proofs.EquivalentEmits.{Knows, Pair}
 use Rattle.mmtel_run_theorems.proofs.ActionPrefixes.{finishing_before, replaced_before}
 
-module _ (law : TextsDecideNothing) (tables : TablesStayEquivalent) (told : CallsSeeWhatIsInForce) (laws : TableTheorems) (records : List Sheet) (d e : Directory) (token : List ℕ) (keys : TKey → Bool) (sites : EquivalentConfigs records d e)
+module _ (law : TextsDecideNothing) (tables : TablesStayEquivalent) (told : CallsSeeWhatIsInForce) (laws : TableTheorems) (records : List Sheet) (d e : Directory) (token : List ℕ) (keys : TKey → Bool)
+    (sites : EquivalentConfigs records d e)
     (K : List TransactionOp → Type 0) (older : (x : TransactionOp) (h : List TransactionOp) → K (x ∷ h) → K h) (knows : (h : List TransactionOp) → K h → Knows d keys h) where
   abbrev Two : RunState → RunState → Type 0
   Two v w = Pair records d e keys v w
@@ -46,7 +49,8 @@ module _ (law : TextsDecideNothing) (tables : TablesStayEquivalent) (told : Call
 
   pub find_same : (o : Option DialogName) (v w : RunState) → Two v w → find_dialog o (calls_in d v).entries ≡ find_dialog o (calls_in e w).entries
   find_same None v w a = refl
-  find_same (Some name) v w a = laws.answers.named records known name.call_id name.local name.remote (bare (calls_in d v)) (bare (calls_in e w)) (tables_equivalent law tables told laws records d e token keys sites K older knows v w a)
+  find_same (Some name) v w a = laws.answers.named records known name.call_id name.local name.remote (bare (calls_in d v)) (bare (calls_in e w))
+      (tables_equivalent law tables told laws records d e token keys sites K older knows v w a)
 
   party_same : (number : ℕ) (side : Side) (v w : RunState) → Two v w → party number side (calls_in d v).entries ≡ party number side (calls_in e w).entries
   party_same number side v w a = laws.answers.sides records known number side (bare (calls_in d v)) (bare (calls_in e w)) (tables_equivalent law tables told laws records d e token keys sites K older knows v w a)
@@ -87,7 +91,8 @@ module _ (law : TextsDecideNothing) (tables : TablesStayEquivalent) (told : Call
     taken_out-alike call side account None (Some other) v w same a k = absurd cc
     taken_out-alike call side account (Some one) None v w same a k = absurd cc
     taken_out-alike call side account (Some one) (Some other) v w same a k =
-        subst (λ (r : Result ℕ RoomFault). Two (after_adoption_if d token at room seat call one account r (with_call_op (Releases call.0 side) v)) (after_detach e token at room seat call side account (Some other) w)) (sym (access_same room v w a))
+        subst (λ (r : Result ℕ RoomFault). Two (after_adoption_if d token at room seat call one account r (with_call_op (Releases call.0 side) v)) (after_detach e token at room seat call side account (Some other) w))
+        (sym (access_same room v w a))
         (adopting-alike call one other account (access room.0 (conferences_in e w).live) (with_call_op (Releases call.0 side) v) (with_call_op (Releases call.0 side) w) (one_released one other same)
         (releasing-equivalent law tables told laws records d e token keys sites K older knows call.0 side v w a) k)
 
@@ -98,7 +103,8 @@ module _ (law : TextsDecideNothing) (tables : TablesStayEquivalent) (told : Call
     replaced_with-alike call side false v w a k = after_refer_notify-equivalent law tables told laws records d e token keys sites K older knows at room seat 481 v w a k
     replaced_with-alike call side true v w a k =
         let across : Side = other_side side in
-        subst (λ (account : Option Account). Two (after_detach d token at room seat call across account (released_leg_of call.0 across (calls_in d v).entries) v) (after_replacing_side e token at room seat call side true w))
+        subst (λ (account : Option Account). Two (after_detach d token at room seat call across account (released_leg_of call.0 across (calls_in d v).entries) v)
+        (after_replacing_side e token at room seat call side true w))
         (sym (ap account_at (party_same call.0 across v w a)))
         (taken_out-alike call across (account_of_side call across (calls_in e w).entries) (released_leg_of call.0 across (calls_in d v).entries) (released_leg_of call.0 across (calls_in e w).entries) v w
         (tables.legs records known call.0 across (bare (calls_in d v)) (bare (calls_in e w)) (tables_equivalent law tables told laws records d e token keys sites K older knows v w a)) a k)
@@ -107,13 +113,15 @@ module _ (law : TextsDecideNothing) (tables : TablesStayEquivalent) (told : Call
         Two (after_replacing_named d token at peer room seat o v) (after_replacing_named e token at peer room seat o w)
     replaced_by-alike peer None v w a k = after_refer_notify-equivalent law tables told laws records d e token keys sites K older knows at room seat 481 v w a k
     replaced_by-alike peer (Some named) v w a k =
-        subst (λ (p : Option (Peer × Option Account)). Two (after_replacing_side d token at room seat named.0 named.1 (is_of_peer peer p) v) (after_replacing_named e token at peer room seat (Some named) w)) (sym (party_same named.0.0 named.1 v w a))
+        subst (λ (p : Option (Peer × Option Account)). Two (after_replacing_side d token at room seat named.0 named.1 (is_of_peer peer p) v) (after_replacing_named e token at peer room seat (Some named) w))
+        (sym (party_same named.0.0 named.1 v w a))
         (replaced_with-alike named.0 named.1 (is_of_peer peer (party named.0.0 named.1 (calls_in e w).entries)) v w a k)
 
     replaced-alike : (peer : Peer) (replaces : Replaces) (v w : RunState) → Two v w → K (after_replacing e token at peer room seat replaces w).actions →
         Two (after_replacing d token at peer room seat replaces v) (after_replacing e token at peer room seat replaces w)
     replaced-alike peer replaces v w a k =
-        subst (λ (o : Option (CallNo × Side)). Two (after_replacing_named d token at peer room seat o v) (after_replacing e token at peer room seat replaces w)) (sym (find_same (name_by (Some replaces.call_id) replaces.to_tag replaces.from_tag) v w a))
+        subst (λ (o : Option (CallNo × Side)). Two (after_replacing_named d token at peer room seat o v) (after_replacing e token at peer room seat replaces w))
+        (sym (find_same (name_by (Some replaces.call_id) replaces.to_tag replaces.from_tag) v w a))
         (replaced_by-alike peer (replaced_side replaces (calls_in e w).entries) v w a k)
 
     pub replacing-alike : (peer : Peer) (o : Option Replaces) (v w : RunState) → Two v w → K (after_replaces e token at peer room seat o w).actions →
@@ -121,4 +129,5 @@ module _ (law : TextsDecideNothing) (tables : TablesStayEquivalent) (told : Call
     replacing-alike peer None v w a k = a
     replacing-alike peer (Some replaces) v w a k =
         replaced-alike peer replaces (after_refer_notify d token at room seat 100 v) (after_refer_notify e token at room seat 100 w)
-        (after_refer_notify-equivalent law tables told laws records d e token keys sites K older knows at room seat 100 v w a (replaced_before K older e token at peer room seat replaces (after_refer_notify e token at room seat 100 w) k)) k
+        (after_refer_notify-equivalent law tables told laws records d e token keys sites K older knows at room seat 100 v w a
+        (replaced_before K older e token at peer room seat replaces (after_refer_notify e token at room seat 100 w) k)) k

@@ -46,5 +46,6 @@ module _ (f g : Who → Bool) where
   each (r ∷ rs) e s (inl same) = subst (λ (x : Sheet). MatchRulesEqually x f g) same (one r (identities_tested_by rs) e)
   each (r ∷ rs) e s (inr is) = each rs (back (parts_of r) (identities_tested_by rs) e) s is
 
-pub decide-equivalent : (records : List Sheet) (i j : Identities2) → has_identity i ≡ has_identity j → map (identity_holds i) (identities_tested_by records) ≡ map (identity_holds j) (identities_tested_by records) → AreDecidedEqually records i j
+pub decide-equivalent : (records : List Sheet) (i j : Identities2) → has_identity i ≡ has_identity j →
+    map (identity_holds i) (identities_tested_by records) ≡ map (identity_holds j) (identities_tested_by records) → AreDecidedEqually records i j
 decide-equivalent records i j somebody answers = record { somebody = somebody; matches = each (identity_holds i) (identity_holds j) records answers }

@@ -239,7 +239,8 @@ module _ (law : TextsDecideNothing) (records : List Sheet) (d e : Directory) (ke
   pub plain-equivalent : (at : ℕ) (peer : Peer) (s t : List ℕ) (v w : RunState) → (trusts d peer ≡ false → s ≡ t) → Two v w → Two (with_emit at (emit.Plain peer s) v) (with_emit at (emit.Plain peer t) w)
   plain-equivalent at peer s t v w text a = with_offers-equivalent (offer.To peer at s ∷ []) (offer.To peer at t ∷ []) v w (λ p strange. one_offer d p peer at s t strange text) a
 
-  ack-equivalent : (at : ℕ) (key : TKey) (m n : Message Start) (v w : RunState) → ((q : Peer) → peer_of key.0 (live w.actions) ≡ Some q → trusts d q ≡ false → message_text m ≡ message_text n) → Two v w → Two (with_emit at (emit.Ack key m) v) (with_emit at (emit.Ack key n) w)
+  ack-equivalent : (at : ℕ) (key : TKey) (m n : Message Start) (v w : RunState) → ((q : Peer) → peer_of key.0 (live w.actions) ≡ Some q → trusts d q ≡ false → message_text m ≡ message_text n) →
+      Two v w → Two (with_emit at (emit.Ack key m) v) (with_emit at (emit.Ack key n) w)
   ack-equivalent at key m n v w text a =
       let peers = ((law (trusts d) v.actions w.actions a.equivalent.actions).0).peer key.0 in
       with_offers-equivalent (to_peer at (message_text m) (peer_of key.0 (live v.actions))) (to_peer at (message_text n) (peer_of key.0 (live w.actions))) _ _
@@ -261,7 +262,8 @@ module _ (law : TextsDecideNothing) (records : List Sheet) (d e : Directory) (ke
       opened = a.equivalent.opened;
       conferences = a.equivalent.conferences;
       subscriptions = a.equivalent.subscriptions;
-      pending_timers = ap (λ (l : List Waiting). l ++ record { timer = x; at = when; step = v.steps - 1 } ∷ []) a.equivalent.pending_timers ∙ ap (λ (n : ℕ). w.pending_timers ++ record { timer = x; at = when; step = n - 1 } ∷ []) a.equivalent.steps;
+      pending_timers = ap (λ (l : List Waiting). l ++ record { timer = x; at = when; step = v.steps - 1 } ∷ []) a.equivalent.pending_timers
+          ∙ ap (λ (n : ℕ). w.pending_timers ++ record { timer = x; at = when; step = n - 1 } ∷ []) a.equivalent.steps;
       texts = a.equivalent.texts;
       registrations = a.equivalent.registrations;
       seen = a.equivalent.seen;
@@ -277,7 +279,8 @@ module _ (law : TextsDecideNothing) (records : List Sheet) (d e : Directory) (ke
   emit-equivalent at (emit.Ask p m) (emit.Ask q n) v w k e a =
       subst (λ (x : Peer). Two (with_emit at (emit.Ask x m) v) (with_emit at (emit.Ask q n) w)) (sym (ap observation_peer e))
       (ask-equivalent at q m n v w (ap observation_head e)
-      (λ strange. text_of (trusts d q) (message_text m) (message_text n) (subst (λ (x : Peer). blank_if (trusts d x) (message_text m) ≡ blank_if (trusts d q) (message_text n)) (ap observation_peer e) (ap observation_text e)) strange) a)
+      (λ strange. text_of (trusts d q) (message_text m) (message_text n)
+      (subst (λ (x : Peer). blank_if (trusts d x) (message_text m) ≡ blank_if (trusts d q) (message_text n)) (ap observation_peer e) (ap observation_text e)) strange) a)
   emit-equivalent at (emit.Ask p m) (emit.Reply other n) v w k e a = absurd cc
   emit-equivalent at (emit.Ask p m) (emit.Plain q y) v w k e a = absurd cc
   emit-equivalent at (emit.Ask p m) (emit.Ack other n) v w k e a = absurd cc
@@ -288,7 +291,8 @@ module _ (law : TextsDecideNothing) (records : List Sheet) (d e : Directory) (ke
   emit-equivalent at (emit.Reply key m) (emit.Reply other n) v w k e a =
       subst (λ (x : TKey). Two (with_emit at (emit.Reply x m) v) (with_emit at (emit.Reply other n) w)) (sym (ap observation_key e))
       (reply-equivalent at other m n v w (ap observation_head e) (ap observation_number e)
-      (λ p of strange. text_of (keys other) (message_text m) (message_text n) (subst (λ (x : TKey). blank_if (keys x) (message_text m) ≡ blank_if (keys other) (message_text n)) (ap observation_key e) (ap observation_text e))
+      (λ p of strange. text_of (keys other) (message_text m) (message_text n)
+      (subst (λ (x : TKey). blank_if (keys x) (message_text m) ≡ blank_if (keys other) (message_text n)) (ap observation_key e) (ap observation_text e))
       (knows w.actions k other.0 p of ∙ strange)) a)
   emit-equivalent at (emit.Reply key m) (emit.Plain q y) v w k e a = absurd cc
   emit-equivalent at (emit.Reply key m) (emit.Ack other n) v w k e a = absurd cc
@@ -310,7 +314,8 @@ module _ (law : TextsDecideNothing) (records : List Sheet) (d e : Directory) (ke
   emit-equivalent at (emit.Ack key m) (emit.Ack other n) v w k e a =
       subst (λ (x : TKey). Two (with_emit at (emit.Ack x m) v) (with_emit at (emit.Ack other n) w)) (sym (ap observation_key e))
       (ack-equivalent at other m n v w
-      (λ p of strange. text_of (keys other) (message_text m) (message_text n) (subst (λ (x : TKey). blank_if (keys x) (message_text m) ≡ blank_if (keys other) (message_text n)) (ap observation_key e) (ap observation_text e))
+      (λ p of strange. text_of (keys other) (message_text m) (message_text n)
+      (subst (λ (x : TKey). blank_if (keys x) (message_text m) ≡ blank_if (keys other) (message_text n)) (ap observation_key e) (ap observation_text e))
       (knows w.actions k other.0 p of ∙ strange)) a)
   emit-equivalent at (emit.Ack key m) (emit.Settled answered own) v w k e a = absurd cc
   emit-equivalent at (emit.Ack key m) (emit.Arm call2 what2 when2) v w k e a = absurd cc

@@ -32,8 +32,10 @@ use Rattle.mmtel_run_definitions.specs.Deadlines.{OfSubscription}
 use Rattle.mmtel_run_definitions.specs.Events.{message_in}
 use Rattle.mmtel_run_definitions.specs.Records.{until_of}
 use Rattle.mmtel_run_definitions.specs.Ownership.{leg_by}
-use Rattle.mmtel_run_definitions.specs.Subscriptions.{after_checked_request, after_expiry, after_notify_response, after_request_in_order, after_subscription, after_subscription_for, after_subscription_request, grant_response, is_last_set, named_mailbox, notify_emits, subscribe_request_of, with_expiry_timer, with_mailbox_op}
-use Rattle.mmtel_run_definitions.specs.Subscriptions.{after_activation, after_last_notify, after_mailbox_upload, after_notify, after_notify_to_each, after_notify_to_peer, after_refresh_by, after_subscribe, after_subscribe_by, other_response, refusal_response}
+use Rattle.mmtel_run_definitions.specs.Subscriptions.{after_checked_request, after_expiry, after_notify_response, after_request_in_order, after_subscription, after_subscription_for}
+use Rattle.mmtel_run_definitions.specs.Subscriptions.{after_subscription_request, grant_response, is_last_set, named_mailbox, notify_emits, subscribe_request_of, with_expiry_timer, with_mailbox_op}
+use Rattle.mmtel_run_definitions.specs.Subscriptions.{after_activation, after_last_notify, after_mailbox_upload, after_notify, after_notify_to_each}
+use Rattle.mmtel_run_definitions.specs.Subscriptions.{after_notify_to_peer, after_refresh_by, after_subscribe, after_subscribe_by, other_response, refusal_response}
 use Rattle.mmtel_run_definitions.specs.Transitions.{RunState, next_tag, subscriptions_in, with_draws, with_emit, with_emits, with_response}
 use Rattle.mmtel_run_theorems.specs.EquivalentStates.{EquivalentConfigs}
 use Rattle.mmtel_run_theorems.proofs.EquivalentEmits.{Knows, Pair, arm-equivalent, ask-equivalent, with_draws-equivalent}
@@ -63,7 +65,8 @@ having_numbered number s = record s { leg = with_dialogue s.leg (record s.leg.di
 abbrev received_at : SubNo → Option ℕ → Table → Table
 received_at sub number table = record table { live = changed (is_numbered sub) (having_numbered number) table.live }
 
-received_same : (m n : MessageView) (sub : SubNo) (s t : Table) → ReadEquallyInDialog m n → s ≡ t → boxes.table_after_op (boxes.Receives sub (message_in m.parsed)) s ≡ boxes.table_after_op (boxes.Receives sub (message_in n.parsed)) t
+received_same : (m n : MessageView) (sub : SubNo) (s t : Table) → ReadEquallyInDialog m n → s ≡ t →
+    boxes.table_after_op (boxes.Receives sub (message_in m.parsed)) s ≡ boxes.table_after_op (boxes.Receives sub (message_in n.parsed)) t
 received_same m n sub s t asks same = λ i. received_at sub (asks.number i) (same i)
 
 request_check_same : (m n : MessageView) (o : Option Subscription) → ReadEquallyInDialog m n → request_check_of (message_in m.parsed) o ≡ request_check_of (message_in n.parsed) o
@@ -77,7 +80,8 @@ module _ (law : TextsDecideNothing) (records : List Sheet) (d e : Directory) (to
 
   -- ---- elementary operations
 
-  with_mailbox_op-equivalent : (op other : boxes.TableOp) (v w : RunState) → boxes.table_after_op op (subscriptions_in v) ≡ boxes.table_after_op other (subscriptions_in w) → Two v w → Two (with_mailbox_op op v) (with_mailbox_op other w)
+  with_mailbox_op-equivalent : (op other : boxes.TableOp) (v w : RunState) → boxes.table_after_op op (subscriptions_in v) ≡ boxes.table_after_op other (subscriptions_in w) → Two v w →
+      Two (with_mailbox_op op v) (with_mailbox_op other w)
   with_mailbox_op-equivalent op other v w after a = record {
     equivalent = record {
       clock = a.equivalent.clock;
@@ -131,7 +135,8 @@ module _ (law : TextsDecideNothing) (records : List Sheet) (d e : Directory) (to
         notice_out peer (notify_request d.sip sub last (next_tag token v) at (subscriptions_in v)) (notify_request e.sip sub last (next_tag token w) at (subscriptions_in w))
         (with_mailbox_op (boxes.Notifies sub (next_tag token v)) (with_draws 1 v)) (with_mailbox_op (boxes.Notifies sub (next_tag token w)) (with_draws 1 w))
         (λ i. notify_request (sites.equal.sip i) sub last (tag i) at (a.equivalent.subscriptions i))
-        (with_mailbox_op-equivalent (boxes.Notifies sub (next_tag token v)) (boxes.Notifies sub (next_tag token w)) (with_draws 1 v) (with_draws 1 w) (λ i. boxes.table_after_op (boxes.Notifies sub (tag i)) (a.equivalent.subscriptions i))
+        (with_mailbox_op-equivalent (boxes.Notifies sub (next_tag token v)) (boxes.Notifies sub (next_tag token w)) (with_draws 1 v) (with_draws 1 w)
+        (λ i. boxes.table_after_op (boxes.Notifies sub (tag i)) (a.equivalent.subscriptions i))
         (with_draws-equivalent law records d e keys K older knows 1 1 v w refl a))
 
     telling-alike : (sub : SubNo) (last : Bool) (v w : RunState) → Two v w → Two (after_notify d token at sub last v) (after_notify e token at sub last w)
@@ -150,7 +155,8 @@ module _ (law : TextsDecideNothing) (records : List Sheet) (d e : Directory) (to
     pub putting-alike : (o : Option (Account × Counts)) (v w : RunState) → Two v w → Two (after_mailbox_upload d token at o v) (after_mailbox_upload e token at o w)
     putting-alike None v w a = a
     putting-alike (Some put) v w a =
-        subst (λ (subs : List SubNo). Two (after_notify_to_each d token at subs (with_mailbox_op (boxes.Puts put.0 put.1) v)) (after_mailbox_upload e token at (Some put) w)) (ap (subscribers_of put.0) (sym a.equivalent.subscriptions))
+        subst (λ (subs : List SubNo). Two (after_notify_to_each d token at subs (with_mailbox_op (boxes.Puts put.0 put.1) v)) (after_mailbox_upload e token at (Some put) w))
+        (ap (subscribers_of put.0) (sym a.equivalent.subscriptions))
         (telling_each-alike (subscribers_of put.0 (subscriptions_in w)) (with_mailbox_op (boxes.Puts put.0 put.1) v) (with_mailbox_op (boxes.Puts put.0 put.1) w) (same_noted (boxes.Puts put.0 put.1) v w a))
 
     -- a subscription expires
@@ -227,7 +233,8 @@ module _ (law : TextsDecideNothing) (records : List Sheet) (d e : Directory) (to
       -- a request in the dialog of a subscription
       abbrev refreshed_by : SubNo → Option ℕ → RunState → RunState
       refreshed_by sub expires u =
-          after_activation d token at sub (granted_seconds expires) (with_response d token at key m (grant_response (granted_seconds expires)) (with_mailbox_op (boxes.Refreshes sub (until_of at (granted_seconds expires))) u))
+          after_activation d token at sub (granted_seconds expires)
+          (with_response d token at key m (grant_response (granted_seconds expires)) (with_mailbox_op (boxes.Refreshes sub (until_of at (granted_seconds expires))) u))
 
       refreshing-alike : (sub : SubNo) (o : Option ℕ) (v w : RunState) → IsOf key n.peer w → Two v w → Two (after_refresh_by d token at key m sub o v) (after_refresh_by e token at key n sub o w)
       refreshing-alike sub (Some code) v w its a = answers (refusal_response code) v w its a
@@ -265,11 +272,13 @@ module _ (law : TextsDecideNothing) (records : List Sheet) (d e : Directory) (to
                 (ap refusal (sym ((subscribes is).asking true))) (refreshing-alike sub (refusal (subscribe_request_of e true n.parsed)) v w its a)
             by false is = answers (other_response e n.parsed) v w its a
 
-        entering_by-alike : (sub : SubNo) (r : Result (Unit {0}) DialogueFault) (v w : RunState) → IsOf key n.peer w → Two v w → Two (after_checked_request d token at key m sub r v) (after_checked_request e token at key n sub r w)
+        entering_by-alike : (sub : SubNo) (r : Result (Unit {0}) DialogueFault) (v w : RunState) → IsOf key n.peer w → Two v w →
+            Two (after_checked_request d token at key m sub r v) (after_checked_request e token at key n sub r w)
         entering_by-alike sub (Err fault) v w its a = answers (plain_response 500) v w its a
         entering_by-alike sub (Ok done) v w its a =
             entered-alike sub (with_mailbox_op (boxes.Receives sub (message_in m.parsed)) v) (with_mailbox_op (boxes.Receives sub (message_in n.parsed)) w) its
-            (with_mailbox_op-equivalent (boxes.Receives sub (message_in m.parsed)) (boxes.Receives sub (message_in n.parsed)) v w (received_same m n sub (subscriptions_in v) (subscriptions_in w) asks a.equivalent.subscriptions) a)
+            (with_mailbox_op-equivalent (boxes.Receives sub (message_in m.parsed)) (boxes.Receives sub (message_in n.parsed)) v w
+            (received_same m n sub (subscriptions_in v) (subscriptions_in w) asks a.equivalent.subscriptions) a)
 
         pub entering_box-alike : (sub : SubNo) (v w : RunState) → IsOf key n.peer w → Two v w → Two (after_subscription_request d token at key m sub v) (after_subscription_request e token at key n sub w)
         entering_box-alike sub v w its a =

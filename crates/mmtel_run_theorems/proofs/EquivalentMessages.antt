@@ -58,7 +58,8 @@ opened_hidden p peer ls tag e =
     ap (λ (x : Dialogue). public_dialog_by true (with_remote x (remote_of Caller (masked_lines p ls)))) (dialogs p peer ls tag e)
     ∙ rw (tags p Caller ls, routes p Caller ls) (ap (λ (v : List ℕ). record (public_dialog_by true (opened_dialog peer ls tag)) { remote = v }) (hide_absorbs p.from (field (codes "From") ls)))
 
-opened_by : (b : Bool) (p : PrivateFields) (peer : Peer) (h : ParsedMessage) (tag : List ℕ) → is_request h.start ≡ true → public_dialog_by b (opened_dialog peer (hidden_by b p h).lines tag) ≡ public_dialog_by b (opened_dialog peer h.lines tag)
+opened_by : (b : Bool) (p : PrivateFields) (peer : Peer) (h : ParsedMessage) (tag : List ℕ) → is_request h.start ≡ true →
+    public_dialog_by b (opened_dialog peer (hidden_by b p h).lines tag) ≡ public_dialog_by b (opened_dialog peer h.lines tag)
 opened_by true p peer h tag asked = opened_hidden (private_fields_in h.start p) peer h.lines tag (request_to p h.start asked)
 opened_by false p peer h tag asked = refl
 
@@ -94,7 +95,8 @@ module _ (heads : EquivalentParsedHaveOneHead) (responses : EquivalentResponsesH
   head_by false true p q x y e same = absurd (true_false (sym e))
   head_by false false p q x y e same = ap (λ (h : ParsedMessage). head_of (message_in h)) same
 
-  reply_by : (b c : Bool) (p q : PrivateFields) (x y : ParsedMessage) (r : Reply) → b ≡ c → hidden_by b p x ≡ hidden_by c q y → is_request x.start ≡ true → head_of (response x.start x.lines r) ≡ head_of (response y.start y.lines r)
+  reply_by : (b c : Bool) (p q : PrivateFields) (x y : ParsedMessage) (r : Reply) → b ≡ c → hidden_by b p x ≡ hidden_by c q y → is_request x.start ≡ true →
+      head_of (response x.start x.lines r) ≡ head_of (response y.start y.lines r)
   reply_by true true p q x y r e same request = responses p q (message_in x) (message_in y) r request (ap (λ (h : ParsedMessage). message_in h) same)
   reply_by true false p q x y r e same request = absurd (true_false e)
   reply_by false true p q x y r e same request = absurd (true_false (sym e))

@@ -56,7 +56,9 @@ use Rattle.mmtel_run_definitions.specs.Records.{in_force}
 use Rattle.mmtel_run_definitions.specs.Ownership.{OfCalls, OfConferences, OfSubscriptions, Owner, calls_or_conferences, conference_config, is_of_calls, is_of_subscriptions, owner_of, owner_of_branch, owner_of_key}
 use Rattle.mmtel_run_definitions.specs.Run.{after_deadline_if, after_due_deadlines, after_one_deadline, first_due_deadline}
 use Rattle.mmtel_run_definitions.specs.View.{view}
-use Rattle.mmtel_run_definitions.specs.Transitions.{RunState, after_service_timer, with_next_step, with_call_output, calls_in, output_of_conference_op, after_transaction_end, after_deadline, after_transaction_timer, after_call_end, conference_signal_op, received_now, after_conference_op, with_call_op, with_conference_output, after_refer_notify, with_offers, conferences_in, after_due, after_conference_signal, after_call_signal, after_request_timeout, tokens_now, subscriptions_in}
+use Rattle.mmtel_run_definitions.specs.Transitions.{RunState, after_service_timer, with_next_step, with_call_output, calls_in, output_of_conference_op, after_transaction_end, after_deadline}
+use Rattle.mmtel_run_definitions.specs.Transitions.{after_transaction_timer, after_call_end, conference_signal_op, received_now, after_conference_op, with_call_op, with_conference_output, after_refer_notify}
+use Rattle.mmtel_run_definitions.specs.Transitions.{with_offers, conferences_in, after_due, after_conference_signal, after_call_signal, after_request_timeout, tokens_now, subscriptions_in}
 use Rattle.mmtel_run_theorems.specs.EquivalentStates.{AreAmong, EquivalentConfigs}
 use Rattle.mmtel_run_theorems.proofs.EquivalentMailboxes.{after_notify_response-equivalent, box_due-alike}
 use Rattle.mmtel_run_theorems.proofs.EquivalentEmits.{Knows, Pair, acting-equivalent, one_offer, with_emits-equivalent, with_offers-equivalent}
@@ -88,7 +90,8 @@ module _ (told : CallsSeeWhatIsInForce) (records : List Sheet) where
     none = a.none;
   }
 
-module _ (law : TextsDecideNothing) (tables : TablesStayEquivalent) (told : CallsSeeWhatIsInForce) (laws : TableTheorems) (records : List Sheet) (d e : Directory) (token : List ℕ) (keys : TKey → Bool) (sites : EquivalentConfigs records d e)
+module _ (law : TextsDecideNothing) (tables : TablesStayEquivalent) (told : CallsSeeWhatIsInForce) (laws : TableTheorems) (records : List Sheet) (d e : Directory) (token : List ℕ) (keys : TKey → Bool)
+    (sites : EquivalentConfigs records d e)
     (K : List TransactionOp → Type 0) (older : (x : TransactionOp) (h : List TransactionOp) → K (x ∷ h) → K h) (knows : (h : List TransactionOp) → K h → Knows d keys h) where
   abbrev pub S : Trust
   S = trust_of (call_config d) keys
@@ -127,7 +130,8 @@ module _ (law : TextsDecideNothing) (tables : TablesStayEquivalent) (told : Call
 
   with_call_output-equivalent : (at : ℕ) (x y : TableOp) (output other : StepOutput) (v w : RunState) → Two v w → EquivalentEntries records (trusts d) (after d x v).entries (after e y w).entries →
       (after d x v).opened ≡ (after e y w).opened →
-      CallsInvariant records S (after d x v).entries → CallsInvariant records S (after e y w).entries → EquivalentOutputs S output other → K (with_call_output at y other w).actions → Two (with_call_output at x output v) (with_call_output at y other w)
+      CallsInvariant records S (after d x v).entries → CallsInvariant records S (after e y w).entries → EquivalentOutputs S output other → K (with_call_output at y other w).actions →
+      Two (with_call_output at x output v) (with_call_output at y other w)
   with_call_output-equivalent at x y output other v w a entries opened one two step_outputs_equivalent k =
       with_emits-equivalent law records d e keys K older knows at output.out other.out
       (record v { call_ops = Drops (length output.rows) ∷ x ∷ v.call_ops; drawn = output.tokens.drawn; waiting = v.waiting ++ output.rows })
@@ -196,7 +200,8 @@ module _ (law : TextsDecideNothing) (tables : TablesStayEquivalent) (told : Call
       let s = tables.operations records (call_config d) (call_config e) keys (BothFinish call.0 at tokens) (bare (calls_in d v)) (bare (calls_in e w)) sites.configured (stands_equivalent v w a) tt in
       let step_outputs_equivalent = tables.ends records (call_config d) (call_config e) keys call.0 at tokens (bare (calls_in d v)) (bare (calls_in e w)) sites.configured (stands_equivalent v w a) in
       subst (λ (t : TokensView). Two (after_call_end_by d at call t v) (after_call_end e token at call w)) (sym (tokens_same v w a))
-      (with_call_output-equivalent at (Finishes call.0 at tokens) (Finishes call.0 at tokens) (step_on_finish (call_config d) call.0 at tokens (calls_in d v)).output (step_on_finish (call_config e) call.0 at tokens (calls_in e w)).output v w a
+      (with_call_output-equivalent at (Finishes call.0 at tokens) (Finishes call.0 at tokens) (step_on_finish (call_config d) call.0 at tokens (calls_in d v)).output
+      (step_on_finish (call_config e) call.0 at tokens (calls_in e w)).output v w a
       s.equivalent.entries s.equivalent.opened s.one s.other step_outputs_equivalent k)
 
   -- ---- operations on the conferences
@@ -239,10 +244,13 @@ module _ (law : TextsDecideNothing) (tables : TablesStayEquivalent) (told : Call
 
   -- the CDRs are removed
   dropped_equivalent : (x : both.OpPair) (n m : ℕ) (v w : RunState) → Two v w → Houses x v w → n ≡ m →
-      alike.EquivalentConferences (trusts d) (rooms.table_after (conference_config d) (rooms.Drops n ∷ both.one_op x ∷ v.conference_ops)) (rooms.table_after (conference_config e) (rooms.Drops m ∷ both.other_op x ∷ w.conference_ops))
+      alike.EquivalentConferences (trusts d) (rooms.table_after (conference_config d) (rooms.Drops n ∷ both.one_op x ∷ v.conference_ops))
+      (rooms.table_after (conference_config e) (rooms.Drops m ∷ both.other_op x ∷ w.conference_ops))
   dropped_equivalent x n m v w a does same =
-      subst (λ (i : ℕ). alike.EquivalentConferences (trusts d) (rooms.table_after (conference_config d) (rooms.Drops n ∷ both.one_op x ∷ v.conference_ops)) (rooms.table_after (conference_config e) (rooms.Drops i ∷ both.other_op x ∷ w.conference_ops))) same
-      (laws.conferences.operations (conference_config d) (conference_config e) keys (both.Drops n) (rooms.table_after (conference_config d) (both.one_op x ∷ v.conference_ops)) (rooms.table_after (conference_config e) (both.other_op x ∷ w.conference_ops)) rooms_equal
+      subst (λ (i : ℕ). alike.EquivalentConferences (trusts d) (rooms.table_after (conference_config d) (rooms.Drops n ∷ both.one_op x ∷ v.conference_ops))
+      (rooms.table_after (conference_config e) (rooms.Drops i ∷ both.other_op x ∷ w.conference_ops))) same
+      (laws.conferences.operations (conference_config d) (conference_config e) keys (both.Drops n) (rooms.table_after (conference_config d) (both.one_op x ∷ v.conference_ops))
+      (rooms.table_after (conference_config e) (both.other_op x ∷ w.conference_ops)) rooms_equal
       (laws.conferences.operations (conference_config d) (conference_config e) keys x (conferences_in d v) (conferences_in e w) rooms_equal a.equivalent.conferences does) (record { done = tt; lookups = tt }))
 
   lodged : (at : ℕ) (x : both.OpPair) (output other : StepOutput) (v w : RunState) → Two v w → Houses x v w → EquivalentOutputs S output other → K (with_conference_output at (both.other_op x) other w).actions →
@@ -300,7 +308,8 @@ module _ (law : TextsDecideNothing) (tables : TablesStayEquivalent) (told : Call
       directories.SignalLooksUpEqually (conference_config d) (conference_config e) (both.other_signal x)
       → observations S (output_of_conference_op d (conference_signal_op token at (both.one_signal x) v) v).out ≡ observations S (output_of_conference_op e (conference_signal_op token at (both.other_signal x) w) w).out
   seen-equivalent at x v w a received looks =
-      subst (λ (t : TokensView). observations S (output_of_conference_op d (rooms.Receives (record { at = at; tokens = t; signal = both.one_signal x })) v).out ≡ observations S (output_of_conference_op e (conference_signal_op token at (both.other_signal x) w) w).out)
+      subst (λ (t : TokensView). observations S (output_of_conference_op d (rooms.Receives (record { at = at; tokens = t; signal = both.one_signal x })) v).out
+      ≡ observations S (output_of_conference_op e (conference_signal_op token at (both.other_signal x) w) w).out)
       (sym (tokens_same v w a)) (outputs_equivalent (both.Receives at (tokens_now token w) x) v w a (record { done = received; lookups = looks })).out
 
   -- a participant is notified of a status
@@ -329,7 +338,8 @@ module _ (law : TextsDecideNothing) (tables : TablesStayEquivalent) (told : Call
     among_first : AreAmong records v.texts
     among_first = subst (AreAmong records) (sym a.equivalent.texts) a.among
 
-    receive : ReceiveEquivalent records (call_config d) (call_config e) keys (record { received = received_now token at x v; role = r }) (record { received = received_now token at y w; role = s }) (bare (calls_in d v)) (bare (calls_in e w))
+    receive : ReceiveEquivalent records (call_config d) (call_config e) keys (record { received = received_now token at x v; role = r }) (record { received = received_now token at y w; role = s })
+        (bare (calls_in d v)) (bare (calls_in e w))
     receive = record {
       at = refl;
       view = ap (λ (t : Texts). in_force t v.registrations) a.equivalent.texts ∙ ap (in_force w.texts) a.equivalent.registrations;
@@ -347,13 +357,18 @@ module _ (law : TextsDecideNothing) (tables : TablesStayEquivalent) (told : Call
     stands : TablesCorrespond records (call_config d) keys (bare (calls_in d v)) (bare (calls_in e w))
     stands = stands_equivalent v w a
 
-    step_outputs_equivalent : EquivalentOutputs S (step_on_receive_after (call_config d) v.call_ops (received_now token at x v)).output (step_on_receive_after (call_config e) w.call_ops (received_now token at y w)).output
-    step_outputs_equivalent = tables.signals records (call_config d) (call_config e) keys (record { received = received_now token at x v; role = r }) (record { received = received_now token at y w; role = s }) (bare (calls_in d v)) (bare (calls_in e w)) sites.configured stands receive
+    step_outputs_equivalent : EquivalentOutputs S (step_on_receive_after (call_config d) v.call_ops (received_now token at x v)).output
+        (step_on_receive_after (call_config e) w.call_ops (received_now token at y w)).output
+    step_outputs_equivalent = tables.signals records (call_config d) (call_config e) keys (record { received = received_now token at x v; role = r })
+        (record { received = received_now token at y w; role = s }) (bare (calls_in d v)) (bare (calls_in e w)) sites.configured stands receive
 
     pub signalled-alike : K (after_call_signal e token at y w).actions → Two (after_call_signal d token at x v) (after_call_signal e token at y w)
     signalled-alike k =
-        let stood = tables.operations records (call_config d) (call_config e) keys (BothReceive (record { received = received_now token at x v; role = r }) (record { received = received_now token at y w; role = s })) (bare (calls_in d v)) (bare (calls_in e w)) sites.configured stands receive in
-        with_call_output-equivalent at (Receives (received_now token at x v)) (Receives (received_now token at y w)) (step_on_receive_after (call_config d) v.call_ops (received_now token at x v)).output (step_on_receive_after (call_config e) w.call_ops (received_now token at y w)).output v w a
+        let stood = tables.operations records (call_config d) (call_config e) keys
+        (BothReceive (record { received = received_now token at x v; role = r }) (record { received = received_now token at y w; role = s })) (bare (calls_in d v))
+        (bare (calls_in e w)) sites.configured stands receive in
+        with_call_output-equivalent at (Receives (received_now token at x v)) (Receives (received_now token at y w))
+        (step_on_receive_after (call_config d) v.call_ops (received_now token at x v)).output (step_on_receive_after (call_config e) w.call_ops (received_now token at y w)).output v w a
         stood.equivalent.entries stood.equivalent.opened stood.one stood.other step_outputs_equivalent k
 
   -- ---- signals without a message
@@ -566,7 +581,8 @@ module _ (law : TextsDecideNothing) (tables : TablesStayEquivalent) (told : Call
   after_deadline-equivalent : (now : ℕ) (x : Deadline) (v w : RunState) → K (after_deadline e token now x w).actions → Two v w → Two (after_deadline d token now x v) (after_deadline e token now x w)
   after_deadline-equivalent now OfTransaction v w k a = fired_in-alike now (with_next_step v) (with_next_step w) k (with_next_step-equivalent v w a)
   after_deadline-equivalent now (OfServiceTimer armed others) v w k a =
-      after_service_timer-equivalent armed.at armed.timer (record (with_next_step v) { pending_timers = others }) (record (with_next_step w) { pending_timers = others }) k (with_armed others (with_next_step v) (with_next_step w) (with_next_step-equivalent v w a))
+      after_service_timer-equivalent armed.at armed.timer (record (with_next_step v) { pending_timers = others }) (record (with_next_step w) { pending_timers = others }) k
+      (with_armed others (with_next_step v) (with_next_step w) (with_next_step-equivalent v w a))
 
   -- moment and step alone determine which one is first
   abbrev comes_by : ℕ × ℕ → PendingTimer → Bool
@@ -595,7 +611,8 @@ module _ (law : TextsDecideNothing) (tables : TablesStayEquivalent) (told : Call
   if_fired now None v w k a = a
   if_fired now (Some x) v w k a = after_deadline-equivalent now x v w k a
 
-  pub after_due_deadlines-equivalent : (fuel now : ℕ) (v w : RunState) → K (after_due_deadlines e token fuel now w).actions → Two v w → Two (after_due_deadlines d token fuel now v) (after_due_deadlines e token fuel now w)
+  pub after_due_deadlines-equivalent : (fuel now : ℕ) (v w : RunState) → K (after_due_deadlines e token fuel now w).actions → Two v w →
+      Two (after_due_deadlines d token fuel now v) (after_due_deadlines e token fuel now w)
   after_due_deadlines-equivalent zero now v w k a = a
   after_due_deadlines-equivalent (suc fuel) now v w k a =
       after_due_deadlines-equivalent fuel now (after_one_deadline d token now v) (after_one_deadline e token now w) k

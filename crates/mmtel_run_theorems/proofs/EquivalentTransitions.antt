@@ -69,10 +69,15 @@ use Rattle.mmtel_run_definitions.specs.Events.{message_in}
 use Rattle.mmtel_run_definitions.specs.InForce.{CallsSeeWhatIsInForce}
 use Rattle.mmtel_run_definitions.specs.Records.{until_of}
 use Rattle.mmtel_run_definitions.specs.Refusals.{Disposition, Enter, EnterConference, EnterSubscription, JoinConference, OpenCall, OpenConference, Register, Respond, Subscribe, disposition, is_subscribe, registrant}
-use Rattle.mmtel_run_definitions.specs.Ownership.{DialogOwner, InSubscription, InCall, InConference, OfSubscriptions, OfCalls, OfConferences, Owner, is_accepting, subscription_named_by, find_participant, in_subscription, in_call_or, in_conference_or, is_accepted, owner_of_branch, leg_by, replacement_in, replaces_by, participant_named_by, status_of_fault}
+use Rattle.mmtel_run_definitions.specs.Ownership.{DialogOwner, InSubscription, InCall, InConference, OfSubscriptions, OfCalls, OfConferences, Owner, is_accepting, subscription_named_by, find_participant}
+use Rattle.mmtel_run_definitions.specs.Ownership.{in_subscription, in_call_or, in_conference_or, is_accepted, owner_of_branch, leg_by, replacement_in, replaces_by, participant_named_by, status_of_fault}
 use Rattle.mmtel_run_definitions.specs.Subscriptions.{after_notify_response}
 use Rattle.mmtel_run_definitions.specs.View.{view}
-use Rattle.mmtel_run_definitions.specs.Transitions.{RunState, after_ack, after_ack_by, after_classified_message, calls_in, after_cancel, after_cancel_of, output_of_conference_op, with_draws, with_emit, after_participant_request, conference_signal_op, with_received_action, dialog_owner_in, after_conference_op, after_conference_invite, with_conference_output, next_tag, with_offers, after_factory_invite, with_registration, with_retransmission, after_replaces, with_response, with_stateless_response, after_response, after_response_to, after_join_if, after_opening_if, conferences_in, after_conference_signal, after_disposition, after_new_request, after_message, tokens_now, after_newcomer_refusal, subscriptions_in}
+use Rattle.mmtel_run_definitions.specs.Transitions.{RunState, after_ack, after_ack_by, after_classified_message, calls_in, after_cancel, after_cancel_of, output_of_conference_op, with_draws}
+use Rattle.mmtel_run_definitions.specs.Transitions.{with_emit, after_participant_request, conference_signal_op, with_received_action, dialog_owner_in, after_conference_op}
+use Rattle.mmtel_run_definitions.specs.Transitions.{after_conference_invite, with_conference_output, next_tag, with_offers, after_factory_invite, with_registration, with_retransmission}
+use Rattle.mmtel_run_definitions.specs.Transitions.{after_replaces, with_response, with_stateless_response, after_response, after_response_to, after_join_if, after_opening_if, conferences_in}
+use Rattle.mmtel_run_definitions.specs.Transitions.{after_conference_signal, after_disposition, after_new_request, after_message, tokens_now, after_newcomer_refusal, subscriptions_in}
 use Rattle.mmtel_run_theorems.specs.EquivalentStates.{CallerLooksUpEqually, EquivalentConfigs, MessageIsTied, MessageLooksUpEqually}
 use Rattle.mmtel_run_theorems.specs.Roles.{is_opening, may_subscribe, role_of}
 use Rattle.mmtel_run_theorems.specs.Mask.{Tests, identities_tested_by as asked_in, tests_beside, tests_of}
@@ -80,12 +85,14 @@ use Rattle.mmtel_run_theorems.proofs.EquivalentAdoptions.{access_same, find_same
 use Rattle.mmtel_run_theorems.proofs.EquivalentMailboxes.{ReadEquallyInDialog, SubscribeEqually, after_notify_response-equivalent, entering_box-alike, subscribing-alike}
 use Rattle.mmtel_run_theorems.proofs.EquivalentCallers.{decide-equivalent}
 use Rattle.mmtel_run_theorems.proofs.DispositionKinds.{enters_named, fresh_request, known_across, of_box, of_call, of_nobody, opens, opens_opening, refuses, subscribe_waits, subscribes_alone}
-use Rattle.mmtel_run_theorems.proofs.EquivalentOperations.{Says, TableTheorems, after_conference_op-equivalent, bare, branches_equivalent, lodging-alike, seated-alike, seen-equivalent, signalled-alike, tables_equivalent, tokens_same}
+use Rattle.mmtel_run_theorems.proofs.EquivalentOperations.{Says, TableTheorems, after_conference_op-equivalent, bare, branches_equivalent, lodging-alike}
+use Rattle.mmtel_run_theorems.proofs.EquivalentOperations.{seated-alike, seen-equivalent, signalled-alike, tables_equivalent, tokens_same}
 use Rattle.mmtel_run_theorems.proofs.EquivalentEmits.{Knows, Pair, acting-equivalent, one_offer, plain-equivalent, reply-equivalent, with_draws-equivalent, with_offers-equivalent}
 use Rattle.mmtel_run_theorems.proofs.RoleBounds.{true_false}
 use Rattle.mmtel_run_theorems.proofs.ActionPrefixes.{answering_before, replacing_before}
 use Rattle.mmtel_run_theorems.proofs.RoleBoundsInBoth.{ack_receives, answer_receives, opening_is, request_receives, seat_receives, subscriber_is}
-use Rattle.mmtel_run_theorems.proofs.EquivalentMessages.{asked_same, boxed_same, decided_same, head_same, leg_same, named_same, parties_same, peer_same, refer_same, registered_same, reply_head, reply_number, reply_whole, seated_same, start_same, subscribed_same, tag_same}
+use Rattle.mmtel_run_theorems.proofs.EquivalentMessages.{asked_same, boxed_same, decided_same, head_same, leg_same, named_same, parties_same, peer_same, refer_same}
+use Rattle.mmtel_run_theorems.proofs.EquivalentMessages.{registered_same, reply_head, reply_number, reply_whole, seated_same, start_same, subscribed_same, tag_same}
 use Rattle.mmtel_run_theorems.proofs.CallerTests.{tests_same}
 
 -- what is proved below
@@ -200,7 +207,8 @@ module _ (below : Below) (records : List Sheet) (d e : Directory) (token : List 
   with_retransmission-equivalent at x y v w s a =
       subst (λ (u : RunState). Two u (with_retransmission at y w)) (sym (with_retransmission_same at x v))
       (subst (λ (u : RunState). Two (with_offers (offers_given at x) v) u) (sym (with_retransmission_same at y w))
-      (with_offers-equivalent below.texts records d e keys K older knows (offers_given at x) (offers_given at y) v w (λ p strange. sym (given_seen p at x strange) ∙ (ap (λ (z : Option (Peer × List ℕ)). view p (offers_given at z)) s ∙ given_seen p at y strange)) a))
+      (with_offers-equivalent below.texts records d e keys K older knows (offers_given at x) (offers_given at y) v w
+      (λ p strange. sym (given_seen p at x strange) ∙ (ap (λ (z : Option (Peer × List ℕ)). view p (offers_given at z)) s ∙ given_seen p at y strange)) a))
 
   -- ---- two messages
 
@@ -238,7 +246,8 @@ module _ (below : Below) (records : List Sheet) (d e : Directory) (token : List 
     received_alike : (t : MessageClass) → Two (record v { actions = DidHear m.peer M at t ∷ v.actions }) (record w { actions = DidHear n.peer N at t ∷ w.actions })
     received_alike t =
         acting-equivalent below.texts records d e keys K older knows _ _ v w
-        (subst (λ (p : Peer). Equivalent (trusts d) (DidHear m.peer M at t ∷ v.actions) (DidHear p N at t ∷ w.actions)) peers (((below.texts (trusts d) v.actions w.actions a.equivalent.actions).1).hears m.peer M N at t one_head)) a
+        (subst (λ (p : Peer). Equivalent (trusts d) (DidHear m.peer M at t ∷ v.actions) (DidHear p N at t ∷ w.actions)) peers
+        (((below.texts (trusts d) v.actions w.actions a.equivalent.actions).1).hears m.peer M N at t one_head)) a
 
     -- ---- responses
 
@@ -253,7 +262,8 @@ module _ (below : Below) (records : List Sheet) (d e : Directory) (token : List 
         reply-equivalent below.texts records d e keys K older knows at key (response_to d.sip t m answer) (response_to e.sip (tag_for token y.drawn n.parsed.to_tag) n answer) _ _
         (reply_head below.heads below.responses below.masks d e sites.equal m n r s same t answer request ∙ ap (λ (z : List ℕ). head_of (response_to e.sip z n answer)) tag)
         (reply_number below.heads below.responses below.masks d e sites.equal m n r s same t answer ∙ ap (λ (z : List ℕ). reliable_number (response_to e.sip z n answer)) tag)
-        (λ q is strange. ap message_text (reply_whole below.heads below.responses below.masks d e sites.equal m n r s same t answer (strange_one q (of_peer q is) strange) ∙ ap (λ (z : List ℕ). response_to e.sip z n answer) tag))
+        (λ q is strange. ap message_text
+        (reply_whole below.heads below.responses below.masks d e sites.equal m n r s same t answer (strange_one q (of_peer q is) strange) ∙ ap (λ (z : List ℕ). response_to e.sip z n answer) tag))
         (with_draws-equivalent below.texts records d e keys K older knows (tags_due m.parsed.to_tag) (tags_due n.parsed.to_tag) x y (ap tags_due tags) b)
 
     replying_plainly-alike : (answer : StatusResponse) (x y : RunState) → Two x y → Two (with_stateless_response d token at m answer x) (with_stateless_response e token at n answer y)
@@ -268,10 +278,12 @@ module _ (below : Below) (records : List Sheet) (d e : Directory) (token : List 
     -- ---- tables
 
     full_same : are_full (calls_in d v).entries ≡ are_full (calls_in e w).entries
-    full_same = below.laws.answers.full records (trusts d) Plain Plain (arrival_signal d.names.accounts (tkey 0) m) (arrival_signal d.names.accounts (tkey 0) m) (bare (calls_in d v)) (bare (calls_in e w)) (tables_both v w a) refl
+    full_same = below.laws.answers.full records (trusts d) Plain Plain (arrival_signal d.names.accounts (tkey 0) m) (arrival_signal d.names.accounts (tkey 0) m) (bare (calls_in d v))
+        (bare (calls_in e w)) (tables_both v w a) refl
 
     names_same : named_by m.parsed (calls_in d v).entries ≡ named_by n.parsed (calls_in e w).entries
-    names_same = find_same below.texts below.tables below.records below.laws records d e token keys sites K older knows (dialog_name m.parsed) v w a ∙ named_same below.heads below.responses below.masks d e sites.equal m n r s same (calls_in e w).entries
+    names_same = find_same below.texts below.tables below.records below.laws records d e token keys sites K older knows (dialog_name m.parsed) v w a
+        ∙ named_same below.heads below.responses below.masks d e sites.equal m n r s same (calls_in e w).entries
 
     seat_same : (o : Option DialogName) → find_participant o (conferences_in d v).live ≡ find_participant o (conferences_in e w).live
     seat_same None = refl
@@ -298,7 +310,8 @@ module _ (below : Below) (records : List Sheet) (d e : Directory) (token : List 
         class_of (head_of N) (live w.actions) ≡ part.Fresh
         → is_cancel (head_of M) ≡ false → is_cancel (head_of N) ≡ false → named_by m.parsed (calls_in d v).entries ≡ Some c → named_by n.parsed (calls_in e w).entries ≡ Some c
         → (d.reliable ≡ false → goes_across c.1 m ≡ false) → (e.reliable ≡ false → goes_across c.1 n ≡ false)
-        → Says below.texts below.tables below.records below.laws records d e token keys sites K older knows at (signal.Request c.0 c.1 key m) (signal.Request c.0 c.1 key n) r s (record v { actions = x.actions }) (record w { actions = y.actions })
+        → Says below.texts below.tables below.records below.laws records d e token keys sites K older knows at (signal.Request c.0 c.1 key m) (signal.Request c.0 c.1 key n) r s
+        (record v { actions = x.actions }) (record w { actions = y.actions })
     request_says c key x y asked asked_too p q i j one two off off_too = record {
       public = ap (λ (z : MessageView). signal.Request c.0 c.1 key z) same;
       callers = λ who second f g. absurd (none_said who f);
@@ -324,10 +337,12 @@ module _ (below : Below) (records : List Sheet) (d e : Directory) (token : List 
 
     arrived_says : (key : TKey) (x y : RunState) → IsFromOwnPeer S key m → IsFromOwnPeer S key n → class_of (head_of M) (live v.actions) ≡ part.Fresh →
         class_of (head_of N) (live w.actions) ≡ part.Fresh → is_opening m.parsed ≡ true → is_opening n.parsed ≡ true
-        → Says below.texts below.tables below.records below.laws records d e token keys sites K older knows at (arrival_signal d.names.accounts key m) (arrival_signal e.names.accounts key n) r s (record v { actions = x.actions }) (record w { actions = y.actions })
+        → Says below.texts below.tables below.records below.laws records d e token keys sites K older knows at (arrival_signal d.names.accounts key m) (arrival_signal e.names.accounts key n) r s
+        (record v { actions = x.actions }) (record w { actions = y.actions })
     arrived_says key x y asked asked_too p q i j =
         let t = openings_same i j in
-        let decided : AreDecidedEqually records (caller_of m.parsed) (caller_of n.parsed) = decide-equivalent records (caller_of m.parsed) (caller_of n.parsed) (ap (λ (z : Tests). z.somebody) t) (ap (λ (z : Tests). z.matches) t) in
+        let decided : AreDecidedEqually records (caller_of m.parsed) (caller_of n.parsed) =
+        decide-equivalent records (caller_of m.parsed) (caller_of n.parsed) (ap (λ (z : Tests). z.somebody) t) (ap (λ (z : Tests). z.matches) t) in
         record {
           public = arrived_said key (parties_same below.heads below.responses below.masks d e sites.equal m n r s same (ap (λ (z : Tests). z.caller) t) (looks.target j));
           callers = λ who second f g.
@@ -341,7 +356,8 @@ module _ (below : Below) (records : List Sheet) (d e : Directory) (token : List 
         }
 
     cancel_says : (call : CallNo) (key invite : TKey) (x y : RunState) → IsFromOwnPeer S key m → IsFromOwnPeer S key n
-        → Says below.texts below.tables below.records below.laws records d e token keys sites K older knows at (signal.Cancel call key m invite) (signal.Cancel call key n invite) r s (record v { actions = x.actions }) (record w { actions = y.actions })
+        → Says below.texts below.tables below.records below.laws records d e token keys sites K older knows at (signal.Cancel call key m invite) (signal.Cancel call key n invite) r s
+        (record v { actions = x.actions }) (record w { actions = y.actions })
     cancel_says call key invite x y asked asked_too = record {
       public = ap (λ (z : MessageView). signal.Cancel call key z invite) same;
       callers = λ who second f g. absurd (none_said who f);
@@ -354,7 +370,8 @@ module _ (below : Below) (records : List Sheet) (d e : Directory) (token : List 
 
     ack_says : (c : CallNo × Side) (x y : RunState) → class_of (head_of M) (live v.actions) ≡ part.AckOf2xx → class_of (head_of N) (live w.actions) ≡ part.AckOf2xx
         → named_by m.parsed (calls_in d v).entries ≡ Some c → named_by n.parsed (calls_in e w).entries ≡ Some c
-        → Says below.texts below.tables below.records below.laws records d e token keys sites K older knows at (signal.Ack c.0 c.1 m) (signal.Ack c.0 c.1 n) r s (record v { actions = x.actions }) (record w { actions = y.actions })
+        → Says below.texts below.tables below.records below.laws records d e token keys sites K older knows at (signal.Ack c.0 c.1 m) (signal.Ack c.0 c.1 n) r s (record v { actions = x.actions })
+        (record w { actions = y.actions })
     ack_says c x y p q one two = record {
       public = ap (λ (z : MessageView). signal.Ack c.0 c.1 z) same;
       callers = λ who second f g. absurd (none_said who f);
@@ -366,7 +383,8 @@ module _ (below : Below) (records : List Sheet) (d e : Directory) (token : List 
     }
 
     answer_says : (key : ℕ) (x y : RunState) → class_of (head_of M) (live v.actions) ≡ part.Answer key → class_of (head_of N) (live w.actions) ≡ part.Answer key
-        → Says below.texts below.tables below.records below.laws records d e token keys sites K older knows at (signal.Answer (tkey key) m) (signal.Answer (tkey key) n) r s (record v { actions = x.actions }) (record w { actions = y.actions })
+        → Says below.texts below.tables below.records below.laws records d e token keys sites K older knows at (signal.Answer (tkey key) m) (signal.Answer (tkey key) n) r s
+        (record v { actions = x.actions }) (record w { actions = y.actions })
     answer_says key x y p q = record {
       public = ap (λ (z : MessageView). signal.Answer (tkey key) z) same;
       callers = λ who second f g. absurd (none_said who f);
@@ -394,7 +412,8 @@ module _ (below : Below) (records : List Sheet) (d e : Directory) (token : List 
     replaces_same xs ys seen =
         ap (λ (x : Start). if is_method (codes "REFER") x && is_accepted xs then replaces_by (referral_in m.parsed.refer_to) else None) start_is
         ∙ (ap (λ (c : Bool). if is_method (codes "REFER") n.parsed.start && c then replaces_by (referral_in m.parsed.refer_to) else None) (accepted_same S xs ys seen)
-        ∙ ap (λ (vs : List (List ℕ)). if is_method (codes "REFER") n.parsed.start && is_accepted ys then replaces_by (referral_in vs) else None) (refer_same below.heads below.responses below.masks d e sites.equal m n r s same))
+        ∙ ap (λ (vs : List (List ℕ)). if is_method (codes "REFER") n.parsed.start && is_accepted ys then replaces_by (referral_in vs) else None)
+        (refer_same below.heads below.responses below.masks d e sites.equal m n r s same))
 
     -- ---- a request that opened a transaction
 
@@ -455,7 +474,8 @@ module _ (below : Below) (records : List Sheet) (d e : Directory) (token : List 
       opened_by tag account u = with_conference_output at (rooms.Opens (join_request at (leg_by tag m) account key m)) (output_of_conference_op d (rooms.Opens (join_request at (leg_by tag m) account key m)) u) u
 
       room_opened-alike : (tag : List ℕ) (is_full : Bool) (u z : RunState) → caller_account d.names.accounts m.parsed ≡ caller_account e.names.accounts n.parsed
-          → ((q : Peer) → peer_of key.0 (live z.actions) ≡ Some q → q ≡ n.peer) → Two u z → K (after_opening_if e at key n tag is_full z).actions → Two (after_opening_if d at key m tag is_full u) (after_opening_if e at key n tag is_full z)
+          → ((q : Peer) → peer_of key.0 (live z.actions) ≡ Some q → q ≡ n.peer) → Two u z → K (after_opening_if e at key n tag is_full z).actions →
+          Two (after_opening_if d at key m tag is_full u) (after_opening_if e at key n tag is_full z)
       room_opened-alike tag true u z caller its c k = turned_away-alike tag 503 u z its c
       room_opened-alike tag false u z caller its c k =
           let account : Option Account = caller_account e.names.accounts n.parsed in
@@ -467,7 +487,8 @@ module _ (below : Below) (records : List Sheet) (d e : Directory) (token : List 
           Two (after_factory_invite d token at key m v1) (after_factory_invite e token at key n w1)
       opening_room-alike i j k =
           subst (λ (tag : List ℕ). Two (after_opening_if d at key m tag (is_table_full (conferences_in d v1).live) (with_draws 1 v1)) (after_factory_invite e token at key n w1)) (sym (tag_next v1 w1 b.equivalent.drawn))
-          (subst (λ (c : Bool). Two (after_opening_if d at key m (next_tag token w1) c (with_draws 1 v1)) (after_factory_invite e token at key n w1)) (sym (below.laws.participants.full (trusts d) (conferences_in d v1) (conferences_in e w1) b.equivalent.conferences))
+          (subst (λ (c : Bool). Two (after_opening_if d at key m (next_tag token w1) c (with_draws 1 v1)) (after_factory_invite e token at key n w1))
+          (sym (below.laws.participants.full (trusts d) (conferences_in d v1) (conferences_in e w1) b.equivalent.conferences))
           (room_opened-alike (next_tag token w1) (is_table_full (conferences_in e w1).live) (with_draws 1 v1) (with_draws 1 w1) (caller_same i j) of_peer
           (with_draws-equivalent below.texts records d e keys K older knows 1 1 v1 w1 refl b) k))
 
@@ -477,12 +498,14 @@ module _ (below : Below) (records : List Sheet) (d e : Directory) (token : List 
           after_conference_op d at (rooms.Joins room.0 (record { at = at; tokens = tokens; leg = released.Caller (leg_by tag m); account = account; key = key; invite = m })) u
 
       room_joined-alike : (room : RoomNo) (tag : List ℕ) (o : Result ℕ RoomFault) (u z : RunState) → caller_account d.names.accounts m.parsed ≡ caller_account e.names.accounts n.parsed
-          → ((q : Peer) → peer_of key.0 (live z.actions) ≡ Some q → q ≡ n.peer) → Two u z → K (after_join_if e token at key n room tag o z).actions → Two (after_join_if d token at key m room tag o u) (after_join_if e token at key n room tag o z)
+          → ((q : Peer) → peer_of key.0 (live z.actions) ≡ Some q → q ≡ n.peer) → Two u z → K (after_join_if e token at key n room tag o z).actions →
+          Two (after_join_if d token at key m room tag o u) (after_join_if e token at key n room tag o z)
       room_joined-alike room tag (Err fault) u z caller its c k = turned_away-alike tag (status_of_fault fault) u z its c
       room_joined-alike room tag (Ok place) u z caller its c k =
           let account : Option Account = caller_account e.names.accounts n.parsed in
           let tokens : TokensView = tokens_now token z in
-          subst (λ (t : TokensView). Two (joined_by room tag (caller_account d.names.accounts m.parsed) t u) (after_join_if e token at key n room tag (Ok place) z)) (sym (tokens_same below.texts below.tables below.records below.laws records d e token keys sites K older knows u z c))
+          subst (λ (t : TokensView). Two (joined_by room tag (caller_account d.names.accounts m.parsed) t u) (after_join_if e token at key n room tag (Ok place) z))
+          (sym (tokens_same below.texts below.tables below.records below.laws records d e token keys sites K older knows u z c))
           (subst (λ (o : Option Account). Two (joined_by room tag o tokens u) (after_join_if e token at key n room tag (Ok place) z)) (sym caller)
           (after_conference_op-equivalent below.texts below.tables below.records below.laws records d e token keys sites K older knows at (both.Joins room.0 (comings tag account tokens)) u z c
           (record { done = come tag account tokens; lookups = tt }) k))
@@ -490,7 +513,8 @@ module _ (below : Below) (records : List Sheet) (d e : Directory) (token : List 
       joining_room-alike : (room : RoomNo) → is_opening m.parsed ≡ true → is_opening n.parsed ≡ true → K (after_conference_invite e token at key n room w1).actions →
           Two (after_conference_invite d token at key m room v1) (after_conference_invite e token at key n room w1)
       joining_room-alike room i j k =
-          subst (λ (tag : List ℕ). Two (after_join_if d token at key m room tag (access room.0 (conferences_in d v1).live) (with_draws 1 v1)) (after_conference_invite e token at key n room w1)) (sym (tag_next v1 w1 b.equivalent.drawn))
+          subst (λ (tag : List ℕ). Two (after_join_if d token at key m room tag (access room.0 (conferences_in d v1).live) (with_draws 1 v1)) (after_conference_invite e token at key n room w1))
+          (sym (tag_next v1 w1 b.equivalent.drawn))
           (subst (λ (o : Result ℕ RoomFault). Two (after_join_if d token at key m room (next_tag token w1) o (with_draws 1 v1)) (after_conference_invite e token at key n room w1))
           (sym (access_same below.texts below.tables below.records below.laws records d e token keys sites K older knows room v1 w1 b))
           (room_joined-alike room (next_tag token w1) (access room.0 (conferences_in e w1).live) (with_draws 1 v1) (with_draws 1 w1) (caller_same i j) of_peer
@@ -531,7 +555,8 @@ module _ (below : Below) (records : List Sheet) (d e : Directory) (token : List 
           let may_too : may_subscribe e n.parsed ≡ true = subscribe_waits e other some hold_two n.parsed g is in
           let here : may_subscribe d n.parsed ≡ true = sym (ap (λ (x : Start). is_method (codes "SUBSCRIBE") x && d.names.mwi) start_is) ∙ may in
           subscribed_same below.heads below.responses below.masks d e sites.equal m n r s same
-          (subscriber_is below.wholes d keys d (λ peer. refl) v knows_one m trusted_one tied p i may none) (subscriber_is below.wholes d keys e trusts_same w (knows w.actions kw) n trusted_two tied_too q j may_too none_too)
+          (subscriber_is below.wholes d keys d (λ peer. refl) v knows_one m trusted_one tied p i may none)
+          (subscriber_is below.wholes d keys e trusts_same w (knows w.actions kw) n trusted_two tied_too q j may_too none_too)
           (looks.subscriber here) (looks.mailbox here)
 
       taking-alike : (c : Disposition) (merged other full some : Bool) → is_cancel (head_of M) ≡ false → is_cancel (head_of N) ≡ false
@@ -541,8 +566,10 @@ module _ (below : Below) (records : List Sheet) (d e : Directory) (token : List 
       taking-alike (Enter call side) merged other full some i j f g k =
           signalled-alike below.texts below.tables below.records below.laws records d e token keys sites K older knows at (signal.Request call side key m) (signal.Request call side key n) r s v1 w1 b
           (request_says (call, side) key x y asked asked_too p q i j
-          (of_call (subscription_named_by m.parsed (subscriptions_in v)) (participant_named_by m.parsed (conferences_in d v).live) (named_by m.parsed (calls_in d v).entries) (call, side) (enters_named d merged full hold_one m.parsed (InCall call side) f))
-          (of_call (subscription_named_by n.parsed (subscriptions_in w)) (participant_named_by n.parsed (conferences_in e w).live) (named_by n.parsed (calls_in e w).entries) (call, side) (enters_named e other some hold_two n.parsed (InCall call side) g))
+          (of_call (subscription_named_by m.parsed (subscriptions_in v)) (participant_named_by m.parsed (conferences_in d v).live) (named_by m.parsed (calls_in d v).entries) (call, side)
+          (enters_named d merged full hold_one m.parsed (InCall call side) f))
+          (of_call (subscription_named_by n.parsed (subscriptions_in w)) (participant_named_by n.parsed (conferences_in e w).live) (named_by n.parsed (calls_in e w).entries) (call, side)
+          (enters_named e other some hold_two n.parsed (InCall call side) g))
           (known_across d merged full hold_one side m (InCall call side) f) (known_across e other some hold_two side n (InCall call side) g)) k
       taking-alike (EnterConference room seat) merged other full some i j f g k = entering_room-alike room seat k
       taking-alike OpenCall merged other full some i j f g k =
@@ -553,7 +580,8 @@ module _ (below : Below) (records : List Sheet) (d e : Directory) (token : List 
       taking-alike (JoinConference room) merged other full some i j f g k =
           joining_room-alike room (opens_opening d merged full hold_one m.parsed (ap opens f)) (opens_opening e other some hold_two n.parsed (ap opens g)) k
       taking-alike (Register account seconds) merged other full some i j f g k =
-          replying-alike key (plain_response 200) (with_registration account (until_of at seconds) v1) (with_registration account (until_of at seconds) w1) request of_peer (with_registration-equivalent account (until_of at seconds) v1 w1 b)
+          replying-alike key (plain_response 200) (with_registration account (until_of at seconds) v1) (with_registration account (until_of at seconds) w1) request of_peer
+          (with_registration-equivalent account (until_of at seconds) v1 w1 b)
       taking-alike Subscribe merged other full some i j f g k =
           let one = subscribes_alone d merged full hold_one m.parsed f in
           let two = subscribes_alone e other some hold_two n.parsed g in
@@ -564,8 +592,10 @@ module _ (below : Below) (records : List Sheet) (d e : Directory) (token : List 
       taking-alike (EnterSubscription sub) merged other full some i j f g k =
           entering_box-alike below.texts records d e token keys sites K older knows at key m n asked_alike (λ answer u z its c. replying-alike key answer u z request its c) tagged-alike
           (subscribed merged other full some i j (ap refuses f) (ap refuses g)
-          (of_box (subscription_named_by m.parsed (subscriptions_in v)) (participant_named_by m.parsed (conferences_in d v).live) (named_by m.parsed (calls_in d v).entries) sub (enters_named d merged full hold_one m.parsed (InSubscription sub) f))
-          (of_box (subscription_named_by n.parsed (subscriptions_in w)) (participant_named_by n.parsed (conferences_in e w).live) (named_by n.parsed (calls_in e w).entries) sub (enters_named e other some hold_two n.parsed (InSubscription sub) g))) sub v1 w1 of_peer b
+          (of_box (subscription_named_by m.parsed (subscriptions_in v)) (participant_named_by m.parsed (conferences_in d v).live) (named_by m.parsed (calls_in d v).entries) sub
+          (enters_named d merged full hold_one m.parsed (InSubscription sub) f))
+          (of_box (subscription_named_by n.parsed (subscriptions_in w)) (participant_named_by n.parsed (conferences_in e w).live) (named_by n.parsed (calls_in e w).entries) sub
+          (enters_named e other some hold_two n.parsed (InSubscription sub) g))) sub v1 w1 of_peer b
 
       disposition_alike : disposition d (is_merged key.0 (live x.actions)) (are_full (calls_in d v).entries) hold_one m.parsed
           ≡ disposition e (is_merged key.0 (live y.actions)) (are_full (calls_in e w).entries) hold_two n.parsed
@@ -586,7 +616,8 @@ module _ (below : Below) (records : List Sheet) (d e : Directory) (token : List 
           Two (after_cancel_of d token at key m invite o v1) (after_cancel_of e token at key n invite o w1)
       cancelling_call-alike invite None k = replying-alike key (plain_response 200) v1 w1 request of_peer b
       cancelling_call-alike invite (Some c) k =
-          signalled-alike below.texts below.tables below.records below.laws records d e token keys sites K older knows at (signal.Cancel c.0 key m invite) (signal.Cancel c.0 key n invite) r s v1 w1 b (cancel_says c.0 key invite x y asked asked_too) k
+          signalled-alike below.texts below.tables below.records below.laws records d e token keys sites K older knows at (signal.Cancel c.0 key m invite) (signal.Cancel c.0 key n invite) r s v1 w1 b
+          (cancel_says c.0 key invite x y asked asked_too) k
 
       cancelling-alike : (invite : Option TKey) → K (after_cancel e token at key n invite w1).actions → Two (after_cancel d token at key m invite v1) (after_cancel e token at key n invite w1)
       cancelling-alike None k = replying-alike key (plain_response 481) v1 w1 request of_peer b
@@ -597,20 +628,24 @@ module _ (below : Below) (records : List Sheet) (d e : Directory) (token : List 
 
     -- ---- an ACK of a 2xx
 
-    acknowledging_by-alike : (o : Option DialogOwner) (x y : RunState) → Two (record v { actions = x.actions }) (record w { actions = y.actions }) → class_of (head_of M) (live v.actions) ≡ part.AckOf2xx → class_of (head_of N) (live w.actions) ≡ part.AckOf2xx
+    acknowledging_by-alike : (o : Option DialogOwner) (x y : RunState) → Two (record v { actions = x.actions }) (record w { actions = y.actions }) →
+        class_of (head_of M) (live v.actions) ≡ part.AckOf2xx → class_of (head_of N) (live w.actions) ≡ part.AckOf2xx
         → dialog_owner_in d m.parsed v ≡ o → dialog_owner_in e n.parsed w ≡ o → K (after_ack_by e token at n o (record w { actions = y.actions })).actions
         → Two (after_ack_by d token at m o (record v { actions = x.actions })) (after_ack_by e token at n o (record w { actions = y.actions }))
     acknowledging_by-alike None x y b p q one two k = b
     acknowledging_by-alike (Some (InCall call side)) x y b p q one two k =
-        signalled-alike below.texts below.tables below.records below.laws records d e token keys sites K older knows at (signal.Ack call side m) (signal.Ack call side n) r s (record v { actions = x.actions }) (record w { actions = y.actions }) b
+        signalled-alike below.texts below.tables below.records below.laws records d e token keys sites K older knows at (signal.Ack call side m) (signal.Ack call side n) r s
+        (record v { actions = x.actions }) (record w { actions = y.actions }) b
         (ack_says (call, side) x y p q
         (of_call (subscription_named_by m.parsed (subscriptions_in v)) (participant_named_by m.parsed (conferences_in d v).live) (named_by m.parsed (calls_in d v).entries) (call, side) one)
         (of_call (subscription_named_by n.parsed (subscriptions_in w)) (participant_named_by n.parsed (conferences_in e w).live) (named_by n.parsed (calls_in e w).entries) (call, side) two)) k
     acknowledging_by-alike (Some (InConference room seat)) x y b p q one two k =
-        seated-alike below.texts below.tables below.records below.laws records d e token keys sites K older knows at (both.Ack room seat pair) (record v { actions = x.actions }) (record w { actions = y.actions }) b same tt k
+        seated-alike below.texts below.tables below.records below.laws records d e token keys sites K older knows at (both.Ack room seat pair) (record v { actions = x.actions })
+        (record w { actions = y.actions }) b same tt k
     acknowledging_by-alike (Some (InSubscription sub)) x y b p q one two k = b
 
-    acknowledging-alike : (x y : RunState) → Two (record v { actions = x.actions }) (record w { actions = y.actions }) → class_of (head_of M) (live v.actions) ≡ part.AckOf2xx → class_of (head_of N) (live w.actions) ≡ part.AckOf2xx
+    acknowledging-alike : (x y : RunState) → Two (record v { actions = x.actions }) (record w { actions = y.actions }) → class_of (head_of M) (live v.actions) ≡ part.AckOf2xx →
+        class_of (head_of N) (live w.actions) ≡ part.AckOf2xx
         → K (after_ack e token at n (record w { actions = y.actions })).actions → Two (after_ack d token at m (record v { actions = x.actions })) (after_ack e token at n (record w { actions = y.actions }))
     acknowledging-alike x y b p q k =
         subst (λ (o : Option DialogOwner). Two (after_ack_by d token at m o (record v { actions = x.actions })) (after_ack e token at n (record w { actions = y.actions }))) (sym owners_same)
@@ -629,26 +664,35 @@ module _ (below : Below) (records : List Sheet) (d e : Directory) (token : List 
     code_same = ap (λ (x : MessageView). status_of x.parsed.start) same
 
     responded : (x y : RunState) → Two (record v { actions = x.actions }) (record w { actions = y.actions }) →
-        Two (after_notify_response (branch_in m.parsed.vias) (status_of m.parsed.start) (record v { actions = x.actions })) (after_notify_response (branch_in n.parsed.vias) (status_of n.parsed.start) (record w { actions = y.actions }))
+        Two (after_notify_response (branch_in m.parsed.vias) (status_of m.parsed.start) (record v { actions = x.actions }))
+        (after_notify_response (branch_in n.parsed.vias) (status_of n.parsed.start) (record w { actions = y.actions }))
     responded x y b =
-        subst (λ (o : Option (List ℕ)). Two (after_notify_response o (status_of m.parsed.start) (record v { actions = x.actions })) (after_notify_response (branch_in n.parsed.vias) (status_of n.parsed.start) (record w { actions = y.actions })))
+        subst (λ (o : Option (List ℕ)). Two (after_notify_response o (status_of m.parsed.start) (record v { actions = x.actions }))
+        (after_notify_response (branch_in n.parsed.vias) (status_of n.parsed.start) (record w { actions = y.actions })))
         (sym vias_same)
-        (subst (λ (code : ℕ). Two (after_notify_response (branch_in n.parsed.vias) code (record v { actions = x.actions })) (after_notify_response (branch_in n.parsed.vias) (status_of n.parsed.start) (record w { actions = y.actions }))) (sym code_same)
-        (after_notify_response-equivalent below.texts records d e token keys sites K older knows (branch_in n.parsed.vias) (status_of n.parsed.start) (record v { actions = x.actions }) (record w { actions = y.actions }) b))
+        (subst (λ (code : ℕ). Two (after_notify_response (branch_in n.parsed.vias) code (record v { actions = x.actions }))
+        (after_notify_response (branch_in n.parsed.vias) (status_of n.parsed.start) (record w { actions = y.actions }))) (sym code_same)
+        (after_notify_response-equivalent below.texts records d e token keys sites K older knows (branch_in n.parsed.vias) (status_of n.parsed.start) (record v { actions = x.actions })
+        (record w { actions = y.actions }) b))
 
-    responding_to-alike : (key : ℕ) (whose : Owner) (x y : RunState) → Two (record v { actions = x.actions }) (record w { actions = y.actions }) → class_of (head_of M) (live v.actions) ≡ part.Answer key → class_of (head_of N) (live w.actions) ≡ part.Answer key
+    responding_to-alike : (key : ℕ) (whose : Owner) (x y : RunState) → Two (record v { actions = x.actions }) (record w { actions = y.actions }) →
+        class_of (head_of M) (live v.actions) ≡ part.Answer key → class_of (head_of N) (live w.actions) ≡ part.Answer key
         → owner_of_branch (awaited_request_branch m) (branch_in m.parsed.vias) (calls_in d v).entries (subscriptions_in v) ≡ whose
-        → owner_of_branch (awaited_request_branch n) (branch_in n.parsed.vias) (calls_in e w).entries (subscriptions_in w) ≡ whose → K (after_response_to e token at (tkey key) n whose (record w { actions = y.actions })).actions
+        → owner_of_branch (awaited_request_branch n) (branch_in n.parsed.vias) (calls_in e w).entries (subscriptions_in w) ≡ whose →
+        K (after_response_to e token at (tkey key) n whose (record w { actions = y.actions })).actions
         → Two (after_response_to d token at (tkey key) m whose (record v { actions = x.actions })) (after_response_to e token at (tkey key) n whose (record w { actions = y.actions }))
     responding_to-alike key OfCalls x y b p q one two k =
-        signalled-alike below.texts below.tables below.records below.laws records d e token keys sites K older knows at (signal.Answer (tkey key) m) (signal.Answer (tkey key) n) r s (record v { actions = x.actions }) (record w { actions = y.actions }) b (answer_says key x y p q) k
+        signalled-alike below.texts below.tables below.records below.laws records d e token keys sites K older knows at (signal.Answer (tkey key) m) (signal.Answer (tkey key) n) r s
+        (record v { actions = x.actions }) (record w { actions = y.actions }) b (answer_says key x y p q) k
     responding_to-alike key OfSubscriptions x y b p q one two k = responded x y b
     responding_to-alike key OfConferences x y b p q one two k =
         seated-alike below.texts below.tables below.records below.laws records d e token keys sites K older knows at (both.Answer (tkey key) pair) (record v { actions = x.actions }) (record w { actions = y.actions }) b
         (same, seat_receives below.wholes d keys d (λ peer. refl) v knows_one m trusted_one tied key p one, seat_receives below.wholes d keys e trusts_same w (knows w.actions kw) n trusted_two tied_too key q two) tt k
 
-    responding-alike : (key : ℕ) (x y : RunState) → Two (record v { actions = x.actions }) (record w { actions = y.actions }) → class_of (head_of M) (live v.actions) ≡ part.Answer key → class_of (head_of N) (live w.actions) ≡ part.Answer key
-        → K (after_response e token at (tkey key) n (record w { actions = y.actions })).actions → Two (after_response d token at (tkey key) m (record v { actions = x.actions })) (after_response e token at (tkey key) n (record w { actions = y.actions }))
+    responding-alike : (key : ℕ) (x y : RunState) → Two (record v { actions = x.actions }) (record w { actions = y.actions }) → class_of (head_of M) (live v.actions) ≡ part.Answer key →
+        class_of (head_of N) (live w.actions) ≡ part.Answer key
+        → K (after_response e token at (tkey key) n (record w { actions = y.actions })).actions →
+        Two (after_response d token at (tkey key) m (record v { actions = x.actions })) (after_response e token at (tkey key) n (record w { actions = y.actions }))
     responding-alike key x y b p q k =
         let of_two : Owner = owner_of_branch (awaited_request_branch n) (branch_in n.parsed.vias) (calls_in e w).entries (subscriptions_in w) in
         let whose_same : owner_of_branch (awaited_request_branch m) (branch_in m.parsed.vias) (calls_in d v).entries (subscriptions_in v) ≡ of_two =
@@ -703,25 +747,30 @@ module _ (below : Below) (records : List Sheet) (d e : Directory) (token : List 
     fresh_by true true i j o u cm cn cf ij is ou p q kh k =
         subst (λ (z : Option TKey). Two (after_cancel d token at (tkey i) m z (v_received part.Fresh)) (after_cancel e token at (tkey j) n u (w_received part.Fresh))) (sym ou)
         (subst (λ (z : ℕ). Two (after_cancel d token at (tkey z) m u (v_received part.Fresh)) (after_cancel e token at (tkey j) n u (w_received part.Fresh))) (sym ij)
-        (cancelling-alike (tkey j) (fresh_request M (live v.actions) p) (fresh_request N (live w.actions) q) (known_new j is kh) p q (v_received part.Fresh) (w_received part.Fresh) (received_alike part.Fresh) (of_new j is) u k))
+        (cancelling-alike (tkey j) (fresh_request M (live v.actions) p) (fresh_request N (live w.actions) q) (known_new j is kh) p q (v_received part.Fresh) (w_received part.Fresh)
+        (received_alike part.Fresh) (of_new j is) u k))
     fresh_by false false i j o u cm cn cf ij is ou p q kh k =
         subst (λ (z : ℕ). Two (after_new_request d token at (tkey z) m (v_received part.Fresh)) (after_new_request e token at (tkey j) n (w_received part.Fresh))) (sym ij)
-        (taking_fresh-alike (tkey j) (fresh_request M (live v.actions) p) (fresh_request N (live w.actions) q) (known_new j is kh) p q (v_received part.Fresh) (w_received part.Fresh) (received_alike part.Fresh) (of_new j is) cm cn k)
+        (taking_fresh-alike (tkey j) (fresh_request M (live v.actions) p) (fresh_request N (live w.actions) q) (known_new j is kh) p q (v_received part.Fresh) (w_received part.Fresh)
+        (received_alike part.Fresh) (of_new j is) cm cn k)
     fresh_by true false i j o u cm cn cf ij is ou p q kh k = absurd (true_false cf)
     fresh_by false true i j o u cm cn cf ij is ou p q kh k = absurd (true_false (sym cf))
 
     abbrev again_of : Peer → ℕ → RunState → Option (Peer × List ℕ)
     again_of peer key u = bind_entry (retransmission_for peer) (by_key key (live u.actions))
 
-    message_by-alike : (t : MessageClass) → class_of (head_of M) (live v.actions) ≡ t → class_of (head_of N) (live w.actions) ≡ t → K (after_message_by e n t w).actions → Two (after_message_by d m t v) (after_message_by e n t w)
+    message_by-alike : (t : MessageClass) → class_of (head_of M) (live v.actions) ≡ t → class_of (head_of N) (live w.actions) ≡ t → K (after_message_by e n t w).actions →
+        Two (after_message_by d m t v) (after_message_by e n t w)
     message_by-alike part.Fresh p q k =
         fresh_by (is_cancel (head_of M)) (is_cancel (head_of N)) (length (openings v.actions)) (length (openings w.actions)) _ _ refl refl (ap is_cancel one_head) a.equivalent.actions.next refl invite_same p q
         (answering_before K older e token at n (said_for n part.Fresh w) (w_received part.Fresh) k) k
     message_by-alike part.Full p q k = replying_plainly-alike (plain_response 503) v w a
     message_by-alike (part.Repeat i) p q k =
         with_retransmission-equivalent at _ _ (v_received (part.Repeat i)) (w_received (part.Repeat i))
-        (subst (λ (z : Peer). option_map (blank_sent (trusts d)) (again_of m.peer i v) ≡ option_map (blank_sent (trusts d)) (again_of z i w)) peers (((below.texts (trusts d) v.actions w.actions a.equivalent.actions).0).retransmission m.peer i)) (received_alike (part.Repeat i))
-    message_by-alike (part.RepeatedFinal i) p q k = with_retransmission-equivalent at _ _ (v_received (part.RepeatedFinal i)) (w_received (part.RepeatedFinal i)) (((below.texts (trusts d) v.actions w.actions a.equivalent.actions).0).same i) (received_alike (part.RepeatedFinal i))
+        (subst (λ (z : Peer). option_map (blank_sent (trusts d)) (again_of m.peer i v) ≡ option_map (blank_sent (trusts d)) (again_of z i w)) peers
+        (((below.texts (trusts d) v.actions w.actions a.equivalent.actions).0).retransmission m.peer i)) (received_alike (part.Repeat i))
+    message_by-alike (part.RepeatedFinal i) p q k = with_retransmission-equivalent at _ _ (v_received (part.RepeatedFinal i)) (w_received (part.RepeatedFinal i))
+        (((below.texts (trusts d) v.actions w.actions a.equivalent.actions).0).same i) (received_alike (part.RepeatedFinal i))
     message_by-alike (part.Answer i) p q k = responding-alike i (v_received (part.Answer i)) (w_received (part.Answer i)) (received_alike (part.Answer i)) p q k
     message_by-alike (part.Acked i) p q k = received_alike (part.Acked i)
     message_by-alike part.AckOf2xx p q k = acknowledging-alike (v_received part.AckOf2xx) (w_received part.AckOf2xx) (received_alike part.AckOf2xx) p q k
@@ -729,7 +778,8 @@ module _ (below : Below) (records : List Sheet) (d e : Directory) (token : List 
 
     pub message-alike : K (after_message e token at n w).actions → Two (after_message d token at m v) (after_message e token at n w)
     message-alike k =
-        let taken : class_of (head_of M) (live v.actions) ≡ class_of (head_of N) (live w.actions) = ap (λ (x : Head). class_of x (live v.actions)) one_head ∙ ((below.texts (trusts d) v.actions w.actions a.equivalent.actions).0).classes (head_of N) in
+        let taken : class_of (head_of M) (live v.actions) ≡ class_of (head_of N) (live w.actions) =
+        ap (λ (x : Head). class_of x (live v.actions)) one_head ∙ ((below.texts (trusts d) v.actions w.actions a.equivalent.actions).0).classes (head_of N) in
         subst (λ (u : RunState). Two u (after_message e token at n w)) (sym (message_same_by d m v ∙ ap (λ (t : MessageClass). after_message_by d m t v) taken))
         (subst (λ (u : RunState). Two (after_message_by d m (class_of (head_of N) (live w.actions)) v) u) (sym (message_same_by e n w))
         (message_by-alike (class_of (head_of N) (live w.actions)) taken refl (subst (λ (u : RunState). K u.actions) (message_same_by e n w) k)))

@@ -73,64 +73,94 @@ use Rattle.mmtel_run_definitions.specs.Events.{message_in}
 use Rattle.mmtel_run_definitions.specs.Calls.{named_by}
 use Rattle.mmtel_run_definitions.specs.Records.{in_force}
 use Rattle.mmtel_run_definitions.specs.Transitions.{RunState, calls_in, conferences_in, initial_state}
-use Rattle.mmtel_run_theorems.specs.Roles.{abandoned_invite_at, answered_invite_at, awaited_role, comes_from, dialog_role, hides_caller, is_opening, is_subscribing, named_role, other_role, relayed_at, request_role_in, request_role_of, response_role_by, role_as, role_in_conference_response, role_in_entry, role_of, role_of_sender, side_role, unshown_request}
+use Rattle.mmtel_run_theorems.specs.Roles.{abandoned_invite_at, answered_invite_at, awaited_role, comes_from, dialog_role, hides_caller, is_opening, is_subscribing, named_role, other_role, relayed_at}
+use Rattle.mmtel_run_theorems.specs.Roles.{request_role_in, request_role_of, response_role_by, role_as, role_in_conference_response, role_in_entry, role_of, role_of_sender, side_role, unshown_request}
 use Rattle.mmtel_run_theorems.proofs.DispositionKinds.{subscribes_elsewhere}
 use Rattle.mmtel_run_theorems.specs.Mask.{MaskedEvent, Received, Tests, tests_beside, tests_of}
 use Rattle.mmtel_run_theorems.proofs.NoninterferenceTheorems.{left_of as left_in}
-use Rattle.mmtel_run_theorems.specs.Examples.{Erin, Frank, IsAwaited, IsClassified, IsOfEstablished, IsTargets, MasksDifferently, Person, PersonMessage, PublicMaskDifferently, RestrictedMaskEqually, TheyOccur, UnshownMaskEqually, ack, bye, cancel, invite_with_marked_entry, invite_with_unmarked_entry, name_of, ok_named, ok_of_target, ok_to_bye, ok_to_cancel, ok_to_invite, ok_to_notify, phone, plain_in_dialog, plain_opening, private_in_dialog, private_opening, redirect_response, server_bye, user_of}
+use Rattle.mmtel_run_theorems.specs.Examples.{Erin, Frank, IsAwaited, IsClassified, IsOfEstablished, IsTargets, MasksDifferently, Person, PersonMessage, PublicMaskDifferently, RestrictedMaskEqually}
+use Rattle.mmtel_run_theorems.specs.Examples.{TheyOccur, UnshownMaskEqually, ack, bye, cancel, invite_with_marked_entry, invite_with_unmarked_entry, name_of, ok_named, ok_of_target, ok_to_bye}
+use Rattle.mmtel_run_theorems.specs.Examples.{ok_to_cancel, ok_to_invite, ok_to_notify, phone, plain_in_dialog, plain_opening, private_in_dialog, private_opening, redirect_response, server_bye, user_of}
 
 -- ---- what masking leaves, by a role
 
 opens_left : without_private Opens (private_opening Erin) ≡ without_private Opens (private_opening Frank)
-unfolding Scanning.closing_quote_from masked_line kind_of hidden_name_addr hidden_value served_value is_marked_value masked_value_text Reading.name_addr_of Reading.words_of Reading.quoted_of Reading.angle_of Reading.bare_of Reading.all_params_at Reading.params_at Reading.param_at Reading.token_at Reading.value_at Reading.text_at Classes.in_class Scanning.leading_run Scanning.after_run Scanning.without_trailing Scanning.split_once_at
+unfolding Scanning.closing_quote_from masked_line kind_of hidden_name_addr hidden_value served_value is_marked_value masked_value_text Reading.name_addr_of Reading.words_of Reading.quoted_of
+    Reading.angle_of Reading.bare_of Reading.all_params_at Reading.params_at Reading.param_at Reading.token_at Reading.value_at Reading.text_at Classes.in_class Scanning.leading_run Scanning.after_run
+    Scanning.without_trailing Scanning.split_once_at
 opens_left = refl
 
 repeated_left : without_private Opens (plain_opening Erin) ≡ without_private Opens (plain_opening Frank)
-unfolding Scanning.closing_quote_from masked_line kind_of hidden_name_addr hidden_value served_value is_marked_value masked_value_text Reading.name_addr_of Reading.words_of Reading.quoted_of Reading.angle_of Reading.bare_of Reading.all_params_at Reading.params_at Reading.param_at Reading.token_at Reading.value_at Reading.text_at Classes.in_class Scanning.leading_run Scanning.after_run Scanning.without_trailing Scanning.split_once_at
+unfolding Scanning.closing_quote_from masked_line kind_of hidden_name_addr hidden_value served_value is_marked_value masked_value_text Reading.name_addr_of Reading.words_of Reading.quoted_of
+    Reading.angle_of Reading.bare_of Reading.all_params_at Reading.params_at Reading.param_at Reading.token_at Reading.value_at Reading.text_at Classes.in_class Scanning.leading_run Scanning.after_run
+    Scanning.without_trailing Scanning.split_once_at
 repeated_left = refl
 
 asked_left : without_private (Sends Caller) (plain_in_dialog Erin) ≡ without_private (Sends Caller) (plain_in_dialog Frank)
-unfolding Scanning.closing_quote_from masked_line kind_of hidden_name_addr hidden_value served_value is_marked_value masked_value_text Reading.name_addr_of Reading.words_of Reading.quoted_of Reading.angle_of Reading.bare_of Reading.all_params_at Reading.params_at Reading.param_at Reading.token_at Reading.value_at Reading.text_at Classes.in_class Scanning.leading_run Scanning.after_run Scanning.without_trailing Scanning.split_once_at
+unfolding Scanning.closing_quote_from masked_line kind_of hidden_name_addr hidden_value served_value is_marked_value masked_value_text Reading.name_addr_of Reading.words_of Reading.quoted_of
+    Reading.angle_of Reading.bare_of Reading.all_params_at Reading.params_at Reading.param_at Reading.token_at Reading.value_at Reading.text_at Classes.in_class Scanning.leading_run Scanning.after_run
+    Scanning.without_trailing Scanning.split_once_at
 asked_left = refl
 
 answer_left : without_private (Sends Caller) (ok_to_invite Erin) ≡ without_private (Sends Caller) (ok_to_invite Frank)
-unfolding Scanning.closing_quote_from masked_line kind_of hidden_name_addr hidden_value served_value is_marked_value masked_value_text Reading.name_addr_of Reading.words_of Reading.quoted_of Reading.angle_of Reading.bare_of Reading.all_params_at Reading.params_at Reading.param_at Reading.token_at Reading.value_at Reading.text_at Classes.in_class Scanning.leading_run Scanning.after_run Scanning.without_trailing Scanning.split_once_at
+unfolding Scanning.closing_quote_from masked_line kind_of hidden_name_addr hidden_value served_value is_marked_value masked_value_text Reading.name_addr_of Reading.words_of Reading.quoted_of
+    Reading.angle_of Reading.bare_of Reading.all_params_at Reading.params_at Reading.param_at Reading.token_at Reading.value_at Reading.text_at Classes.in_class Scanning.leading_run Scanning.after_run
+    Scanning.without_trailing Scanning.split_once_at
 answer_left = refl
 
 callee_left : without_private (Sends Callee) (private_in_dialog Erin) ≡ without_private (Sends Callee) (private_in_dialog Frank)
-unfolding Scanning.closing_quote_from masked_line kind_of hidden_name_addr hidden_value served_value is_marked_value masked_value_text Reading.name_addr_of Reading.words_of Reading.quoted_of Reading.angle_of Reading.bare_of Reading.all_params_at Reading.params_at Reading.param_at Reading.token_at Reading.value_at Reading.text_at Classes.in_class Scanning.leading_run Scanning.after_run Scanning.without_trailing Scanning.split_once_at
+unfolding Scanning.closing_quote_from masked_line kind_of hidden_name_addr hidden_value served_value is_marked_value masked_value_text Reading.name_addr_of Reading.words_of Reading.quoted_of
+    Reading.angle_of Reading.bare_of Reading.all_params_at Reading.params_at Reading.param_at Reading.token_at Reading.value_at Reading.text_at Classes.in_class Scanning.leading_run Scanning.after_run
+    Scanning.without_trailing Scanning.split_once_at
 callee_left = refl
 
 target_left : without_private (Sends Callee) (ok_of_target Erin) ≡ without_private (Sends Callee) (ok_of_target Frank)
-unfolding Scanning.closing_quote_from masked_line kind_of hidden_name_addr hidden_value served_value is_marked_value masked_value_text Reading.name_addr_of Reading.words_of Reading.quoted_of Reading.angle_of Reading.bare_of Reading.all_params_at Reading.params_at Reading.param_at Reading.token_at Reading.value_at Reading.text_at Classes.in_class Scanning.leading_run Scanning.after_run Scanning.without_trailing Scanning.split_once_at
+unfolding Scanning.closing_quote_from masked_line kind_of hidden_name_addr hidden_value served_value is_marked_value masked_value_text Reading.name_addr_of Reading.words_of Reading.quoted_of
+    Reading.angle_of Reading.bare_of Reading.all_params_at Reading.params_at Reading.param_at Reading.token_at Reading.value_at Reading.text_at Classes.in_class Scanning.leading_run Scanning.after_run
+    Scanning.without_trailing Scanning.split_once_at
 target_left = refl
 
 bye_left : without_private (Sends Caller) (ok_to_bye Erin) ≡ without_private (Sends Caller) (ok_to_bye Frank)
-unfolding Scanning.closing_quote_from masked_line kind_of hidden_name_addr hidden_value served_value is_marked_value masked_value_text Reading.name_addr_of Reading.words_of Reading.quoted_of Reading.angle_of Reading.bare_of Reading.all_params_at Reading.params_at Reading.param_at Reading.token_at Reading.value_at Reading.text_at Classes.in_class Scanning.leading_run Scanning.after_run Scanning.without_trailing Scanning.split_once_at
+unfolding Scanning.closing_quote_from masked_line kind_of hidden_name_addr hidden_value served_value is_marked_value masked_value_text Reading.name_addr_of Reading.words_of Reading.quoted_of
+    Reading.angle_of Reading.bare_of Reading.all_params_at Reading.params_at Reading.param_at Reading.token_at Reading.value_at Reading.text_at Classes.in_class Scanning.leading_run Scanning.after_run
+    Scanning.without_trailing Scanning.split_once_at
 bye_left = refl
 
 stopped_left : without_private (Sends Caller) (ok_to_cancel Erin) ≡ without_private (Sends Caller) (ok_to_cancel Frank)
-unfolding Scanning.closing_quote_from masked_line kind_of hidden_name_addr hidden_value served_value is_marked_value masked_value_text Reading.name_addr_of Reading.words_of Reading.quoted_of Reading.angle_of Reading.bare_of Reading.all_params_at Reading.params_at Reading.param_at Reading.token_at Reading.value_at Reading.text_at Classes.in_class Scanning.leading_run Scanning.after_run Scanning.without_trailing Scanning.split_once_at
+unfolding Scanning.closing_quote_from masked_line kind_of hidden_name_addr hidden_value served_value is_marked_value masked_value_text Reading.name_addr_of Reading.words_of Reading.quoted_of
+    Reading.angle_of Reading.bare_of Reading.all_params_at Reading.params_at Reading.param_at Reading.token_at Reading.value_at Reading.text_at Classes.in_class Scanning.leading_run Scanning.after_run
+    Scanning.without_trailing Scanning.split_once_at
 stopped_left = refl
 
 notified_left : without_private (Sends Caller) (ok_to_notify Erin) ≡ without_private (Sends Caller) (ok_to_notify Frank)
-unfolding Scanning.closing_quote_from masked_line kind_of hidden_name_addr hidden_value served_value is_marked_value masked_value_text Reading.name_addr_of Reading.words_of Reading.quoted_of Reading.angle_of Reading.bare_of Reading.all_params_at Reading.params_at Reading.param_at Reading.token_at Reading.value_at Reading.text_at Classes.in_class Scanning.leading_run Scanning.after_run Scanning.without_trailing Scanning.split_once_at
+unfolding Scanning.closing_quote_from masked_line kind_of hidden_name_addr hidden_value served_value is_marked_value masked_value_text Reading.name_addr_of Reading.words_of Reading.quoted_of
+    Reading.angle_of Reading.bare_of Reading.all_params_at Reading.params_at Reading.param_at Reading.token_at Reading.value_at Reading.text_at Classes.in_class Scanning.leading_run Scanning.after_run
+    Scanning.without_trailing Scanning.split_once_at
 notified_left = refl
 
 cancel_left : without_private Opens (cancel Erin) ≡ without_private Opens (cancel Frank)
-unfolding Scanning.closing_quote_from masked_line kind_of hidden_name_addr hidden_value served_value is_marked_value masked_value_text Reading.name_addr_of Reading.words_of Reading.quoted_of Reading.angle_of Reading.bare_of Reading.all_params_at Reading.params_at Reading.param_at Reading.token_at Reading.value_at Reading.text_at Classes.in_class Scanning.leading_run Scanning.after_run Scanning.without_trailing Scanning.split_once_at
+unfolding Scanning.closing_quote_from masked_line kind_of hidden_name_addr hidden_value served_value is_marked_value masked_value_text Reading.name_addr_of Reading.words_of Reading.quoted_of
+    Reading.angle_of Reading.bare_of Reading.all_params_at Reading.params_at Reading.param_at Reading.token_at Reading.value_at Reading.text_at Classes.in_class Scanning.leading_run Scanning.after_run
+    Scanning.without_trailing Scanning.split_once_at
 cancel_left = refl
 
 ack_left : without_private Opens (ack Erin) ≡ without_private Opens (ack Frank)
-unfolding Scanning.closing_quote_from masked_line kind_of hidden_name_addr hidden_value served_value is_marked_value masked_value_text Reading.name_addr_of Reading.words_of Reading.quoted_of Reading.angle_of Reading.bare_of Reading.all_params_at Reading.params_at Reading.param_at Reading.token_at Reading.value_at Reading.text_at Classes.in_class Scanning.leading_run Scanning.after_run Scanning.without_trailing Scanning.split_once_at
+unfolding Scanning.closing_quote_from masked_line kind_of hidden_name_addr hidden_value served_value is_marked_value masked_value_text Reading.name_addr_of Reading.words_of Reading.quoted_of
+    Reading.angle_of Reading.bare_of Reading.all_params_at Reading.params_at Reading.param_at Reading.token_at Reading.value_at Reading.text_at Classes.in_class Scanning.leading_run Scanning.after_run
+    Scanning.without_trailing Scanning.split_once_at
 ack_left = refl
 
 unnamed_left : without_private Opens (bye Erin) ≡ without_private Opens (bye Frank)
-unfolding Scanning.closing_quote_from masked_line kind_of hidden_name_addr hidden_value served_value is_marked_value masked_value_text Reading.name_addr_of Reading.words_of Reading.quoted_of Reading.angle_of Reading.bare_of Reading.all_params_at Reading.params_at Reading.param_at Reading.token_at Reading.value_at Reading.text_at Classes.in_class Scanning.leading_run Scanning.after_run Scanning.without_trailing Scanning.split_once_at
+unfolding Scanning.closing_quote_from masked_line kind_of hidden_name_addr hidden_value served_value is_marked_value masked_value_text Reading.name_addr_of Reading.words_of Reading.quoted_of
+    Reading.angle_of Reading.bare_of Reading.all_params_at Reading.params_at Reading.param_at Reading.token_at Reading.value_at Reading.text_at Classes.in_class Scanning.leading_run Scanning.after_run
+    Scanning.without_trailing Scanning.split_once_at
 unnamed_left = refl
 
 history_left : without_private Plain (invite_with_marked_entry Erin) ≡ without_private Plain (invite_with_marked_entry Frank)
-unfolding EntryUri.cause_number EntryUri.cause_of EntryUri.hides EntryUri.is_marked EntryUri.marked_uri HistoryInfo.entry_of HistoryInfo.written_uri HistoryInfo.entry_text UriPlaces.user_part UriPlaces.host_part is_dotted Numbers.number_of Numbers.value_up_to Scanning.closing_quote_from masked_line kind_of hidden_name_addr hidden_value served_value is_marked_value masked_value_text Reading.name_addr_of Reading.words_of Reading.quoted_of Reading.angle_of Reading.bare_of Reading.all_params_at Reading.params_at Reading.param_at Reading.token_at Reading.value_at Reading.text_at Classes.in_class Scanning.leading_run Scanning.after_run Scanning.without_trailing Scanning.split_once_at
+unfolding EntryUri.cause_number EntryUri.cause_of EntryUri.hides EntryUri.is_marked EntryUri.marked_uri HistoryInfo.entry_of HistoryInfo.written_uri HistoryInfo.entry_text UriPlaces.user_part
+    UriPlaces.host_part is_dotted Numbers.number_of Numbers.value_up_to Scanning.closing_quote_from masked_line kind_of hidden_name_addr hidden_value served_value is_marked_value masked_value_text
+    Reading.name_addr_of Reading.words_of Reading.quoted_of Reading.angle_of Reading.bare_of Reading.all_params_at Reading.params_at Reading.param_at Reading.token_at Reading.value_at Reading.text_at
+    Classes.in_class Scanning.leading_run Scanning.after_run Scanning.without_trailing Scanning.split_once_at
 history_left = refl
 
 -- what differs in them where they are public
@@ -138,23 +168,34 @@ abbrev long : (name : List ℕ) → MessageView → ℕ
 long name m = length (unwrap_or (first_value name m.parsed.lines) [])
 
 from_differs : without_private Plain (plain_opening Erin) ≡ without_private Plain (plain_opening Frank) → ⊥
-unfolding Scanning.closing_quote_from masked_line kind_of hidden_name_addr hidden_value served_value is_marked_value masked_value_text Reading.name_addr_of Reading.words_of Reading.quoted_of Reading.angle_of Reading.bare_of Reading.all_params_at Reading.params_at Reading.param_at Reading.token_at Reading.value_at Reading.text_at Classes.in_class Scanning.leading_run Scanning.after_run Scanning.without_trailing Scanning.split_once_at
+unfolding Scanning.closing_quote_from masked_line kind_of hidden_name_addr hidden_value served_value is_marked_value masked_value_text Reading.name_addr_of Reading.words_of Reading.quoted_of
+    Reading.angle_of Reading.bare_of Reading.all_params_at Reading.params_at Reading.param_at Reading.token_at Reading.value_at Reading.text_at Classes.in_class Scanning.leading_run Scanning.after_run
+    Scanning.without_trailing Scanning.split_once_at
 from_differs same = let e : 37 ≡ 39 = ap (long (codes "From")) same in absurd (omega (arith, e))
 
 asked_differs : without_private Plain (plain_in_dialog Erin) ≡ without_private Plain (plain_in_dialog Frank) → ⊥
-unfolding Scanning.closing_quote_from masked_line kind_of hidden_name_addr hidden_value served_value is_marked_value masked_value_text Reading.name_addr_of Reading.words_of Reading.quoted_of Reading.angle_of Reading.bare_of Reading.all_params_at Reading.params_at Reading.param_at Reading.token_at Reading.value_at Reading.text_at Classes.in_class Scanning.leading_run Scanning.after_run Scanning.without_trailing Scanning.split_once_at
+unfolding Scanning.closing_quote_from masked_line kind_of hidden_name_addr hidden_value served_value is_marked_value masked_value_text Reading.name_addr_of Reading.words_of Reading.quoted_of
+    Reading.angle_of Reading.bare_of Reading.all_params_at Reading.params_at Reading.param_at Reading.token_at Reading.value_at Reading.text_at Classes.in_class Scanning.leading_run Scanning.after_run
+    Scanning.without_trailing Scanning.split_once_at
 asked_differs same = let e : 37 ≡ 39 = ap (long (codes "From")) same in absurd (omega (arith, e))
 
 named_differs : without_private (Sends Callee) (ok_named Erin) ≡ without_private (Sends Callee) (ok_named Frank) → ⊥
-unfolding Scanning.closing_quote_from masked_line kind_of hidden_name_addr hidden_value served_value is_marked_value masked_value_text Reading.name_addr_of Reading.words_of Reading.quoted_of Reading.angle_of Reading.bare_of Reading.all_params_at Reading.params_at Reading.param_at Reading.token_at Reading.value_at Reading.text_at Classes.in_class Scanning.leading_run Scanning.after_run Scanning.without_trailing Scanning.split_once_at
+unfolding Scanning.closing_quote_from masked_line kind_of hidden_name_addr hidden_value served_value is_marked_value masked_value_text Reading.name_addr_of Reading.words_of Reading.quoted_of
+    Reading.angle_of Reading.bare_of Reading.all_params_at Reading.params_at Reading.param_at Reading.token_at Reading.value_at Reading.text_at Classes.in_class Scanning.leading_run Scanning.after_run
+    Scanning.without_trailing Scanning.split_once_at
 named_differs same = let e : 37 ≡ 39 = ap (long (codes "To")) same in absurd (omega (arith, e))
 
 target_differs : without_private (Sends Callee) (redirect_response Erin) ≡ without_private (Sends Callee) (redirect_response Frank) → ⊥
-unfolding Scanning.closing_quote_from masked_line kind_of hidden_name_addr hidden_value served_value is_marked_value masked_value_text Reading.name_addr_of Reading.words_of Reading.quoted_of Reading.angle_of Reading.bare_of Reading.all_params_at Reading.params_at Reading.param_at Reading.token_at Reading.value_at Reading.text_at Classes.in_class Scanning.leading_run Scanning.after_run Scanning.without_trailing Scanning.split_once_at
+unfolding Scanning.closing_quote_from masked_line kind_of hidden_name_addr hidden_value served_value is_marked_value masked_value_text Reading.name_addr_of Reading.words_of Reading.quoted_of
+    Reading.angle_of Reading.bare_of Reading.all_params_at Reading.params_at Reading.param_at Reading.token_at Reading.value_at Reading.text_at Classes.in_class Scanning.leading_run Scanning.after_run
+    Scanning.without_trailing Scanning.split_once_at
 target_differs same = let e : 25 ≡ 26 = ap (long (codes "Contact")) same in absurd (omega (arith, e))
 
 entry_differs : without_private Plain (invite_with_unmarked_entry Erin) ≡ without_private Plain (invite_with_unmarked_entry Frank) → ⊥
-unfolding EntryUri.cause_number EntryUri.cause_of EntryUri.hides EntryUri.is_marked EntryUri.marked_uri HistoryInfo.entry_of HistoryInfo.written_uri HistoryInfo.entry_text UriPlaces.user_part UriPlaces.host_part is_dotted Numbers.number_of Numbers.value_up_to Scanning.closing_quote_from masked_line kind_of hidden_name_addr hidden_value served_value is_marked_value masked_value_text Reading.name_addr_of Reading.words_of Reading.quoted_of Reading.angle_of Reading.bare_of Reading.all_params_at Reading.params_at Reading.param_at Reading.token_at Reading.value_at Reading.text_at Classes.in_class Scanning.leading_run Scanning.after_run Scanning.without_trailing Scanning.split_once_at
+unfolding EntryUri.cause_number EntryUri.cause_of EntryUri.hides EntryUri.is_marked EntryUri.marked_uri HistoryInfo.entry_of HistoryInfo.written_uri HistoryInfo.entry_text UriPlaces.user_part
+    UriPlaces.host_part is_dotted Numbers.number_of Numbers.value_up_to Scanning.closing_quote_from masked_line kind_of hidden_name_addr hidden_value served_value is_marked_value masked_value_text
+    Reading.name_addr_of Reading.words_of Reading.quoted_of Reading.angle_of Reading.bare_of Reading.all_params_at Reading.params_at Reading.param_at Reading.token_at Reading.value_at Reading.text_at
+    Classes.in_class Scanning.leading_run Scanning.after_run Scanning.without_trailing Scanning.split_once_at
 entry_differs same = let e : 31 ≡ 32 = ap (long (codes "History-Info")) same in absurd (omega (arith, e))
 
 -- ---- what is read of them
@@ -177,27 +218,33 @@ callee_restricted w None e = rw e refl
 callee_restricted w (Some sheet) e = rw e refl
 
 opens_a_call : (p : Person) → is_opening (plain_opening p).parsed ≡ true
-unfolding Reading.name_addr_of Reading.words_of Reading.quoted_of Reading.angle_of Reading.bare_of Reading.all_params_at Reading.params_at Reading.param_at Reading.token_at Reading.value_at Reading.text_at Classes.in_class Scanning.leading_run Scanning.after_run Scanning.without_trailing Scanning.split_once_at Scanning.closing_quote_from
+unfolding Reading.name_addr_of Reading.words_of Reading.quoted_of Reading.angle_of Reading.bare_of Reading.all_params_at Reading.params_at Reading.param_at Reading.token_at Reading.value_at
+    Reading.text_at Classes.in_class Scanning.leading_run Scanning.after_run Scanning.without_trailing Scanning.split_once_at Scanning.closing_quote_from
 opens_a_call p = refl
 
 opens_restricted : (p : Person) → is_opening (private_opening p).parsed ≡ true
-unfolding Reading.name_addr_of Reading.words_of Reading.quoted_of Reading.angle_of Reading.bare_of Reading.all_params_at Reading.params_at Reading.param_at Reading.token_at Reading.value_at Reading.text_at Classes.in_class Scanning.leading_run Scanning.after_run Scanning.without_trailing Scanning.split_once_at Scanning.closing_quote_from
+unfolding Reading.name_addr_of Reading.words_of Reading.quoted_of Reading.angle_of Reading.bare_of Reading.all_params_at Reading.params_at Reading.param_at Reading.token_at Reading.value_at
+    Reading.text_at Classes.in_class Scanning.leading_run Scanning.after_run Scanning.without_trailing Scanning.split_once_at Scanning.closing_quote_from
 opens_restricted p = refl
 
 opens_marked : (p : Person) → is_opening (invite_with_marked_entry p).parsed ≡ true
-unfolding Reading.name_addr_of Reading.words_of Reading.quoted_of Reading.angle_of Reading.bare_of Reading.all_params_at Reading.params_at Reading.param_at Reading.token_at Reading.value_at Reading.text_at Classes.in_class Scanning.leading_run Scanning.after_run Scanning.without_trailing Scanning.split_once_at Scanning.closing_quote_from
+unfolding Reading.name_addr_of Reading.words_of Reading.quoted_of Reading.angle_of Reading.bare_of Reading.all_params_at Reading.params_at Reading.param_at Reading.token_at Reading.value_at
+    Reading.text_at Classes.in_class Scanning.leading_run Scanning.after_run Scanning.without_trailing Scanning.split_once_at Scanning.closing_quote_from
 opens_marked p = refl
 
 opens_unmarked : (p : Person) → is_opening (invite_with_unmarked_entry p).parsed ≡ true
-unfolding Reading.name_addr_of Reading.words_of Reading.quoted_of Reading.angle_of Reading.bare_of Reading.all_params_at Reading.params_at Reading.param_at Reading.token_at Reading.value_at Reading.text_at Classes.in_class Scanning.leading_run Scanning.after_run Scanning.without_trailing Scanning.split_once_at Scanning.closing_quote_from
+unfolding Reading.name_addr_of Reading.words_of Reading.quoted_of Reading.angle_of Reading.bare_of Reading.all_params_at Reading.params_at Reading.param_at Reading.token_at Reading.value_at
+    Reading.text_at Classes.in_class Scanning.leading_run Scanning.after_run Scanning.without_trailing Scanning.split_once_at Scanning.closing_quote_from
 opens_unmarked p = refl
 
 is_later : (p : Person) → is_opening (plain_in_dialog p).parsed ≡ false
-unfolding Reading.name_addr_of Reading.words_of Reading.quoted_of Reading.angle_of Reading.bare_of Reading.all_params_at Reading.params_at Reading.param_at Reading.token_at Reading.value_at Reading.text_at Classes.in_class Scanning.leading_run Scanning.after_run Scanning.without_trailing Scanning.split_once_at Scanning.closing_quote_from
+unfolding Reading.name_addr_of Reading.words_of Reading.quoted_of Reading.angle_of Reading.bare_of Reading.all_params_at Reading.params_at Reading.param_at Reading.token_at Reading.value_at
+    Reading.text_at Classes.in_class Scanning.leading_run Scanning.after_run Scanning.without_trailing Scanning.split_once_at Scanning.closing_quote_from
 is_later p = refl
 
 is_later_too : (p : Person) → is_opening (private_in_dialog p).parsed ≡ false
-unfolding Reading.name_addr_of Reading.words_of Reading.quoted_of Reading.angle_of Reading.bare_of Reading.all_params_at Reading.params_at Reading.param_at Reading.token_at Reading.value_at Reading.text_at Classes.in_class Scanning.leading_run Scanning.after_run Scanning.without_trailing Scanning.split_once_at Scanning.closing_quote_from
+unfolding Reading.name_addr_of Reading.words_of Reading.quoted_of Reading.angle_of Reading.bare_of Reading.all_params_at Reading.params_at Reading.param_at Reading.token_at Reading.value_at
+    Reading.text_at Classes.in_class Scanning.leading_run Scanning.after_run Scanning.without_trailing Scanning.split_once_at Scanning.closing_quote_from
 is_later_too p = refl
 
 answers_no_invite : (p : Person) →
@@ -271,7 +318,8 @@ module _ (d : Directory) (w : RunState) where
       by_current : MessageView → Entry → List ℕ → Bool → Role
       by_current m e branch b =
           if b then awaited_role e.call.phase e.call.opening m
-          else other_role e.call m (abandoned_invite_at (position (is_of_branch branch) e.call.abandoned) e.call.abandoned) (answered_invite_at (position (is_answered_invite branch) e.call.answered_invites) e.call.answered_invites)
+          else other_role e.call m (abandoned_invite_at (position (is_of_branch branch) e.call.abandoned) e.call.abandoned)
+          (answered_invite_at (position (is_answered_invite branch) e.call.answered_invites) e.call.answered_invites)
           (relayed_at (position (is_in_flight branch) e.call.relayed) e.call.relayed)
 
 -- ---- what masking leaves of two
@@ -490,7 +538,9 @@ via = record {
 
 -- the Via value is one element
 via_is : via_at (first_part via_text) ≡ Some via
-unfolding Classes.in_class Numbers.value_up_to Numbers.number_of Scanning.leading_run Scanning.after_run Scanning.split_once_at Scanning.closing_quote_from Scanning.without_trailing Reading.token_at Reading.text_at Reading.value_at Reading.param_at Reading.params_at Reading.all_params_at Reading.angle_of Reading.bare_of Reading.words_of Reading.quoted_of Reading.name_addr_of Reading.host_at Reading.port_number Reading.port_at via_at next_separator
+unfolding Classes.in_class Numbers.value_up_to Numbers.number_of Scanning.leading_run Scanning.after_run Scanning.split_once_at Scanning.closing_quote_from Scanning.without_trailing Reading.token_at
+    Reading.text_at Reading.value_at Reading.param_at Reading.params_at Reading.all_params_at Reading.angle_of Reading.bare_of Reading.words_of Reading.quoted_of Reading.name_addr_of Reading.host_at
+    Reading.port_number Reading.port_at via_at next_separator
 via_is = ap (λ (vs : List (List ℕ)). via_at (trim (first_in vs))) (alone Outside via_text refl)
 
 abbrev bob_read : NameAddr
@@ -504,11 +554,15 @@ party_read p = record {
 }
 
 parties_of_bye : parties_in server_bye.lines ≡ Some (bob_read, party_read Erin)
-unfolding Classes.in_class Numbers.value_up_to Numbers.number_of Scanning.leading_run Scanning.after_run Scanning.split_once_at Scanning.closing_quote_from Scanning.without_trailing Reading.token_at Reading.text_at Reading.value_at Reading.param_at Reading.params_at Reading.all_params_at Reading.angle_of Reading.bare_of Reading.words_of Reading.quoted_of Reading.name_addr_of Reading.host_at Reading.port_number Reading.port_at parties_in
+unfolding Classes.in_class Numbers.value_up_to Numbers.number_of Scanning.leading_run Scanning.after_run Scanning.split_once_at Scanning.closing_quote_from Scanning.without_trailing Reading.token_at
+    Reading.text_at Reading.value_at Reading.param_at Reading.params_at Reading.all_params_at Reading.angle_of Reading.bare_of Reading.words_of Reading.quoted_of Reading.name_addr_of Reading.host_at
+    Reading.port_number Reading.port_at parties_in
 parties_of_bye = refl
 
 parties_of_ok : (p : Person) → parties_in (ok_to_bye p).parsed.lines ≡ Some (bob_read, party_read p)
-unfolding Classes.in_class Numbers.value_up_to Numbers.number_of Scanning.leading_run Scanning.after_run Scanning.split_once_at Scanning.closing_quote_from Scanning.without_trailing Reading.token_at Reading.text_at Reading.value_at Reading.param_at Reading.params_at Reading.all_params_at Reading.angle_of Reading.bare_of Reading.words_of Reading.quoted_of Reading.name_addr_of Reading.host_at Reading.port_number Reading.port_at parties_in
+unfolding Classes.in_class Numbers.value_up_to Numbers.number_of Scanning.leading_run Scanning.after_run Scanning.split_once_at Scanning.closing_quote_from Scanning.without_trailing Reading.token_at
+    Reading.text_at Reading.value_at Reading.param_at Reading.params_at Reading.all_params_at Reading.angle_of Reading.bare_of Reading.words_of Reading.quoted_of Reading.name_addr_of Reading.host_at
+    Reading.port_number Reading.port_at parties_in
 parties_of_ok Erin = refl
 parties_of_ok Frank = refl
 
@@ -516,11 +570,15 @@ abbrev first_bye : CSeq
 first_bye = record { number = 1; method = codes "BYE" }
 
 call_of_bye : call_in server_bye.lines ≡ Some (codes "c1", first_bye)
-unfolding Classes.in_class Numbers.value_up_to Numbers.number_of Scanning.leading_run Scanning.after_run Scanning.split_once_at Scanning.closing_quote_from Scanning.without_trailing Reading.token_at Reading.text_at Reading.value_at Reading.param_at Reading.params_at Reading.all_params_at Reading.angle_of Reading.bare_of Reading.words_of Reading.quoted_of Reading.name_addr_of Reading.host_at Reading.port_number Reading.port_at call_in cseq_at
+unfolding Classes.in_class Numbers.value_up_to Numbers.number_of Scanning.leading_run Scanning.after_run Scanning.split_once_at Scanning.closing_quote_from Scanning.without_trailing Reading.token_at
+    Reading.text_at Reading.value_at Reading.param_at Reading.params_at Reading.all_params_at Reading.angle_of Reading.bare_of Reading.words_of Reading.quoted_of Reading.name_addr_of Reading.host_at
+    Reading.port_number Reading.port_at call_in cseq_at
 call_of_bye = refl
 
 call_of_ok : (p : Person) → call_in (ok_to_bye p).parsed.lines ≡ Some (codes "c1", first_bye)
-unfolding Classes.in_class Numbers.value_up_to Numbers.number_of Scanning.leading_run Scanning.after_run Scanning.split_once_at Scanning.closing_quote_from Scanning.without_trailing Reading.token_at Reading.text_at Reading.value_at Reading.param_at Reading.params_at Reading.all_params_at Reading.angle_of Reading.bare_of Reading.words_of Reading.quoted_of Reading.name_addr_of Reading.host_at Reading.port_number Reading.port_at call_in cseq_at
+unfolding Classes.in_class Numbers.value_up_to Numbers.number_of Scanning.leading_run Scanning.after_run Scanning.split_once_at Scanning.closing_quote_from Scanning.without_trailing Reading.token_at
+    Reading.text_at Reading.value_at Reading.param_at Reading.params_at Reading.all_params_at Reading.angle_of Reading.bare_of Reading.words_of Reading.quoted_of Reading.name_addr_of Reading.host_at
+    Reading.port_number Reading.port_at call_in cseq_at
 call_of_ok p = refl
 
 abbrev head_by : Start → Person → Head

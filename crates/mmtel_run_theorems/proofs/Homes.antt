@@ -8,7 +8,8 @@ use Rattle.mmtel_call_theorems.specs.NoInjection.Messages.{HasNoInjection, HaveN
 use Rattle.mmtel_call_theorems.specs.NoInjection.Emits.{Each}
 use Rattle.mmtel_call_theorems.proofs.NoInjection.Bytes.{all_append, all_cons, both}
 use Rattle.mmtel_call_theorems.proofs.NoInjection.Sending.{each_append}
-use Rattle.mmtel_directory.specs.Directory.{account_words, addr_of, directory_by, directory_from, directory_of, extension_of, first_of, first_value, home_in, identities_of, is_country, is_host, is_store_name, kind_and_rest, kind_of, line_of, line_of_kind, line_of_words, next_config_line, peer_of, readable, route_words, sip_in, may_follow, trust_of, ip_of}
+use Rattle.mmtel_directory.specs.Directory.{account_words, addr_of, directory_by, directory_from, directory_of, extension_of, first_of, first_value, home_in, identities_of, is_country, is_host}
+use Rattle.mmtel_directory.specs.Directory.{is_store_name, kind_and_rest, kind_of, line_of, line_of_kind, line_of_words, next_config_line, peer_of, readable, route_words, sip_in, may_follow, trust_of, ip_of}
 use Rattle.mmtel_directory.specs.Lines.{and_then, is_comment, lines_by, lines_of, number_from}
 use Rattle.mmtel_directory.specs.declared.directories.Directory.{Directory}
 use Rattle.mmtel_lex.specs.Reading.{uri_of}

@@ -40,7 +40,8 @@ use Rattle.mmtel_run_theorems.specs.EquivalentStates.{AllLookUpEqually, CallerLo
 use Rattle.mmtel_run_theorems.specs.Roles.{is_opening, may_subscribe}
 use Rattle.mmtel_run_theorems.specs.Mask.{MaskedEvent, Nothing, Received, Refused, Tests, WebRequested}
 use Rattle.mmtel_run_theorems.specs.Noninterference.{RenamedAreLookedUpEqually}
-use Rattle.mmtel_run_theorems.specs.RenamedAccounts.{NobodyIsRenamed, Renames, callers_by, callers_in, diversion_uris, forward_uris, lookups, lookups_by, opening_uris, redirect_uris, refer_uris, referral_uris, register_uris, subscribe_uris, targets_in, uri_by, uri_by_any}
+use Rattle.mmtel_run_theorems.specs.RenamedAccounts.{NobodyIsRenamed, Renames, callers_by, callers_in, diversion_uris, forward_uris, lookups, lookups_by, opening_uris}
+use Rattle.mmtel_run_theorems.specs.RenamedAccounts.{redirect_uris, refer_uris, referral_uris, register_uris, subscribe_uris, targets_in, uri_by, uri_by_any}
 
 first_true : (a b : Bool) → (a && b) ≡ true → a ≡ true
 first_true true b e = refl

@@ -34,7 +34,8 @@ use Rattle.mmtel_message.specs.Reads.{Read, read_result}
 use Rattle.mmtel_message.specs.declared.messages.Start.{Start}
 use Rattle.mmtel_message.specs.declared.messages.Start.TheVariants as start
 use Rattle.mmtel_message.specs.declared.reading.ReadFault.TheVariants as fault
-use Rattle.mmtel_mwi.specs.Boxes.{Table, changed, counts_in, is_final, is_numbered, next_sub, notify_request_of, renewed_subscription, request_check, subscription_after_notify, subscription_after_request, subscription_numbered, subscription_refused_by, table_after_end_if}
+use Rattle.mmtel_mwi.specs.Boxes.{Table, changed, counts_in, is_final, is_numbered, next_sub, notify_request_of, renewed_subscription, request_check}
+use Rattle.mmtel_mwi.specs.Boxes.{subscription_after_notify, subscription_after_request, subscription_numbered, subscription_refused_by, table_after_end_if}
 use Rattle.mmtel_mwi.specs.Boxes.{subscribers_of, subscription, without, without_pending as settled_in}
 use Rattle.mmtel_mwi.specs.Operations as boxes
 use Rattle.mmtel_mwi.specs.Operations.{last_counts, table_after, table_after_op}
@@ -73,18 +74,24 @@ use Rattle.mmtel_run_definitions.specs.OwnResponses.{StatusResponse, plain_respo
 use Rattle.mmtel_run_definitions.specs.Calls.{are_full, arrival_signal, call_config, call_of_invite}
 use Rattle.mmtel_run_definitions.specs.Deadlines.{Deadline, OfCall, OfParticipant, OfServiceTimer, OfSubscription, OfTransaction, ServiceTimer}
 use Rattle.mmtel_run_definitions.specs.Events as events
-use Rattle.mmtel_run_definitions.specs.Events.{EventRecord, ParsedEvent, TimedEvent, message_in, parsed_datagram, parsed_event, parsed_from, parsed_refusal as refused_as, parsed_result, timed_event_of as notice_at, timed_events}
+use Rattle.mmtel_run_definitions.specs.Events.{EventRecord, ParsedEvent, TimedEvent, message_in, parsed_datagram, parsed_event, parsed_from}
+use Rattle.mmtel_run_definitions.specs.Events.{parsed_refusal as refused_as, parsed_result, timed_event_of as notice_at, timed_events}
 use Rattle.mmtel_run_definitions.specs.Records.{until_of}
-use Rattle.mmtel_run_definitions.specs.Refusals.{Disposition, Enter, EnterConference, EnterSubscription, JoinConference, OpenCall, OpenConference, Register, Respond, Subscribe, disposition, disposition_by, disposition_by_method, disposition_in, first_that_applies, in_dialog_disposition}
+use Rattle.mmtel_run_definitions.specs.Refusals.{Disposition, Enter, EnterConference, EnterSubscription, JoinConference, OpenCall, OpenConference, Register, Respond}
+use Rattle.mmtel_run_definitions.specs.Refusals.{Subscribe, disposition, disposition_by, disposition_by_method, disposition_in, first_that_applies, in_dialog_disposition}
 use Rattle.mmtel_run_definitions.specs.Refusals.{invite_disposition, is_register, refusals, registration_disposition}
-use Rattle.mmtel_run_definitions.specs.Ownership.{DialogOwner, InCall, InConference, InSubscription, OfCalls, OfConferences, OfSubscriptions, Owner, account_of_side, is_of_peer, leg_by, owner_of_branch, owner_of_key, replaced_side, replacement_in, status_of_fault}
+use Rattle.mmtel_run_definitions.specs.Ownership.{DialogOwner, InCall, InConference, InSubscription, OfCalls, OfConferences, OfSubscriptions, Owner, account_of_side}
+use Rattle.mmtel_run_definitions.specs.Ownership.{is_of_peer, leg_by, owner_of_branch, owner_of_key, replaced_side, replacement_in, status_of_fault}
 use Rattle.mmtel_run_definitions.specs.Run.{after_deadline_if, after_due_deadlines, after_event_in_order, after_events, after_one_deadline, clock_at, first_due_deadline, state_after}
-use Rattle.mmtel_run_definitions.specs.Subscriptions.{after_checked_request, after_mailbox_upload, after_notify_response, after_refresh_by, after_subscribe_by, grant_response, other_response, refusal_response, subscribe_request_of, with_mailbox_op}
+use Rattle.mmtel_run_definitions.specs.Subscriptions.{after_checked_request, after_mailbox_upload, after_notify_response, after_refresh_by, after_subscribe_by}
+use Rattle.mmtel_run_definitions.specs.Subscriptions.{grant_response, other_response, refusal_response, subscribe_request_of, with_mailbox_op}
 use Rattle.mmtel_run_definitions.specs.Transitions.{RunState, adoption_op, after_ack_by, after_adoption_if, after_classified_message, after_service_timer, initial_state, subscriptions_in, with_next_step}
 use Rattle.mmtel_run_definitions.specs.Transitions.{after_cancel, after_cancel_of, after_event, calls_in, output_of_conference_op, with_call_output, with_draws, with_emit, with_emits}
-use Rattle.mmtel_run_definitions.specs.Transitions.{after_call_end, after_deadline, after_handover, after_participant_request, after_transaction_end, conference_signal_op, dialog_owner_in, received_now, with_received_action}
+use Rattle.mmtel_run_definitions.specs.Transitions.{after_call_end, after_deadline, after_handover, after_participant_request, after_transaction_end}
+use Rattle.mmtel_run_definitions.specs.Transitions.{conference_signal_op, dialog_owner_in, received_now, with_received_action}
 use Rattle.mmtel_run_definitions.specs.Transitions.{after_conference_op, after_parsed_event, after_refer_notify, join_op, next_tag, opening_op, with_call_op, with_conference_output, with_registration}
-use Rattle.mmtel_run_definitions.specs.Transitions.{after_call_signal, after_conference_signal, after_detach, after_due, after_join_if, after_opening_if, after_replaces, after_replacing_named, after_replacing_side, after_request_timeout, after_response_to, after_web_reply, conferences_in, with_response, with_retransmission}
+use Rattle.mmtel_run_definitions.specs.Transitions.{after_call_signal, after_conference_signal, after_detach, after_due, after_join_if, after_opening_if, after_replaces, after_replacing_named}
+use Rattle.mmtel_run_definitions.specs.Transitions.{after_replacing_side, after_request_timeout, after_response_to, after_web_reply, conferences_in, with_response, with_retransmission}
 use Rattle.mmtel_run_definitions.specs.Transitions.{after_disposition, after_message, after_newcomer_refusal, tokens_now}
 use Rattle.mmtel_run_theorems.specs.Mailboxes.{IsNotify, IsOfCalls, IsOfConferences, IsOfOwner, IsOfTrusted, RequestIsOfOwner}
 use Rattle.mmtel_run_theorems.specs.Mailboxes.{IsRefused, RunNotifiesSubscribers, SubscribersAreNotified, UntrustedAreRefused, mailbox_upload_at, mailbox_uploads_in}
@@ -266,7 +273,8 @@ module _ (d : Directory) where
     lending_sound op w g = record {
       puts = g.puts;
       by = g.by;
-      asks = each_on (RequestIsOfOwner d w.call_ops w.conference_ops w.mailbox_ops) (RequestIsOfOwner d (op ∷ w.call_ops) w.conference_ops w.mailbox_ops) w.actions (calls_on w.call_ops w.conference_ops w.mailbox_ops op) g.asks;
+      asks = each_on (RequestIsOfOwner d w.call_ops w.conference_ops w.mailbox_ops) (RequestIsOfOwner d (op ∷ w.call_ops) w.conference_ops w.mailbox_ops) w.actions
+          (calls_on w.call_ops w.conference_ops w.mailbox_ops op) g.asks;
     }
 
     of_calls : (at : ℕ) (op last : calls.TableOp) (w : RunState) (x : Emit) → IsIn x (out_by (call_config d) op (calls_in d w)) → GoesSo (last ∷ op ∷ w.call_ops) w.conference_ops w.mailbox_ops at x
@@ -300,7 +308,8 @@ module _ (d : Directory) where
     housing_sound op w g = record {
       puts = g.puts;
       by = g.by;
-      asks = each_on (RequestIsOfOwner d w.call_ops w.conference_ops w.mailbox_ops) (RequestIsOfOwner d w.call_ops (op ∷ w.conference_ops) w.mailbox_ops) w.actions (rooms_on w.call_ops w.conference_ops w.mailbox_ops op) g.asks;
+      asks = each_on (RequestIsOfOwner d w.call_ops w.conference_ops w.mailbox_ops) (RequestIsOfOwner d w.call_ops (op ∷ w.conference_ops) w.mailbox_ops) w.actions
+          (rooms_on w.call_ops w.conference_ops w.mailbox_ops op) g.asks;
     }
 
     lodging_sound : (at : ℕ) (op : rooms.TableOp) (w : RunState) → Sound said w → Sound said (with_conference_output at op (output_of_conference_op d op w) w)
@@ -321,7 +330,8 @@ module _ (d : Directory) where
     noting_sound op w none g = record {
       puts = none_put op w.mailbox_ops none ∙ g.puts;
       by = (by_none op none, g.by);
-      asks = each_on (RequestIsOfOwner d w.call_ops w.conference_ops w.mailbox_ops) (RequestIsOfOwner d w.call_ops w.conference_ops (op ∷ w.mailbox_ops)) w.actions (boxes_on w.call_ops w.conference_ops w.mailbox_ops op) g.asks;
+      asks = each_on (RequestIsOfOwner d w.call_ops w.conference_ops w.mailbox_ops) (RequestIsOfOwner d w.call_ops w.conference_ops (op ∷ w.mailbox_ops)) w.actions
+          (boxes_on w.call_ops w.conference_ops w.mailbox_ops op) g.asks;
     }
 
     module _ (token : List ℕ) (counts : (ops : List boxes.TableOp) (account : Account) → counts_in account (table_after ops) ≡ last_counts ops account) where
@@ -342,7 +352,8 @@ module _ (d : Directory) where
 
       -- ---- a NOTIFY
 
-      notice_so : (at : ℕ) (sub : SubNo) (last : Bool) (peer : Peer) (message : Message Start) (w : RunState) (o : Option Subscription) → subscription_numbered sub (subscriptions_in w) ≡ o → Each IsByTrusted w.mailbox_ops →
+      notice_so : (at : ℕ) (sub : SubNo) (last : Bool) (peer : Peer) (message : Message Start) (w : RunState) (o : Option Subscription) → subscription_numbered sub (subscriptions_in w) ≡ o →
+          Each IsByTrusted w.mailbox_ops →
           option_map (λ (s : Subscription). s.leg.dialogue.peer) o ≡ Some peer → option_map (notify_request_of d.sip last (next_tag token w) at (subscriptions_in w)) o ≡ Some message →
           IsNotify d (boxes.Notifies sub (next_tag token w) ∷ w.mailbox_ops) peer message at
       notice_so at sub last peer message w None e by to is = absurd (let none : None ≡ Some peer = to in cc)
@@ -481,7 +492,8 @@ module _ (d : Directory) where
           subscribes = λ account until w may g. record {
             puts = g.puts;
             by = (sym trust ∙ may_trust s.parsed.trusted _ may, g.by);
-            asks = each_on (RequestIsOfOwner d w.call_ops w.conference_ops w.mailbox_ops) (RequestIsOfOwner d w.call_ops w.conference_ops (boxes.Subscribes account (leg_by (next_tag token w) s) until ∷ w.mailbox_ops)) w.actions
+            asks = each_on (RequestIsOfOwner d w.call_ops w.conference_ops w.mailbox_ops)
+                (RequestIsOfOwner d w.call_ops w.conference_ops (boxes.Subscribes account (leg_by (next_tag token w) s) until ∷ w.mailbox_ops)) w.actions
                 (boxes_on w.call_ops w.conference_ops w.mailbox_ops (boxes.Subscribes account (leg_by (next_tag token w) s) until)) g.asks;
           };
           grants = λ op seconds w may g. record { puts = g.puts; by = g.by; asks = (tt, g.asks) };
@@ -584,7 +596,8 @@ module _ (d : Directory) where
         steps.tells_each d token at (λ w v. Sound more w → Sound more v) (are_steps more token counts at) (subscribers_of put.0 (subscriptions_in w)) (with_mailbox_op op w) (record {
           puts = ap (λ (l : List (Account × Counts)). l ++ put ∷ []) g.puts;
           by = (tt, g.by);
-          asks = each_on (RequestIsOfOwner d w.call_ops w.conference_ops w.mailbox_ops) (RequestIsOfOwner d w.call_ops w.conference_ops (op ∷ w.mailbox_ops)) w.actions (boxes_on w.call_ops w.conference_ops w.mailbox_ops op) g.asks;
+          asks = each_on (RequestIsOfOwner d w.call_ops w.conference_ops w.mailbox_ops) (RequestIsOfOwner d w.call_ops w.conference_ops (op ∷ w.mailbox_ops)) w.actions
+              (boxes_on w.call_ops w.conference_ops w.mailbox_ops op) g.asks;
         })
 
     met_sound : (said : List (Account × Counts)) (at : ℕ) (x : ParsedEvent) (w : RunState) → IsOwnTrust x → Sound said w → Sound (also said (put_by x)) (after_parsed_event d token at x w)
@@ -659,7 +672,8 @@ module _ (d : Directory) where
     also_more said more None = refl
     also_more said more (Some put) = append_assoc said (put ∷ []) more
 
-    after_sound : (fuel : ℕ) (recorded : List EventRecord) (said : List (Account × Counts)) (w : RunState) → Sound said w → Sound (said ++ mailbox_uploads_of d.names recorded) (after_events d token fuel (timed_events d recorded) w)
+    after_sound : (fuel : ℕ) (recorded : List EventRecord) (said : List (Account × Counts)) (w : RunState) → Sound said w →
+        Sound (said ++ mailbox_uploads_of d.names recorded) (after_events d token fuel (timed_events d recorded) w)
     after_sound fuel [] said w g = subst (λ (l : List (Account × Counts)). Sound l w) (sym (append-nil said)) g
     after_sound fuel (x ∷ recorded) said w g =
         let n : TimedEvent = notice_at d x in

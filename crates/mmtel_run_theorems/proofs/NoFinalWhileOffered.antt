@@ -13,7 +13,8 @@ use Rattle.mmtel_b2bua.specs.Tables.{opened_after}
 use Rattle.mmtel_b2bua.specs.declared.entries.Entry.{Entry}
 use Rattle.mmtel_b2bua.specs.declared.signals.Signal.{Signal}
 use Rattle.mmtel_b2bua.specs.declared.signals.Signal.TheVariants as signal
-use Rattle.mmtel_b2bua_theorems.specs.TracesOfTables.{HasNumbers, IsOtherOp, OpensOther, arrival_of, call_of, continued_trace, emits_of, entry_by, entry_in, event_by, is_number, number_by, number_of, opening_by, out_by, received_event, signal_of_call, start_by, trace_of, with_event}
+use Rattle.mmtel_b2bua_theorems.specs.TracesOfTables.{HasNumbers, IsOtherOp, OpensOther, arrival_of, call_of, continued_trace, emits_of, entry_by, entry_in, event_by}
+use Rattle.mmtel_b2bua_theorems.specs.TracesOfTables.{is_number, number_by, number_of, opening_by, out_by, received_event, signal_of_call, start_by, trace_of, with_event}
 use Rattle.mmtel_b2bua_theorems.specs.Theorems.{CallsTakeTheirSteps, OtherOperationsOutputNothing}
 use Rattle.mmtel_b2bua_theorems.specs.TracesWithTransfers as transfers
 use Rattle.mmtel_b2bua_theorems.specs.TracesWithTransfers.{CallEvent, CallTraceWithTransfers, call_after, emits_after, emits_by}
@@ -315,7 +316,8 @@ module _ (config : CallConfigView) where
       go (is_number number (call_of config op (table_after config older))) refl is (λ trace. apart number older trace r.1) (λ n trace. trace-below n number older trace)
     where
       go : (b : Bool) → is_number number (call_of config op (table_after config older)) ≡ b →
-          (if b then continued_trace (opening_by config op (table_after config older)) (event_by op number (table_after config older).entries) (trace_of config number older) else trace_of config number older) ≡ Some trace →
+          (if b then continued_trace (opening_by config op (table_after config older)) (event_by op number (table_after config older).entries) (trace_of config number older) else trace_of config number older)
+          ≡ Some trace →
           ((trace : CallTraceWithTransfers) → trace_of config number older ≡ Some trace → AllApart number trace.start.arrival.key.0 older) →
           ((n : ℕ) (trace : CallTraceWithTransfers) → Each (IsBelow n) older → trace_of config number older ≡ Some trace → trace.start.arrival.key.0 < n) → IsApart number op older trace
       go true mine now before low =
@@ -545,7 +547,8 @@ module _ (config : CallConfigView) where
         its = ap (is_number n) is ∙ eq-eqb n n refl
 
         -- by what opens it, and its trace before
-        so : (opens : Option TraceStart) (was : Option CallTraceWithTransfers) → opening_by config op (table_after config older) ≡ opens → trace_of config n older ≡ was → trace_of config n (op ∷ older) ≡ continued_trace opens came was
+        so : (opens : Option TraceStart) (was : Option CallTraceWithTransfers) → opening_by config op (table_after config older) ≡ opens → trace_of config n older ≡ was →
+            trace_of config n (op ∷ older) ≡ continued_trace opens came was
         so opens was o l =
             ap (λ b. if b then continued_trace (opening_by config op (table_after config older)) came (trace_of config n older) else trace_of config n older) its
             ∙ ap (λ opens. continued_trace opens came (trace_of config n older)) o ∙ ap (continued_trace opens came) l

@@ -76,16 +76,25 @@ use Rattle.mmtel_run_definitions.specs.Events as events
 use Rattle.mmtel_run_definitions.specs.InForce.{CallsSeeWhatIsInForce}
 use Rattle.mmtel_run_definitions.specs.Records.{in_force}
 use Rattle.mmtel_run_definitions.specs.Refusals.{Disposition, Respond, Enter, EnterConference, OpenCall, OpenConference, JoinConference, Register, Subscribe, EnterSubscription, disposition}
-use Rattle.mmtel_run_definitions.specs.Ownership.{DialogOwner, InSubscription, InCall, InConference, OfSubscriptions, OfCalls, OfConferences, Owner, account_of_side, owner_of_key, owner_of_branch, is_of_peer, leg_by, replacement_in, conference_config, replaced_side, status_of_fault}
+use Rattle.mmtel_run_definitions.specs.Ownership.{DialogOwner, InSubscription, InCall, InConference, OfSubscriptions, OfCalls, OfConferences, Owner, account_of_side}
+use Rattle.mmtel_run_definitions.specs.Ownership.{owner_of_key, owner_of_branch, is_of_peer, leg_by, replacement_in, conference_config, replaced_side, status_of_fault}
 use Rattle.mmtel_run_definitions.specs.Run.{after_deadline_if, after_due_deadlines, after_event_in_order, after_events, after_one_deadline, clock_at, first_due_deadline, state_after}
 use Rattle.mmtel_run_definitions.specs.Subscriptions.{after_notify_response, grant_response, other_response, refusal_response, with_mailbox_op}
-use Rattle.mmtel_run_definitions.specs.Transitions.{RunState, after_ack_by, with_action, after_adoption_if, adoption_op, after_service_timer, after_classified_message, with_timer, initial_state, with_next_step, with_call_output, calls_in, after_event, after_cancel, after_cancel_of, output_of_conference_op, with_draws, with_emit, with_emits, after_transaction_end, after_participant_request, after_call_end, after_deadline, after_handover, conference_signal_op, received_now, with_received_action, dialog_owner_in, after_conference_op, join_op, with_call_op, with_conference_output, after_parsed_event, next_tag, after_refer_notify, with_offers, opening_op, with_registration, with_retransmission, after_replacing_named, after_replacing_side, after_replaces, with_response, with_stateless_response, after_response_to, after_join_if, after_opening_if, conferences_in, after_due, after_conference_signal, after_web_reply, after_call_signal, after_request_timeout, after_detach, after_disposition, to_peer, tokens_now, after_message, subscriptions_in}
+use Rattle.mmtel_run_definitions.specs.Transitions.{RunState, after_ack_by, with_action, after_adoption_if, adoption_op, after_service_timer, after_classified_message, with_timer, initial_state}
+use Rattle.mmtel_run_definitions.specs.Transitions.{with_next_step, with_call_output, calls_in, after_event, after_cancel, after_cancel_of, output_of_conference_op, with_draws, with_emit}
+use Rattle.mmtel_run_definitions.specs.Transitions.{with_emits, after_transaction_end, after_participant_request, after_call_end, after_deadline, after_handover, conference_signal_op, received_now}
+use Rattle.mmtel_run_definitions.specs.Transitions.{with_received_action, dialog_owner_in, after_conference_op, join_op, with_call_op, with_conference_output, after_parsed_event, next_tag}
+use Rattle.mmtel_run_definitions.specs.Transitions.{after_refer_notify, with_offers, opening_op, with_registration, with_retransmission, after_replacing_named, after_replacing_side, after_replaces}
+use Rattle.mmtel_run_definitions.specs.Transitions.{with_response, with_stateless_response, after_response_to, after_join_if, after_opening_if, conferences_in, after_due, after_conference_signal}
+use Rattle.mmtel_run_definitions.specs.Transitions.{after_web_reply, after_call_signal, after_request_timeout, after_detach, after_disposition, to_peer, tokens_now, after_message, subscriptions_in}
 use Rattle.mmtel_run_theorems.specs.NoInjection.{ActionHasOwnFields, Builds, IsOwnAck, IsOwnOffer, IsOwnReply, IsReceivedIn, IsSentIn, RunHasNoInjection, stateless_reply}
 use Rattle.mmtel_run_theorems.proofs.Acks.{AreAcksOfEvents, IsAckOfEvent, ack_still, acks_received, emits_more, is_ack_received, own_ack}
 use Rattle.mmtel_run_definitions.proofs.MailboxSteps as steps
 use Rattle.mmtel_run_definitions.proofs.MailboxSteps.{AreResponses, AreSteps, tells_in}
-use Rattle.mmtel_run_theorems.proofs.NoInjectionOfNotifies.{OpHasNoInjection as MailboxOpHasNoInjection, grant_response_no_injection, none_no_injection, notify_request_no_injection, other_no_injection, refusing_no_injection}
-use Rattle.mmtel_run_theorems.proofs.Dispositions.{DispositionHasNoInjection, IsReadWithFields, ResponseHasNoInjection, answer_no_injection, disposition_no_injection, message_view_well, reply_no_injection, tag_no_injection}
+use Rattle.mmtel_run_theorems.proofs.NoInjectionOfNotifies.{OpHasNoInjection as MailboxOpHasNoInjection, grant_response_no_injection}
+use Rattle.mmtel_run_theorems.proofs.NoInjectionOfNotifies.{none_no_injection, notify_request_no_injection, other_no_injection, refusing_no_injection}
+use Rattle.mmtel_run_theorems.proofs.Dispositions.{DispositionHasNoInjection, IsReadWithFields, ResponseHasNoInjection, answer_no_injection}
+use Rattle.mmtel_run_theorems.proofs.Dispositions.{disposition_no_injection, message_view_well, reply_no_injection, tag_no_injection}
 use Rattle.mmtel_run_theorems.proofs.Received.{ReadResultHasNoInjection, read_result_no_injection}
 use Rattle.mmtel_run_theorems.proofs.Sheets.{kept_no_injection}
 use Rattle.mmtel_run_theorems.proofs.TransactionTexts.{AreGoodActions, IsGoodAction, IsOwnDue, due_own, repeat_own, same_again, sent_still}
@@ -133,7 +142,8 @@ module _ (d : Directory) (whole : List EventRecord) where
   offers_kept op acts ops (x ∷ xs) o = (offer_kept op acts ops x o.0, offers_kept op acts ops xs o.1)
 
   -- the message that one more operation builds is sent
-  with_action_good : (c : TransactionOp) (w : RunState) (offers : List Offer) → IsGoodAction c w.actions → Each (IsOwnOffer d whole (c ∷ w.actions) w.call_ops) offers → Good w → Good (with_offers offers (with_action c w))
+  with_action_good : (c : TransactionOp) (w : RunState) (offers : List Offer) → IsGoodAction c w.actions → Each (IsOwnOffer d whole (c ∷ w.actions) w.call_ops) offers → Good w →
+      Good (with_offers offers (with_action c w))
   with_action_good c w offers good own g = record {
     ops = g.ops;
     acked = g.acked;
@@ -157,7 +167,8 @@ module _ (d : Directory) (whole : List EventRecord) where
   }
 
   -- nothing is sent
-  silent_good : (c : TransactionOp) (w v : RunState) → IsGoodAction c w.actions → v.call_ops ≡ w.call_ops → v.conference_ops ≡ w.conference_ops → v.mailbox_ops ≡ w.mailbox_ops → v.actions ≡ c ∷ w.actions → v.offers ≡ w.offers → Good w → Good v
+  silent_good : (c : TransactionOp) (w v : RunState) → IsGoodAction c w.actions → v.call_ops ≡ w.call_ops → v.conference_ops ≡ w.conference_ops → v.mailbox_ops ≡ w.mailbox_ops →
+      v.actions ≡ c ∷ w.actions → v.offers ≡ w.offers → Good w → Good v
   silent_good c w v good ops seats mailboxes acts offers g =
       alike (with_action c w) v ops seats mailboxes acts offers
       (record { ops = g.ops; acked = g.acked; conferences = g.conferences; boxes = g.boxes; acts = (good, g.acts); offers = offers_still c w.actions w.call_ops w.offers g.offers })
@@ -274,7 +285,8 @@ module _ (d : Directory) (whole : List EventRecord) (own_law : (m : Message Star
 
     -- ---- an operation on conferences
 
-    lodging_good : (at : ℕ) (op : rooms.TableOp) (output : StepOutput) (w : RunState) → Each (EmitHasNoInjection []) output.out → heads.OpHasNoInjection op → Good d whole w → Good d whole (with_conference_output at op output w)
+    lodging_good : (at : ℕ) (op : rooms.TableOp) (output : StepOutput) (w : RunState) → Each (EmitHasNoInjection []) output.out → heads.OpHasNoInjection op → Good d whole w →
+        Good d whole (with_conference_output at op output w)
     lodging_good at op output w out c g =
         with_emits_good at output.out (record w { conference_ops = rooms.Drops (length output.rows) ∷ op ∷ w.conference_ops; waiting = w.waiting ++ output.rows })
         (emits_more (acked_after (call_config d) w.call_ops) output.out out) (record { ops = g.ops; acked = g.acked; conferences = (tt, (c, g.conferences)); boxes = g.boxes; acts = g.acts; offers = g.offers })
@@ -356,9 +368,11 @@ module _ (d : Directory) (whole : List EventRecord) (own_law : (m : Message Star
     fired_good now OfTransaction w g =
         let b : Good d whole (with_next_step w) = begun_good w g in
         let next : Option DueEntryView = next_due now (live (with_next_step w).actions) in
-        rung_good (due_result next) (record (with_next_step w) { actions = after_firing (with_next_step w).actions next }) (due_still next (with_next_step w).actions (due_result next) (due_own (with_next_step w).actions now b.acts)) (fires_good next (with_next_step w) b)
+        rung_good (due_result next) (record (with_next_step w) { actions = after_firing (with_next_step w).actions next })
+        (due_still next (with_next_step w).actions (due_result next) (due_own (with_next_step w).actions now b.acts)) (fires_good next (with_next_step w) b)
     fired_good now (OfServiceTimer armed others) w g =
-        alarmed_good armed.at armed.timer (record (with_next_step w) { pending_timers = others }) (alike d whole (with_next_step w) (record (with_next_step w) { pending_timers = others }) refl refl refl refl refl (begun_good w g))
+        alarmed_good armed.at armed.timer (record (with_next_step w) { pending_timers = others })
+        (alike d whole (with_next_step w) (record (with_next_step w) { pending_timers = others }) refl refl refl refl refl (begun_good w g))
 
     if_fired_good : (now : ℕ) (o : Option Deadline) (w : RunState) → Good d whole w → Good d whole (after_deadline_if d token now o w)
     if_fired_good now None w g = g
@@ -372,7 +386,8 @@ module _ (d : Directory) (whole : List EventRecord) (own_law : (m : Message Star
 
     module _ (at : ℕ) (s : MessageView) (well : IsReadWithFields s.parsed) (met : IsMet (events.Received s)) where
       -- a response with a tag of the server
-      tagged_good : (key : TKey) (tag : List ℕ) (answer : StatusResponse) (w : RunState) → HasNoInjection tag → ResponseHasNoInjection answer → Good d whole w → Good d whole (with_emit at (emit.Reply key (response_to d.sip tag s answer)) w)
+      tagged_good : (key : TKey) (tag : List ℕ) (answer : StatusResponse) (w : RunState) → HasNoInjection tag → ResponseHasNoInjection answer → Good d whole w →
+          Good d whole (with_emit at (emit.Reply key (response_to d.sip tag s answer)) w)
       tagged_good key tag answer w t a g = emit_good at (emit.Reply key (response_to d.sip tag s answer)) w (answer_no_injection d.sip tag s answer t well.lines_in a) g
 
       replying_good : (key : TKey) (answer : StatusResponse) (w : RunState) → ResponseHasNoInjection answer → Good d whole w → Good d whole (with_response d token at key s answer w)
@@ -493,7 +508,8 @@ module _ (d : Directory) (whole : List EventRecord) (own_law : (m : Message Star
       responding_good key OfSubscriptions w g = box_answered_good (branch_in s.parsed.vias) (status_of s.parsed.start) w g
       responding_good key OfConferences w g = seated_good at (of_room.Answer key s) w well.of g
 
-      opened_good : (is_cancel : Bool) (n : ℕ) (invited : Option TKey) (w : RunState) → Good d whole w → Good d whole (after_classified_message d token at s (Some (opening_result is_cancel n invited (message_in s.parsed))) w)
+      opened_good : (is_cancel : Bool) (n : ℕ) (invited : Option TKey) (w : RunState) → Good d whole w →
+          Good d whole (after_classified_message d token at s (Some (opening_result is_cancel n invited (message_in s.parsed))) w)
       opened_good true n invited w g = cancelling_good (tkey n) invited w g
       opened_good false n invited w g =
           taking_good (tkey n) (disposition d (is_merged n (live w.actions)) (are_full (calls_in d w).entries) (dialog_owner_in d s.parsed w) s.parsed) w
@@ -531,7 +547,8 @@ module _ (d : Directory) (whole : List EventRecord) (own_law : (m : Message Star
           (received_good part.Fresh w is g)
       said_good part.Full w is g = too_many_good w g
       said_good (part.Repeat key) w is g = repeating_good _ (received_as (part.Repeat key) w) (again_still (part.Repeat key) _ w (repeat_own w.actions s.peer key g.acts)) (received_good (part.Repeat key) w is g)
-      said_good (part.RepeatedFinal key) w is g = repeating_good _ (received_as (part.RepeatedFinal key) w) (again_still (part.RepeatedFinal key) _ w (same_again w.actions key g.acts)) (received_good (part.RepeatedFinal key) w is g)
+      said_good (part.RepeatedFinal key) w is g =
+          repeating_good _ (received_as (part.RepeatedFinal key) w) (again_still (part.RepeatedFinal key) _ w (same_again w.actions key g.acts)) (received_good (part.RepeatedFinal key) w is g)
       said_good (part.Answer key) w is g =
           responding_good (tkey key) (owner_of_branch (awaited_request_branch s) (branch_in s.parsed.vias) (calls_in d (received_as (part.Answer key) w)).entries (subscriptions_in w)) (received_as (part.Answer key) w)
           (received_good (part.Answer key) w is g)

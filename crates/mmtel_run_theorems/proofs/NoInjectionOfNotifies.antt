@@ -16,7 +16,8 @@ use Rattle.mmtel_leg.specs.declared.dialogues.Dialogue.{Dialogue}
 use Rattle.mmtel_message.specs.Faults.{is_method}
 use Rattle.mmtel_message.specs.Message.{Line, Message}
 use Rattle.mmtel_message.specs.declared.messages.Start.{Start}
-use Rattle.mmtel_mwi.specs.Boxes.{Table, changed, counts_in, is_final, is_numbered, next_sub, notify_request, notify_request_of, renewed_subscription, subscription, subscription_after_notify, subscription_after_request, subscription_numbered, subscription_refused_by, table_after_end_if, without, without_pending}
+use Rattle.mmtel_mwi.specs.Boxes.{Table, changed, counts_in, is_final, is_numbered, next_sub, notify_request, notify_request_of, renewed_subscription, subscription}
+use Rattle.mmtel_mwi.specs.Boxes.{subscription_after_notify, subscription_after_request, subscription_numbered, subscription_refused_by, table_after_end_if, without, without_pending}
 use Rattle.mmtel_mwi.specs.Operations.{TableOp, Responds, Ends, Receives, Puts, Refreshes, Subscribes, Notifies, table_after_op, table_after}
 use Rattle.mmtel_mwi.specs.Notifies.{notify_lines, notify_request_in, remaining_seconds, subscription_state}
 use Rattle.mmtel_mwi.specs.Summaries.{summary}
@@ -87,7 +88,8 @@ ended_no_injection : (o : Option SubNo) (table : Table) → MailboxesHaveNoInjec
 ended_no_injection None table e = e
 ended_no_injection (Some sub) table e = each_without SubscriptionHasNoInjection (is_numbered sub) table.live e
 
-answered_no_injection : (final : Bool) (branch : List ℕ) (code : ℕ) (table : Table) → MailboxesHaveNoInjection table → MailboxesHaveNoInjection (if final then without_pending branch (table_after_end_if (subscription_refused_by branch code table) table) else table)
+answered_no_injection : (final : Bool) (branch : List ℕ) (code : ℕ) (table : Table) → MailboxesHaveNoInjection table →
+    MailboxesHaveNoInjection (if final then without_pending branch (table_after_end_if (subscription_refused_by branch code table) table) else table)
 answered_no_injection true branch code table e = ended_no_injection (subscription_refused_by branch code table) table e
 answered_no_injection false branch code table e = e
 
@@ -119,7 +121,8 @@ lines_no_injection last seconds =
     all_cons line_has_no_injection event_line (state_line ∷ type_line ∷ []) refl
     (all_cons line_has_no_injection state_line (type_line ∷ []) (line_no_injection (codes "Subscription-State") (subscription_state last seconds) refl (state_no_injection last seconds)) refl)
 
-notify_request_in_no_injection : (sip : Addr) (d : Dialogue) (branch : List ℕ) (last : Bool) (seconds : ℕ) (counts : Counts) → DialogueHasNoInjection d → HasNoInjection branch → MessageHasNoInjection (notify_request_in sip d branch last seconds counts)
+notify_request_in_no_injection : (sip : Addr) (d : Dialogue) (branch : List ℕ) (last : Bool) (seconds : ℕ) (counts : Counts) → DialogueHasNoInjection d → HasNoInjection branch →
+    MessageHasNoInjection (notify_request_in sip d branch last seconds counts)
 notify_request_in_no_injection sip d branch last seconds counts is e =
     request_no_injection d (next_number d.local_cseq) (codes "NOTIFY") (own_parts sip branch (notify_lines last seconds) (summary counts)) is refl
     (record { branch_in = e; shown_in = lines_no_injection last seconds })
@@ -127,7 +130,8 @@ notify_request_in_no_injection sip d branch last seconds counts is e =
 -- each that is sent, after these operations
 pub notify_request_no_injection : (sip : Addr) (sub : SubNo) (last : Bool) (branch : List ℕ) (now : ℕ) (ops : List TableOp) (m : Message Start) → Each OpHasNoInjection ops → HasNoInjection branch →
     notify_request sip sub last branch now (table_after ops) ≡ Some m → MessageHasNoInjection m
-notify_request_no_injection sip sub last branch now ops m c e is = by (subscription_numbered sub (table_after ops)) (each_found SubscriptionHasNoInjection (is_numbered sub) (table_after ops).live (boxes_no_injection ops c)) is
+notify_request_no_injection sip sub last branch now ops m c e is =
+    by (subscription_numbered sub (table_after ops)) (each_found SubscriptionHasNoInjection (is_numbered sub) (table_after ops).live (boxes_no_injection ops c)) is
   where
     by : (o : Option Subscription) → IfSome o SubscriptionHasNoInjection → option_map (notify_request_of sip last branch now (table_after ops)) o ≡ Some m → MessageHasNoInjection m
     by None h is = absurd (none-some m is)

@@ -40,7 +40,8 @@ use Rattle.mmtel_run_definitions.specs.Events as Events
 use Rattle.mmtel_run_definitions.specs.Events.{EventRecord, ParsedEvent, TimedEvent, parsed_datagram, parsed_from, parsed_record, parsed_refusal, parsed_result, timed_events}
 use Rattle.mmtel_run_definitions.specs.InForce.{upload_at, uploads_of}
 use Rattle.mmtel_run_definitions.specs.Run.{after_due_deadlines, after_event_in_order, after_events, clock_at, state_after}
-use Rattle.mmtel_run_definitions.specs.Transitions.{RunState, after_event, after_event_end, after_handover, after_parsed_event, after_web_reply, after_web_request, initial_state, with_filed_rows, with_next_step, with_refusal_of_bytes, with_upload}
+use Rattle.mmtel_run_definitions.specs.Transitions.{RunState, after_event, after_event_end, after_handover, after_parsed_event, after_web_reply}
+use Rattle.mmtel_run_definitions.specs.Transitions.{after_web_request, initial_state, with_filed_rows, with_next_step, with_refusal_of_bytes, with_upload}
 use Rattle.mmtel_run_definitions.specs.Subscriptions.{after_mailbox_upload}
 use Rattle.mmtel_run_theorems.specs.EquivalentStates.{AllEarly, AllLookUpEqually, AllTied, AreAmong, EquivalentConfigs, EventIsTied, EventLooksUpEqually, IsEarly}
 use Rattle.mmtel_run_theorems.specs.Roles.{role_of}
@@ -178,7 +179,8 @@ put_among : (records : List Sheet) (o : Option (Account × List ℕ)) (ys : Text
 put_among records o ys sub account text is =
     sub (stored_sheet text) (subst (λ (z : Option (Account × List ℕ)). IsIn (stored_sheet text) (sheets_of (option_to_list z ++ ys))) (sym is) (inl refl))
 
-among_event : (records : List Sheet) (d : Directory) (x : EventRecord) (e : Event) (ys : Texts) → ((s : Sheet) → IsIn s (sheets_of (option_to_list (upload_at d.names e x.outcome) ++ ys)) → IsAmong records s) → EventIsAmong records d (Events.parsed_event d e x.outcome x.rows)
+among_event : (records : List Sheet) (d : Directory) (x : EventRecord) (e : Event) (ys : Texts) →
+    ((s : Sheet) → IsIn s (sheets_of (option_to_list (upload_at d.names e x.outcome) ++ ys)) → IsAmong records s) → EventIsAmong records d (Events.parsed_event d e x.outcome x.rows)
 unfolding parsed_datagram
 among_event records d x (event.Datagram from at bytes) ys sub = among_from (peer_at from d.peers.known)
   where
@@ -251,9 +253,11 @@ module _ (below : Below) (its : PutIts) (others : PutOthers) (records : List She
 
   -- ---- bytes that are refused, and the web
 
-  with_refusal_of_bytes-equivalent : (at : ℕ) (peer : Peer) (source : Addr) (reply : Message Start) (v w : RunState) → Two v w → Two (with_refusal_of_bytes token at peer source reply v) (with_refusal_of_bytes token at peer source reply w)
+  with_refusal_of_bytes-equivalent : (at : ℕ) (peer : Peer) (source : Addr) (reply : Message Start) (v w : RunState) → Two v w →
+      Two (with_refusal_of_bytes token at peer source reply v) (with_refusal_of_bytes token at peer source reply w)
   with_refusal_of_bytes-equivalent at peer source reply v w a =
-      plain-equivalent below.texts records d e keys K before kn at peer (message_text (completed_reply (tag_for token v.drawn (to_tag_in reply.lines)) source reply)) (message_text (completed_reply (tag_for token w.drawn (to_tag_in reply.lines)) source reply)) _ _
+      plain-equivalent below.texts records d e keys K before kn at peer (message_text (completed_reply (tag_for token v.drawn (to_tag_in reply.lines)) source reply))
+      (message_text (completed_reply (tag_for token w.drawn (to_tag_in reply.lines)) source reply)) _ _
       (λ s. ap (λ (k : ℕ). message_text (completed_reply (tag_for token k (to_tag_in reply.lines)) source reply)) a.equivalent.drawn)
       (with_draws-equivalent below.texts records d e keys K before kn (tags_due (to_tag_in reply.lines)) (tags_due (to_tag_in reply.lines)) v w refl a)
 
@@ -278,14 +282,16 @@ module _ (below : Below) (its : PutIts) (others : PutOthers) (records : List She
     among = put_all its others records t w.texts among a.among;
   }
 
-  after_web_reply-equivalent : (at : ℕ) (r s : ParsedRequestView) (k l : KeeperOutcomeView) (rows more : List Row) (v w : RunState) → stored_upload k (upload_in d.names r) ≡ stored_upload l (upload_in e.names s) → PutIsAmong records (stored_upload k (upload_in d.names r)) → Two v w
+  after_web_reply-equivalent : (at : ℕ) (r s : ParsedRequestView) (k l : KeeperOutcomeView) (rows more : List Row) (v w : RunState) →
+      stored_upload k (upload_in d.names r) ≡ stored_upload l (upload_in e.names s) → PutIsAmong records (stored_upload k (upload_in d.names r)) → Two v w
       → Two (after_web_reply d at r k rows v) (after_web_reply e at s l more w)
   after_web_reply-equivalent at r s k l rows more v w same among a =
       with_offers-equivalent below.texts records d e keys K before kn (offer.Web at (web_reply d.names v.texts r k rows) ∷ []) (offer.Web at (web_reply e.names w.texts s l more) ∷ []) _ _ (λ p strange. refl)
       (with_upload-equivalent (stored_upload k (upload_in d.names r)) (stored_upload l (upload_in e.names s)) v w same (subst (PutIsAmong records) same among) a)
 
   -- and after it the effect of an upload to a mailbox
-  after_web_request-equivalent : (at : ℕ) (r s : ParsedRequestView) (k l : KeeperOutcomeView) (rows more : List Row) (v w : RunState) → stored_upload k (upload_in d.names r) ≡ stored_upload l (upload_in e.names s) → counts_put_in d.names r k ≡ counts_put_in e.names s l
+  after_web_request-equivalent : (at : ℕ) (r s : ParsedRequestView) (k l : KeeperOutcomeView) (rows more : List Row) (v w : RunState) →
+      stored_upload k (upload_in d.names r) ≡ stored_upload l (upload_in e.names s) → counts_put_in d.names r k ≡ counts_put_in e.names s l
       → PutIsAmong records (stored_upload k (upload_in d.names r)) → Two v w → Two (after_web_request d token at r k rows v) (after_web_request e token at s l more w)
   after_web_request-equivalent at r s k l rows more v w same waits among a =
       let vs : RunState = after_web_reply d at r k rows v in
@@ -304,7 +310,8 @@ module _ (below : Below) (its : PutIts) (others : PutOthers) (records : List She
   apart : (x y : MaskedEvent) → x ≡ y → kind_of x ≡ kind_of y
   apart x y same = ap kind_of same
 
-  after_parsed_event-equivalent : (at : ℕ) (x y : ParsedEvent) (v w : RunState) → mask_event d whos v x ≡ mask_event e whos w y → TrustedAs d x → TrustedAs e y → EventIsAmong records d x → EventLooksUpEqually d e (mask_event e whos w y) → EventIsTied d v x → EventIsTied e w y
+  after_parsed_event-equivalent : (at : ℕ) (x y : ParsedEvent) (v w : RunState) → mask_event d whos v x ≡ mask_event e whos w y → TrustedAs d x → TrustedAs e y → EventIsAmong records d x →
+      EventLooksUpEqually d e (mask_event e whos w y) → EventIsTied d v x → EventIsTied e w y
       → K w.actions → K (after_parsed_event e token at y w).actions → Two v w → Two (after_parsed_event d token at x v) (after_parsed_event e token at y w)
   after_parsed_event-equivalent at Events.Nothing Events.Nothing v w same trusted too among looks tied tied_too kw km z = z
   after_parsed_event-equivalent at Events.Nothing (Events.Refused q y s) v w same trusted too among looks tied tied_too kw km z = let o = apart _ _ same in absurd (omega (arith, o))
@@ -414,8 +421,11 @@ module _ (below : Below) (its : PutIts) (others : PutOthers) (records : List She
 
   abbrev Comes : (fuel i j : ℕ) → TimedEvent → TimedEvent → RunState → RunState → Type 0
   Comes fuel i j x y v w =
-      mask_event d whos (state_at_event_at d fuel i v) x.parsed ≡ mask_event e whos (state_at_event_at e fuel j w) y.parsed → EventLooksUpEqually d e (mask_event e whos (state_at_event_at e fuel j w) y.parsed) → (IsEarly (state_at_event_at d fuel i v) → EventIsTied d (state_at_event_at d fuel i v) x.parsed) → (IsEarly (state_at_event_at e fuel j w) → EventIsTied e (state_at_event_at e fuel j w) y.parsed) →
-      IsEarly (state_at_event_at d fuel i v) → K (after_event e token j y.parsed y.accepted (after_due_deadlines e token fuel j w)).actions → Two (after_event d token i x.parsed x.accepted (after_due_deadlines d token fuel i v)) (after_event e token j y.parsed y.accepted (after_due_deadlines e token fuel j w))
+      mask_event d whos (state_at_event_at d fuel i v) x.parsed ≡ mask_event e whos (state_at_event_at e fuel j w) y.parsed →
+      EventLooksUpEqually d e (mask_event e whos (state_at_event_at e fuel j w) y.parsed) → (IsEarly (state_at_event_at d fuel i v) → EventIsTied d (state_at_event_at d fuel i v) x.parsed) →
+      (IsEarly (state_at_event_at e fuel j w) → EventIsTied e (state_at_event_at e fuel j w) y.parsed) →
+      IsEarly (state_at_event_at d fuel i v) → K (after_event e token j y.parsed y.accepted (after_due_deadlines e token fuel j w)).actions →
+      Two (after_event d token i x.parsed x.accepted (after_due_deadlines d token fuel i v)) (after_event e token j y.parsed y.accepted (after_due_deadlines e token fuel j w))
 
   after_event-equivalent : (fuel at : ℕ) (x y : TimedEvent) (v w : RunState) → TrustedAs d x.parsed → TrustedAs e y.parsed → EventIsAmong records d x.parsed → Two v w → Comes fuel at at x y v w
   after_event-equivalent fuel at x y v w trusted too among a same looks tied tied_too early k =
@@ -428,9 +438,11 @@ module _ (below : Below) (its : PutIts) (others : PutOthers) (records : List She
       (with_next_step-equivalent below.texts below.tables below.records below.laws records d e token keys sites K before kn (after_due_deadlines d token fuel at v) (after_due_deadlines e token fuel at w)
       (after_due_deadlines-equivalent below.texts below.tables below.records below.laws records d e token keys sites K before kn fuel at v w ks a)) in
       after_event_end-equivalent x.accepted y.accepted (after_parsed_event d token at x.parsed (state_at_event_at d fuel at v)) left
-      (after_parsed_event-equivalent at x.parsed y.parsed (state_at_event_at d fuel at v) (state_at_event_at e fuel at w) same trusted too among looks (tied early) (tied_too (subst (λ (n : ℕ). n < 2 ^ 60) z.equivalent.drawn early)) kc km z)
+      (after_parsed_event-equivalent at x.parsed y.parsed (state_at_event_at d fuel at v) (state_at_event_at e fuel at w) same trusted too among looks (tied early)
+      (tied_too (subst (λ (n : ℕ). n < 2 ^ 60) z.equivalent.drawn early)) kc km z)
 
-  after_event_in_order-equivalent : (fuel : ℕ) (x y : TimedEvent) (v w : RunState) → x.at ≡ y.at → mask_event d whos (state_at_event d token fuel x v) x.parsed ≡ mask_event e whos (state_at_event e token fuel y w) y.parsed
+  after_event_in_order-equivalent : (fuel : ℕ) (x y : TimedEvent) (v w : RunState) → x.at ≡ y.at →
+      mask_event d whos (state_at_event d token fuel x v) x.parsed ≡ mask_event e whos (state_at_event e token fuel y w) y.parsed
       → TrustedAs d x.parsed → TrustedAs e y.parsed → EventIsAmong records d x.parsed → EventLooksUpEqually d e (mask_event e whos (state_at_event e token fuel y w) y.parsed)
       → (IsEarly (state_at_event d token fuel x v) → EventIsTied d (state_at_event d token fuel x v) x.parsed) → (IsEarly (state_at_event e token fuel y w) → EventIsTied e (state_at_event e token fuel y w) y.parsed)
       → IsEarly (state_at_event d token fuel x v) → K (after_event_in_order e token fuel y w).actions → Two v w → Two (after_event_in_order d token fuel x v) (after_event_in_order e token fuel y w)
@@ -438,7 +450,8 @@ module _ (below : Below) (its : PutIts) (others : PutOthers) (records : List She
       let clock : clock_at v x.at ≡ clock_at w y.at = ap (λ (n : ℕ). max n x.at) a.equivalent.clock ∙ ap (λ (n : ℕ). max w.clock n) moment in
       subst (λ (n : ℕ). Comes fuel n (clock_at w y.at) x y v w) (sym clock) (after_event-equivalent fuel (clock_at w y.at) x y v w trusted too among a) same looks tied tied_too early k
 
-  after_events-equivalent : (fuel : ℕ) (xs ys : List TimedEvent) (v w : RunState) → mask_all d token fuel whos xs v ≡ mask_all e token fuel whos ys w → AllTrusted d xs → AllTrusted e ys → AllAmong records d xs → AllLookUpEqually d e (mask_all e token fuel whos ys w)
+  after_events-equivalent : (fuel : ℕ) (xs ys : List TimedEvent) (v w : RunState) → mask_all d token fuel whos xs v ≡ mask_all e token fuel whos ys w → AllTrusted d xs → AllTrusted e ys →
+      AllAmong records d xs → AllLookUpEqually d e (mask_all e token fuel whos ys w)
       → AllTied d token fuel xs v → AllTied e token fuel ys w → AllEarly d token fuel xs v → K (after_events e token fuel ys w).actions → Two v w → Two (after_events d token fuel xs v) (after_events e token fuel ys w)
   after_events-equivalent fuel [] [] v w same t u m l i j early k a = a
   after_events-equivalent fuel [] (y ∷ ys) v w same t u m l i j early k a = absurd cc
@@ -481,8 +494,10 @@ module _ (below : Below) (keeps : KeepsPeers) (its : PutIts) (others : PutOthers
       let final : List TransactionOp = (state_after e token loaded fuel run).actions in
       let keys : TKey → Bool = keys_in d final in
       let asked : identities_tested_by records ≡ identities_tested_by (records_in e loaded run) = ap (λ (x : Mask). x.tested) same in
-      let among : AreAmong records (initial_state loaded).texts = loaded_all its others records loaded [] (λ s is. inr (in_left loaded (uploads_of d.names recorded) s is)) (record { each = λ account text is. absurd (no_text text is); none = inl refl }) in
-      (after_events-equivalent below its others records d e token keys sites (IsLast final) (older final) (knows keeps d final) fuel (timed_events d recorded) (timed_events e run) (initial_state loaded) (initial_state loaded)
+      let among : AreAmong records (initial_state loaded).texts =
+      loaded_all its others records loaded [] (λ s is. inr (in_left loaded (uploads_of d.names recorded) s is)) (record { each = λ account text is. absurd (no_text text is); none = inl refl }) in
+      (after_events-equivalent below its others records d e token keys sites (IsLast final) (older final) (knows keeps d final) fuel (timed_events d recorded) (timed_events e run)
+      (initial_state loaded) (initial_state loaded)
       (ap (λ (x : Mask). x.events) same ∙ ap (λ (z : List Who). mask_all e token fuel z (timed_events e run) (initial_state loaded)) (sym asked))
       (all_trusted d recorded) (all_trusted e run) (all_among records d recorded (λ s is. inr (in_right loaded (uploads_of d.names recorded) s is)))
       (subst (λ (z : List Who). AllLookUpEqually d e (mask_all e token fuel z (timed_events e run) (initial_state loaded))) (sym asked) looks)

@@ -5,7 +5,8 @@ use Rattle.mmtel_records_in_force.specs.Texts.{Texts}
 use Rattle.mmtel_sheet_values.specs.declared.values.Who.{Who}
 use Rattle.mmtel_run_definitions.specs.Deadlines.{Deadline}
 use Rattle.mmtel_run_definitions.specs.Events.{EventRecord, TimedEvent, timed_events}
-use Rattle.mmtel_run_definitions.specs.Run.{IsEnough, IsEnoughAfter, IsSettled, after_deadline_if, after_due_deadlines, after_event_in_order, after_events, after_one_deadline, clock_at, first_due_deadline, offers_of_run, state_after}
+use Rattle.mmtel_run_definitions.specs.Run.{IsEnough, IsEnoughAfter, IsSettled, after_deadline_if, after_due_deadlines, after_event_in_order}
+use Rattle.mmtel_run_definitions.specs.Run.{after_events, after_one_deadline, clock_at, first_due_deadline, offers_of_run, state_after}
 use Rattle.mmtel_run_definitions.specs.InForce.{uploads_of}
 use Rattle.mmtel_run_definitions.specs.ShortRuns.{IsShort, IsShortRun}
 use Rattle.mmtel_run_definitions.specs.View.{view}
@@ -69,7 +70,8 @@ masks_once d token loaded recorded masked other is too =
 
 module _ (once : Once) (secret : NoninterferenceInBoth) (looks : RenamedAreLookedUpEqually) where
   -- where few numbers are drawn by so many firings as are enough, few are by more
-  early_by : (d : Directory) (token : List ℕ) (loaded : Texts) (recorded : List EventRecord) (n more : ℕ) → IsEnough d token loaded n recorded → IsShortRun d token loaded recorded → AllEarly d token (n + more) (timed_events d recorded) (initial_state loaded)
+  early_by : (d : Directory) (token : List ℕ) (loaded : Texts) (recorded : List EventRecord) (n more : ℕ) → IsEnough d token loaded n recorded → IsShortRun d token loaded recorded →
+      AllEarly d token (n + more) (timed_events d recorded) (initial_state loaded)
   early_by d token loaded recorded n more enough short =
       let few : (state_after d token loaded n recorded).drawn < 2 ^ 60 = (short n enough).drawn in
       early_in d token once (n + more) (timed_events d recorded) (initial_state loaded) (begins d token loaded)
@@ -90,7 +92,8 @@ module _ (once : Once) (secret : NoninterferenceInBoth) (looks : RenamedAreLooke
       let two : masked ≡ mask e token loaded all run = masked_by e token loaded run masked (a + (b + f)) too ∙ ap (λ (n : ℕ). mask e token loaded n run) (third a b c f) in
       let alike = looks d e renamed (records_in d loaded recorded) masked renames neutral in
       ap (view seer) (given.exact ∙ sym of_given)
-      ∙ (secret d e token loaded all recorded run seer read alike.0 (subst (λ (x : Mask). AllLookUpEqually d e x.events) two alike.1) (early_by d token loaded recorded a (b + (c + f)) given.enough short) strange (sym one ∙ two)
+      ∙ (secret d e token loaded all recorded run seer read alike.0 (subst (λ (x : Mask). AllLookUpEqually d e x.events) two alike.1)
+      (early_by d token loaded recorded a (b + (c + f)) given.enough short) strange (sym one ∙ two)
       ∙ ap (view seer) (of_other ∙ sym other.exact))
     where
       last : (a b c f : ℕ) → a + (b + (c + f)) ≡ f + (a + (b + c))

@@ -79,7 +79,8 @@ module _ (d : Directory) (token : List ℕ) (loaded : Texts) (fuel : ℕ) (whole
     one-sees newer (Drops count) older is sees = tt
 
     event-sees : (newer added : List TableOp) → operations_after (inputs_of d token loaded) fuel (earlier ++ event ∷ []) ≡ newer ++ (added ++ operations_after (inputs_of d token loaded) fuel earlier) →
-        Each (Sees (in_force_in (at_end_of earlier)) (clock_at (at_end_of earlier) (moment_of event.event))) added → AllSeeInForce (operations_after (inputs_of d token loaded) fuel earlier) → AllSeeInForce (added ++ operations_after (inputs_of d token loaded) fuel earlier)
+        Each (Sees (in_force_in (at_end_of earlier)) (clock_at (at_end_of earlier) (moment_of event.event))) added → AllSeeInForce (operations_after (inputs_of d token loaded) fuel earlier) →
+        AllSeeInForce (added ++ operations_after (inputs_of d token loaded) fuel earlier)
     event-sees newer [] is sees told = told
     event-sees newer (op ∷ older) is sees told = (
       one-sees newer op older is sees.0,
@@ -90,7 +91,8 @@ module _ (d : Directory) (token : List ℕ) (loaded : Texts) (fuel : ℕ) (whole
     more-sees back own_law told =
         let w : RunState = at_end_of earlier in
         let next : at_end_of (earlier ++ event ∷ []) ≡ after_event_in_order d token fuel (timed_event_of d event) w = one-event earlier event in
-        let a : Adds d (clock_at w (moment_of event.event)) w None (after_event_in_order d token fuel (timed_event_of d event) w) = event_adds d token back own_law fuel (timed_event_of d event) w told.keyed told.detached told.conferences told.awaited in
+        let a : Adds d (clock_at w (moment_of event.event)) w None (after_event_in_order d token fuel (timed_event_of d event) w) =
+        event_adds d token back own_law fuel (timed_event_of d event) w told.keyed told.detached told.conferences told.awaited in
         let is : operations_after (inputs_of d token loaded) fuel (earlier ++ event ∷ []) ≡ a.added ++ operations_after (inputs_of d token loaded) fuel earlier = ap (λ (w : RunState). w.call_ops) next ∙ a.is in
         record {
           operations = subst AllSeeInForce (sym is) (event-sees [] a.added is a.sees told.operations);
@@ -109,4 +111,5 @@ module _ (d : Directory) (token : List ℕ) (loaded : Texts) (fuel : ℕ) (whole
       subst RunSeesInForce join (rest-sees back own_law (earlier ++ event ∷ []) rest (is ∙ sym join) (more-sees earlier event rest is back own_law told))
 
   pub all_see_in_force : LegsGoBack → ConferencesReplyInTheirOwn → RunSeesInForce whole
-  all_see_in_force back own_law = rest-sees back own_law [] whole refl (record { operations = tt; keyed = record { opened = le_refl 0; below = tt; rises = tt; own = tt }; detached = tt; conferences = tt; awaited = record { run = tt; requested = tt; answered = tt } })
+  all_see_in_force back own_law = rest-sees back own_law [] whole refl
+      (record { operations = tt; keyed = record { opened = le_refl 0; below = tt; rises = tt; own = tt }; detached = tt; conferences = tt; awaited = record { run = tt; requested = tt; answered = tt } })

@@ -57,15 +57,22 @@ use Rattle.mmtel_mwi.specs.declared.counts.Counts.{Counts}
 use Rattle.mmtel_run_definitions.specs.OwnResponses.{StatusResponse, plain_response, response_to, tag_for}
 use Rattle.mmtel_run_definitions.specs.Calls.{are_full, arrival_signal, call_config, call_of_invite}
 use Rattle.mmtel_run_definitions.specs.Deadlines as deadlines
-use Rattle.mmtel_run_definitions.specs.Deadlines.{Deadline, FirstTimer, OfCall, OfParticipant, OfServiceTimer, OfSubscription, OfTransaction, PendingTimer, ServiceTimer, comes_before, first_deadline, first_due_timer, first_timer, first_timer_if, is_sooner}
+use Rattle.mmtel_run_definitions.specs.Deadlines.{Deadline, FirstTimer, OfCall, OfParticipant, OfServiceTimer, OfSubscription, OfTransaction, PendingTimer}
+use Rattle.mmtel_run_definitions.specs.Deadlines.{ServiceTimer, comes_before, first_deadline, first_due_timer, first_timer, first_timer_if, is_sooner}
 use Rattle.mmtel_run_definitions.specs.Events.{ParsedEvent, TimedEvent, message_in}
 use Rattle.mmtel_run_definitions.specs.Events as events
 use Rattle.mmtel_run_definitions.specs.Records.{in_force, until_of}
 use Rattle.mmtel_run_definitions.specs.Refusals.{Disposition, Respond, Enter, EnterConference, OpenCall, OpenConference, JoinConference, Register, Subscribe, EnterSubscription, disposition}
-use Rattle.mmtel_run_definitions.specs.Ownership.{DialogOwner, InSubscription, InCall, InConference, OfSubscriptions, OfCalls, OfConferences, Owner, account_of_side, owner_of_key, owner_of_branch, is_of_peer, leg_by, replacement_in, conference_config, replaced_side, status_of_fault}
+use Rattle.mmtel_run_definitions.specs.Ownership.{DialogOwner, InSubscription, InCall, InConference, OfSubscriptions, OfCalls, OfConferences, Owner, account_of_side}
+use Rattle.mmtel_run_definitions.specs.Ownership.{owner_of_key, owner_of_branch, is_of_peer, leg_by, replacement_in, conference_config, replaced_side, status_of_fault}
 use Rattle.mmtel_run_definitions.specs.Run.{after_deadline_if, after_due_deadlines, after_event_in_order, after_one_deadline, clock_at, first_due_deadline}
 use Rattle.mmtel_run_definitions.specs.Subscriptions.{after_expiry, after_mailbox_upload, after_notify_response, grant_response, other_response, refusal_response, with_mailbox_op}
-use Rattle.mmtel_run_definitions.specs.Transitions.{RunState, after_ack_by, after_adoption_if, adoption_op, after_service_timer, after_classified_message, with_timer, with_next_step, with_call_output, calls_in, after_event, after_cancel, after_cancel_of, output_of_conference_op, with_draws, with_emit, with_emits, after_transaction_end, after_participant_request, after_call_end, after_deadline, after_handover, conference_signal_op, received_now, with_received_action, dialog_owner_in, after_conference_op, join_op, with_call_op, with_conference_output, after_parsed_event, next_tag, after_refer_notify, opening_op, with_registration, with_retransmission, after_replacing_named, after_replacing_side, after_replaces, with_response, after_response_to, after_join_if, after_opening_if, conferences_in, after_due, after_conference_signal, after_web_reply, after_call_signal, after_request_timeout, after_detach, after_disposition, tokens_now, after_message, subscriptions_in}
+use Rattle.mmtel_run_definitions.specs.Transitions.{RunState, after_ack_by, after_adoption_if, adoption_op, after_service_timer, after_classified_message, with_timer, with_next_step, with_call_output, calls_in}
+use Rattle.mmtel_run_definitions.specs.Transitions.{after_event, after_cancel, after_cancel_of, output_of_conference_op, with_draws, with_emit, with_emits, after_transaction_end, after_participant_request}
+use Rattle.mmtel_run_definitions.specs.Transitions.{after_call_end, after_deadline, after_handover, conference_signal_op, received_now, with_received_action, dialog_owner_in, after_conference_op, join_op}
+use Rattle.mmtel_run_definitions.specs.Transitions.{with_call_op, with_conference_output, after_parsed_event, next_tag, after_refer_notify, opening_op, with_registration, with_retransmission}
+use Rattle.mmtel_run_definitions.specs.Transitions.{after_replacing_named, after_replacing_side, after_replaces, with_response, after_response_to, after_join_if, after_opening_if, conferences_in, after_due}
+use Rattle.mmtel_run_definitions.specs.Transitions.{after_conference_signal, after_web_reply, after_call_signal, after_request_timeout, after_detach, after_disposition, tokens_now, after_message, subscriptions_in}
 use Rattle.mmtel_run_definitions.proofs.MailboxSteps as steps
 use Rattle.mmtel_run_definitions.proofs.MailboxSteps.{AreResponses, AreSteps, tells_in}
 use Rattle.mmtel_run_theorems.proofs.PendingFinals.{IsWaiting}
@@ -337,7 +344,8 @@ module _ (d : Directory) (token : List ℕ) (back : LegsGoBack) (own_law : Confe
     };
   }
 
-  quiet : {away : Option ℕ} (w v : RunState) → v.call_ops ≡ w.call_ops → v.conference_ops ≡ w.conference_ops → v.texts ≡ w.texts → v.registrations ≡ w.registrations → Grows (call_config d) w.call_ops w.actions v.actions → StillAt away w → StillAt away v
+  quiet : {away : Option ℕ} (w v : RunState) → v.call_ops ≡ w.call_ops → v.conference_ops ≡ w.conference_ops → v.texts ≡ w.texts → v.registrations ≡ w.registrations →
+      Grows (call_config d) w.call_ops w.actions v.actions → StillAt away w → StillAt away v
   quiet w v ops seats texts registrations more t = record { adds = alone w v ops seats more t.adds; texts = texts ∙ t.texts; registrations = registrations ∙ t.registrations }
 
   -- it replies as may be
@@ -448,7 +456,8 @@ module _ (d : Directory) (token : List ℕ) (back : LegsGoBack) (own_law : Confe
 
   -- ---- an operation on conferences
 
-  with_conference_output_still : {away : Option ℕ} (at : ℕ) (op : rooms.TableOp) (output : StepOutput) (w : RunState) → IsOfRun op → Each (MaySend w) output.out → StillAt away w → StillAt away (with_conference_output at op output w)
+  with_conference_output_still : {away : Option ℕ} (at : ℕ) (op : rooms.TableOp) (output : StepOutput) (w : RunState) → IsOfRun op → Each (MaySend w) output.out → StillAt away w →
+      StillAt away (with_conference_output at op output w)
   with_conference_output_still at op output w of_run own t =
       with_emits_still at output.out (record w { conference_ops = rooms.Drops (length output.rows) ∷ op ∷ w.conference_ops; waiting = w.waiting ++ output.rows }) own (record {
         adds = record {
@@ -478,7 +487,8 @@ module _ (d : Directory) (token : List ℕ) (back : LegsGoBack) (own_law : Confe
   comes_own own op w is away =
       replies_elsewhere own (call_config d) (keys w.actions) w.call_ops (output_of_conference_op d op w).out away (own_law own (conference_config d) op (conferences_in d w) is)
 
-  after_conference_op_still : {away : Option ℕ} (at : ℕ) (op : rooms.TableOp) (w : RunState) → IsOfRun op → Each (MaySend w) (output_of_conference_op d op w).out → StillAt away w → StillAt away (after_conference_op d at op w)
+  after_conference_op_still : {away : Option ℕ} (at : ℕ) (op : rooms.TableOp) (w : RunState) → IsOfRun op → Each (MaySend w) (output_of_conference_op d op w).out → StillAt away w →
+      StillAt away (after_conference_op d at op w)
   after_conference_op_still at op w of_run own t =
       let v : RunState = record w { drawn = (output_of_conference_op d op w).tokens.drawn } in
       with_conference_output_still at op (output_of_conference_op d op w) v of_run own (quiet w v refl refl refl refl (grows_refl w.actions) t)
@@ -494,7 +504,8 @@ module _ (d : Directory) (token : List ℕ) (back : LegsGoBack) (own_law : Confe
   -- ---- mailboxes: message waiting preserves whatever is preserved while calls and conferences, records and registrations are unchanged, and more operations are done on the transactions
 
   module _ (P : RunState → Type 0)
-      (more : (w v : RunState) → v.call_ops ≡ w.call_ops → v.conference_ops ≡ w.conference_ops → v.texts ≡ w.texts → v.registrations ≡ w.registrations → Grows (call_config d) w.call_ops w.actions v.actions → P w → P v) where
+      (more : (w v : RunState) → v.call_ops ≡ w.call_ops → v.conference_ops ≡ w.conference_ops → v.texts ≡ w.texts → v.registrations ≡ w.registrations →
+      Grows (call_config d) w.call_ops w.actions v.actions → P w → P v) where
     noted_left : (op : boxes.TableOp) (w : RunState) → P w → P (with_mailbox_op op w)
     noted_left op w = more w (with_mailbox_op op w) refl refl refl refl (grows_refl w.actions)
 
@@ -510,10 +521,12 @@ module _ (d : Directory) (token : List ℕ) (back : LegsGoBack) (own_law : Confe
           more v (with_emit at (emit.Ask peer message) v) refl refl refl refl (grows (DidAsk peer message at) v.actions (λ r. r) tt);
     }
 
-  still_more : (w v : RunState) → v.call_ops ≡ w.call_ops → v.conference_ops ≡ w.conference_ops → v.texts ≡ w.texts → v.registrations ≡ w.registrations → Grows (call_config d) w.call_ops w.actions v.actions → StillSo w → StillSo v
+  still_more : (w v : RunState) → v.call_ops ≡ w.call_ops → v.conference_ops ≡ w.conference_ops → v.texts ≡ w.texts → v.registrations ≡ w.registrations →
+      Grows (call_config d) w.call_ops w.actions v.actions → StillSo w → StillSo v
   still_more w v ops seats texts registrations g t = quiet w v ops seats texts registrations g t
 
-  adds_more : (w v : RunState) → v.call_ops ≡ w.call_ops → v.conference_ops ≡ w.conference_ops → v.texts ≡ w.texts → v.registrations ≡ w.registrations → Grows (call_config d) w.call_ops w.actions v.actions → AddsSo w → AddsSo v
+  adds_more : (w v : RunState) → v.call_ops ≡ w.call_ops → v.conference_ops ≡ w.conference_ops → v.texts ≡ w.texts → v.registrations ≡ w.registrations →
+      Grows (call_config d) w.call_ops w.actions v.actions → AddsSo w → AddsSo v
   adds_more w v ops seats texts registrations g t = alone w v ops seats g t
 
   after_notify_response_still : (branch : Option (List ℕ)) (code : ℕ) (w : RunState) → StillSo w → StillSo (after_notify_response branch code w)
@@ -539,7 +552,8 @@ module _ (d : Directory) (token : List ℕ) (back : LegsGoBack) (own_law : Confe
 
   after_due_still : (x : Due) (w : RunState) → DueBy now x → StillSo w → StillSo (after_due d token x w)
   after_due_still (due.Again peer at text) w le t = quiet w _ refl refl refl refl (grows_refl w.actions) t
-  after_due_still (due.Silent key branch method at) w le t = after_request_timeout_still at branch method (owner_of_branch (timed_out_branch branch method) (behind_cookie branch) (calls_in d w).entries (subscriptions_in w)) w le t
+  after_due_still (due.Silent key branch method at) w le t =
+      after_request_timeout_still at branch method (owner_of_branch (timed_out_branch branch method) (behind_cookie branch) (calls_in d w).entries (subscriptions_in w)) w le t
   after_due_still (due.Over key at) w le t = over_still at key (owner_of_key key (calls_in d w).entries) w le t
   after_due_still due.Nothing w le t = t
 
@@ -559,9 +573,11 @@ module _ (d : Directory) (token : List ℕ) (back : LegsGoBack) (own_law : Confe
   after_deadline_still : (x : Deadline) (w : RunState) → DeadlineBy now x → StillSo w → StillSo (after_deadline d token now x w)
   after_deadline_still OfTransaction w le t =
       let next : Option DueEntryView = next_due now (live (with_next_step w).actions) in
-      after_due_still (due_result next) (record (with_next_step w) { actions = after_firing (with_next_step w).actions next }) (class_result-by now next (next-by now (live (with_next_step w).actions))) (after_firing_still next (with_next_step w) refl (with_next_step_still w t))
+      after_due_still (due_result next) (record (with_next_step w) { actions = after_firing (with_next_step w).actions next })
+      (class_result-by now next (next-by now (live (with_next_step w).actions))) (after_firing_still next (with_next_step w) refl (with_next_step_still w t))
   after_deadline_still (OfServiceTimer armed others) w le t =
-      after_service_timer_still armed.at armed.timer (record (with_next_step w) { pending_timers = others }) le (quiet (with_next_step w) _ refl refl refl refl (grows_refl (with_next_step w).actions) (with_next_step_still w t))
+      after_service_timer_still armed.at armed.timer (record (with_next_step w) { pending_timers = others }) le
+      (quiet (with_next_step w) _ refl refl refl refl (grows_refl (with_next_step w).actions) (with_next_step_still w t))
 
   if_fired_still : (o : Option Deadline) (w : RunState) → IfSome o (DeadlineBy now) → StillSo w → StillSo (after_deadline_if d token now o w)
   if_fired_still None w le t = t
@@ -583,7 +599,8 @@ module _ (d : Directory) (token : List ℕ) (back : LegsGoBack) (own_law : Confe
     abbrev AddsAway : TKey → RunState → Type 0
     AddsAway key w = AddsSo w × IsAway w key.0
 
-    away_more : (key : TKey) (w v : RunState) → v.call_ops ≡ w.call_ops → v.conference_ops ≡ w.conference_ops → v.texts ≡ w.texts → v.registrations ≡ w.registrations → Grows (call_config d) w.call_ops w.actions v.actions →
+    away_more : (key : TKey) (w v : RunState) → v.call_ops ≡ w.call_ops → v.conference_ops ≡ w.conference_ops → v.texts ≡ w.texts → v.registrations ≡ w.registrations →
+        Grows (call_config d) w.call_ops w.actions v.actions →
         AddsAway key w → AddsAway key v
     away_more key w v ops seats texts registrations g t = (
       alone w v ops seats g t.0,
@@ -734,9 +751,12 @@ module _ (d : Directory) (token : List ℕ) (back : LegsGoBack) (own_law : Confe
     received_still : (p : MessageClass) (w : RunState) → p ≡ class_of (head_of (message_in s.parsed)) (live w.actions) → StillSo w → StillSo (received_as p w)
     received_still p w taken t = quiet w (received_as p w) refl refl refl refl (grows (DidHear s.peer (message_in s.parsed) now p) w.actions (λ r. (taken, r)) tt) t
 
-    said_adds : (p : MessageClass) (w : RunState) → p ≡ class_of (head_of (message_in s.parsed)) (live w.actions) → StillSo w → AddsSo (after_classified_message d token now s (said_of p w) (receiving_as p (said_of p w) w))
+    said_adds : (p : MessageClass) (w : RunState) → p ≡ class_of (head_of (message_in s.parsed)) (live w.actions) → StillSo w →
+        AddsSo (after_classified_message d token now s (said_of p w) (receiving_as p (said_of p w) w))
     said_adds part.Fresh w taken t =
-        requested_adds (keys w.actions) (received_as part.Fresh w) (omega (arith, keys_fresh s.peer (message_in s.parsed) now w.actions)) t.adds.keyed (_, get-next (openings w.actions) _, record { server = refl; peer = refl; state = refl; done = refl; refused = refl; over = refl }) (λ op from. (tt, acts_later (call_config d) (keys w.actions) op w.call_ops w.actions (le_refl (keys w.actions)) from t.adds.awaited.answered))
+        requested_adds (keys w.actions) (received_as part.Fresh w) (omega (arith, keys_fresh s.peer (message_in s.parsed) now w.actions)) t.adds.keyed
+        (_, get-next (openings w.actions) _, record { server = refl; peer = refl; state = refl; done = refl; refused = refl; over = refl })
+        (λ op from. (tt, acts_later (call_config d) (keys w.actions) op w.call_ops w.actions (le_refl (keys w.actions)) from t.adds.awaited.answered))
         (received_still part.Fresh w taken t)
         (is_cancel (head_of (message_in s.parsed))) (option_map key_of (find (is_invite_of (head_of (message_in s.parsed))) (live w.actions)))
     said_adds part.Full w taken t = alone w _ refl refl (grows_refl w.actions) t.adds

@@ -1,5 +1,6 @@
 -- A server transaction that was opened by a request stays live, with the peer that sent it, until a final response is sent in it.
-use Rattle.std.proofs.Common.{◌≡◌, ◌<◌, ◌≤◌, le_refl, ℕ, zero, suc, ◌+◌, ◌==◌, Bool, true, false, not, ◌&&◌, ◌||◌, List, [], ◌∷◌, ◌++◌, length, Option, Some, None, refl, sym, ap, ◌∙◌, subst, IfSome, map, cond, arith, append_assoc, length-append}
+use Rattle.std.proofs.Common.{◌≡◌, ◌<◌, ◌≤◌, le_refl, ℕ, zero, suc, ◌+◌, ◌==◌, Bool, true, false, not, ◌&&◌, ◌||◌, List, [], ◌∷◌, ◌++◌}
+use Rattle.std.proofs.Common.{length, Option, Some, None, refl, sym, ap, ◌∙◌, subst, IfSome, map, cond, arith, append_assoc, length-append}
 use Rattle.std.specs.Prelude.{if◌then◌else◌, nat_lt, nat_le, filter, find, is_some, option_map, slice_get}
 use Rattle.std.specs.List.{list_any}
 use Rattle.std.specs.Option.{option_or}
@@ -12,8 +13,10 @@ use Rattle.mmtel_message.specs.Message.{Message}
 use Rattle.mmtel_message.specs.Texts.{message_text}
 use Rattle.mmtel_message.specs.declared.messages.Start.{Start}
 use Rattle.mmtel_transaction.specs.Results.{DueEntryView, ack_class, class_of, due_one, is_before, is_client_of, is_full, is_of, is_server_of, next_due, peer_of, request_class, response_class, sooner}
-use Rattle.mmtel_transaction.specs.Operations.{TransactionOp, DidAck, DidAsk, DidBegin, DidFire, DidSettle, DidHear, DidReply, change, entry_of, change_on_receipt, opened_on_receipt, is_live, live, send_count, openings, opens, step_of}
-use Rattle.mmtel_transaction.specs.Changes.{after_any_reply, after_failure_ack, after_final, after_provisional, after_reply, after_response, after_settling, after_timer, after_timer_by, change_of_key, is_ack_of, reliable_response_of, with_kept_ack, with_reliable_if}
+use Rattle.mmtel_transaction.specs.Operations.{TransactionOp, DidAck, DidAsk, DidBegin, DidFire, DidSettle, DidHear, DidReply, change, entry_of}
+use Rattle.mmtel_transaction.specs.Operations.{change_on_receipt, opened_on_receipt, is_live, live, send_count, openings, opens, step_of}
+use Rattle.mmtel_transaction.specs.Changes.{after_any_reply, after_failure_ack, after_final, after_provisional, after_reply, after_response, after_settling}
+use Rattle.mmtel_transaction.specs.Changes.{after_timer, after_timer_by, change_of_key, is_ack_of, reliable_response_of, with_kept_ack, with_reliable_if}
 use Rattle.mmtel_transaction.specs.Deadlines.{deadline, foremost_in, last_deadline, last_deadline_by, retransmission_by, state_retransmission_at}
 use Rattle.mmtel_transaction.specs.Heads.{head_of, is_success, is_ack, is_invite, is_provisional, is_refusal, is_same_call}
 use Rattle.mmtel_transaction.specs.Runs.{IsNextOf, IsRun}

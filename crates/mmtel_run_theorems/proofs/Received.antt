@@ -244,7 +244,8 @@ after_head_no_injection : (o : Option MessageHead) (rest : List ℕ) → IfSome 
 after_head_no_injection None rest h = tt
 after_head_no_injection (Some head) rest h = go (nat_lt most_lines (length head.lines))
   where
-    go : (t : Bool) → ReadResultHasNoInjection (if t then Err (fault.TooMany (reply_to head.start 513 (codes "Message Too Large") head.lines)) else after_faults head.start head.lines rest (first_fault head.start head.five (length rest) head.lines))
+    go : (t : Bool) → ReadResultHasNoInjection (if t then Err (fault.TooMany (reply_to head.start 513 (codes "Message Too Large") head.lines))
+        else after_faults head.start head.lines rest (first_fault head.start head.five (length rest) head.lines))
     go true = reply_no_injection head.start 513 (codes "Message Too Large") head.lines refl h.lines_in
     go false =
         faults_no_injection head.start head.lines rest (first_fault head.start head.five (length rest) head.lines) h.start_in h.lines_in

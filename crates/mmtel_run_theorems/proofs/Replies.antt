@@ -182,7 +182,8 @@ act-later config n op ops (DidAck k message) from a = tt
 act-later config n op ops (DidFire k) from a = tt
 act-later config n op ops (DidSettle k own) from a = tt
 
-pub acts_later : (config : CallConfigView) (n : ℕ) (op : TableOp) (ops : List TableOp) (acts : List TransactionOp) → keys acts ≤ n → IsFrom n op → AllRepliesAllowed config ops acts → AllRepliesAllowed config (op ∷ ops) acts
+pub acts_later : (config : CallConfigView) (n : ℕ) (op : TableOp) (ops : List TableOp) (acts : List TransactionOp) → keys acts ≤ n → IsFrom n op → AllRepliesAllowed config ops acts →
+    AllRepliesAllowed config (op ∷ ops) acts
 acts_later config n op ops [] le from a = tt
 acts_later config n op ops (act ∷ acts) le from a =
     let less : keys acts ≤ n = le_trans (keys_grow act acts) le in

@@ -33,7 +33,8 @@ use Rattle.mmtel_types.specs.Sides.{other_side}
 use Rattle.mmtel_types.specs.declared.numbers.Peer.{Peer}
 use Rattle.mmtel_types.specs.declared.sides.Side.{Side}
 use Rattle.mmtel_types.specs.declared.sides.Side.TheVariants.{Callee, Caller}
-use Rattle.mmtel_run_theorems.specs.Roles.{abandoned_invite_at, answered_invite_at, awaited_role, comes_from, is_of_abandoned, is_of_answered, other_role, relayed_at, request_role_in, request_role_of, response_role_of, role_of_sender, side_role, unshown_request, unshown_response}
+use Rattle.mmtel_run_theorems.specs.Roles.{abandoned_invite_at, answered_invite_at, awaited_role, comes_from, is_of_abandoned, is_of_answered, other_role, relayed_at}
+use Rattle.mmtel_run_theorems.specs.Roles.{request_role_in, request_role_of, response_role_of, role_of_sender, side_role, unshown_request, unshown_response}
 
 -- ---- a side that is restricted, and its own peer
 
@@ -147,12 +148,14 @@ module _ (wholes : MessagesHaveNothingPrivate) (config : CallConfigView) (keys :
     some_flight : (y z : RelayedTransaction) → Some z ≡ Some y → z ≡ y
     some_flight y z e = cc
 
-    abandoned_own : (c : Call) (l : Option AbandonedInvite) (x : Option AnsweredInvite) (f : Option RelayedTransaction) (y : AbandonedInvite) → l ≡ Some y → hides (other_role c m l x f) ≡ true → comes_from y.invite.dialogue.peer m ≡ true
+    abandoned_own : (c : Call) (l : Option AbandonedInvite) (x : Option AnsweredInvite) (f : Option RelayedTransaction) (y : AbandonedInvite) → l ≡ Some y → hides (other_role c m l x f) ≡ true →
+        comes_from y.invite.dialogue.peer m ≡ true
     abandoned_own c None x f y is e = absurd (let n : None ≡ Some y = is in cc)
     abandoned_own c (Some z) x f y is e =
         subst (λ (w : AbandonedInvite). comes_from w.invite.dialogue.peer m ≡ true) (some_abandoned y z is) (both_own (is_of_abandoned m (Some z)) (is_of_answered m x) e).0
 
-    taken_own : (c : Call) (l : Option AbandonedInvite) (x : Option AnsweredInvite) (f : Option RelayedTransaction) (y : AnsweredInvite) → x ≡ Some y → hides (other_role c m l x f) ≡ true → comes_from y.invite.dialogue.peer m ≡ true
+    taken_own : (c : Call) (l : Option AbandonedInvite) (x : Option AnsweredInvite) (f : Option RelayedTransaction) (y : AnsweredInvite) → x ≡ Some y → hides (other_role c m l x f) ≡ true →
+        comes_from y.invite.dialogue.peer m ≡ true
     taken_own c l None f y is e = absurd (let n : None ≡ Some y = is in cc)
     taken_own c None (Some z) f y is e = subst (λ (w : AnsweredInvite). comes_from w.invite.dialogue.peer m ≡ true) (some_taken y z is) (both_own true (is_of_answered m (Some z)) e).1
     taken_own c (Some l) (Some z) f y is e =
@@ -212,7 +215,8 @@ module _ (wholes : MessagesHaveNothingPrivate) (config : CallConfigView) (keys :
     )
 
     -- by the INVITE to which it belongs
-    pub answer_by : (o : Option (List ℕ)) (key : TKey) (role : Role) (e : Entry) → ((branch : List ℕ) → o ≡ Some branch → role ≡ response_role_of branch m e.call) → ((branch : List ℕ) → o ≡ Some branch → KeyIsTied key branch e.call)
+    pub answer_by : (o : Option (List ℕ)) (key : TKey) (role : Role) (e : Entry) → ((branch : List ℕ) → o ≡ Some branch → role ≡ response_role_of branch m e.call) →
+        ((branch : List ℕ) → o ≡ Some branch → KeyIsTied key branch e.call)
         → RespondsToOne o T key role m e.call
     answer_by None key role e is tie = tt
     answer_by (Some branch) key role e is tie = subst (λ (r : Role). RespondsToOne (Some branch) T key r m e.call) (sym (is branch refl)) (one_fits key branch e.call (tie branch refl))

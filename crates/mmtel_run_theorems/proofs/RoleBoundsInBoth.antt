@@ -48,7 +48,9 @@ use Rattle.mmtel_run_definitions.specs.Refusals.{is_subscribe}
 use Rattle.mmtel_run_definitions.specs.Ownership.{OfCalls, OfConferences, OfSubscriptions, Owner, is_of_calls, is_of_subscriptions, owner_of, owner_of_branch}
 use Rattle.mmtel_run_definitions.specs.Transitions.{RunState, calls_in, conferences_in, subscriptions_in}
 use Rattle.mmtel_run_theorems.specs.EquivalentStates.{HasSameTrust, InviteIsTied, MessageIsTied, ResponseIsTiedToTable}
-use Rattle.mmtel_run_theorems.specs.Roles.{abandoned_invite_at, comes_from, dialog_role, hides_caller, invited_at, invited_in, is_of_abandoned, is_of_invite, is_of_participant, is_opening, is_subscribing, may_subscribe, named_role, participant_invited, participant_response_role, request_role_of, response_role, response_role_by, response_role_of, role_as, role_in_conference_response, role_in_entry, role_in_response, role_of, unshown_request}
+use Rattle.mmtel_run_theorems.specs.Roles.{abandoned_invite_at, comes_from, dialog_role, hides_caller, invited_at, invited_in, is_of_abandoned, is_of_invite, is_of_participant}
+use Rattle.mmtel_run_theorems.specs.Roles.{is_opening, is_subscribing, may_subscribe, named_role, participant_invited, participant_response_role, request_role_of, response_role}
+use Rattle.mmtel_run_theorems.specs.Roles.{response_role_by, response_role_of, role_as, role_in_conference_response, role_in_entry, role_in_response, role_of, unshown_request}
 use Rattle.mmtel_run_theorems.proofs.DispositionKinds.{ack_taken, answer_response, named_tagged, no_ack_across, subscribe_opens_nothing, subscribes_elsewhere}
 use Rattle.mmtel_run_theorems.proofs.EquivalentEmits.{Knows}
 use Rattle.mmtel_run_theorems.proofs.RoleBounds.{answer_by, both_own, entry_found, is_answer, request_fits, true_false}
@@ -176,7 +178,8 @@ module _ (wholes : MessagesHaveNothingPrivate) (d : Directory) (keys : TKey → 
   none_of None e = refl
   none_of (Some place) e = absurd (true_false e)
 
-  module _ (key : ℕ) (p : class_of (head_of (message_in m.parsed)) (live u.actions) ≡ part.Answer key) (none : is_of_calls (awaited_request_branch m) entries ≡ false) (branch : List ℕ) (is : awaited_request_branch m ≡ Some branch) where
+  module _ (key : ℕ) (p : class_of (head_of (message_in m.parsed)) (live u.actions) ≡ part.Answer key) (none : is_of_calls (awaited_request_branch m) entries ≡ false) (branch : List ℕ)
+      (is : awaited_request_branch m ≡ Some branch) where
     abbrev asked : Option ParticipantState
     asked = participant_invited branch table.live
 

@@ -9,7 +9,8 @@ use Rattle.mmtel_b2bua.specs.Tables.{opened_after}
 use Rattle.mmtel_b2bua.specs.declared.entries.Entry.{Entry}
 use Rattle.mmtel_b2bua.specs.declared.signals.Signal.{Signal}
 use Rattle.mmtel_b2bua.specs.declared.signals.Signal.TheVariants as signal
-use Rattle.mmtel_b2bua_theorems.specs.TracesOfTables.{ArePutBack, HasNumbers, all_charging_records, call_of, charging_records_of, continued_trace, entry_by, entry_in, event_by, is_number, is_of, number_by, number_of, op_charging_records, opening_by, trace_of}
+use Rattle.mmtel_b2bua_theorems.specs.TracesOfTables.{ArePutBack, HasNumbers, all_charging_records, call_of, charging_records_of, continued_trace, entry_by}
+use Rattle.mmtel_b2bua_theorems.specs.TracesOfTables.{entry_in, event_by, is_number, is_of, number_by, number_of, op_charging_records, opening_by, trace_of}
 use Rattle.mmtel_b2bua_theorems.specs.Outcomes.{call_inputs_after, ending_by_cause, outcome_after}
 use Rattle.mmtel_b2bua_theorems.specs.Theorems.{CallIsExact, CallsOfTablesAreExact, CallsTakeTheirSteps, ChargingRecordsAreOfCalls, is_charging_record_of}
 use Rattle.mmtel_b2bua_theorems.specs.TracesWithTransfers.{CallEvent, CallTraceWithTransfers, call_after}
@@ -223,6 +224,7 @@ by-numbers (row ∷ rows) h =
     subst (λ (b : Bool). AreOfCalls (cond b (row ∷ filter (is_charging_record_of row.call.0) rows) (filter (is_charging_record_of row.call.0) rows))) own (h row.call.0) in
     (first.0, by-numbers rows (λ n. later-kept n row rows (h n)))
 
-pub calls_are_of_calls : CallsTakeTheirSteps → CallsOfTablesAreExact → ChargingRecordsAreOfCalls → (config : CallConfigView) (ops : List TableOp) → HasNumbers config ops → ArePutBack config ops → AreOfCalls (all_charging_records config ops)
+pub calls_are_of_calls : CallsTakeTheirSteps → CallsOfTablesAreExact → ChargingRecordsAreOfCalls → (config : CallConfigView) (ops : List TableOp) → HasNumbers config ops → ArePutBack config ops →
+    AreOfCalls (all_charging_records config ops)
 calls_are_of_calls steps exact own config ops few put =
     by-numbers (all_charging_records config ops) (λ n. subst AreOfCalls (sym (own config ops n few put)) (number-rows steps exact config ops few put n))

@@ -77,7 +77,8 @@ bounded bound_law forwards d trace same shown =
     let endings = endings_after trace.start trace.events in
     let few = targets_few (outcome_after trace.start trace.events).targets (forwards.later call endings) in
     let below : received_diversions (opening_in trace.start) + diversions_made (outcome_after trace.start trace.events) ≤ max d.bound (received_diversions (opening_in trace.start)) =
-    subst (λ (config : CallConfigView). received_diversions (opening_in trace.start) + diversions_made (outcome_after trace.start trace.events) ≤ max config.bound (received_diversions (opening_in trace.start))) same (bound_law call endings) in
+    subst (λ (config : CallConfigView). received_diversions (opening_in trace.start) + diversions_made (outcome_after trace.start trace.events) ≤ max config.bound (received_diversions (opening_in trace.start)))
+    same (bound_law call endings) in
     let targets : length (outcome_after trace.start trace.events).targets ≤ d.bound + 1 =
     within (received_diversions (opening_in trace.start)) (diversions_made (outcome_after trace.start trace.events)) d.bound (length (outcome_after trace.start trace.events).targets) below few in
     record {
@@ -100,9 +101,11 @@ still_pending c offered = go c.phase c.answered offered
 
 -- ---- the whole
 
-module _ (back : LegsGoBack) (room_replies : ConferencesReplyInTheirOwn) (steps : CallsTakeTheirSteps) (exact_law : CallsOfTablesAreExact) (rows_law : ChargingRecordsAreOfCalls) (seats : OperationsAreCharged) (filed : RowsAreFiled) where
+module _ (back : LegsGoBack) (room_replies : ConferencesReplyInTheirOwn) (steps : CallsTakeTheirSteps) (exact_law : CallsOfTablesAreExact) (rows_law : ChargingRecordsAreOfCalls)
+    (seats : OperationsAreCharged) (filed : RowsAreFiled) where
   -- the CDRs of a short run
-  charged : ParticipantsAreAccountedFor → ParticipantsAreMetered → RowsAreAccountedFor → (d : Directory) (token : List ℕ) (loaded : Texts) (fuel : ℕ) (recorded : List EventRecord) → IsShort (state_after d token loaded fuel recorded) →
+  charged : ParticipantsAreAccountedFor → ParticipantsAreMetered → RowsAreAccountedFor → (d : Directory) (token : List ℕ) (loaded : Texts) (fuel : ℕ) (recorded : List EventRecord) →
+      IsShort (state_after d token loaded fuel recorded) →
       RowsAreCharged d (state_after d token loaded fuel recorded)
   charged due metered named d token loaded fuel recorded short =
       let w : RunState = state_after d token loaded fuel recorded in
@@ -116,7 +119,8 @@ module _ (back : LegsGoBack) (room_replies : ConferencesReplyInTheirOwn) (steps 
     timed = all_timed d token begins fuel (timed_events d recorded) (initial_state loaded);
   }
 
-  module _ (own_law : CallOutputsAreOfTheTrace) (call_replies : CallsReplyInTheirOwn) (nobodys : OtherOperationsOutputNothing) (goes : CallsContinue) (charging : ChargingIsExact) (notifies_law : NotifiesItsDiversions) (silent : NotifiesNothingLater) (ends : EndsWithoutNotification)
+  module _ (own_law : CallOutputsAreOfTheTrace) (call_replies : CallsReplyInTheirOwn) (nobodys : OtherOperationsOutputNothing) (goes : CallsContinue) (charging : ChargingIsExact)
+      (notifies_law : NotifiesItsDiversions) (silent : NotifiesNothingLater) (ends : EndsWithoutNotification)
       (bound_law : StaysWithinBound) (forwards : DiversionsHaveForwards) (texts : TextsAreThoseKept) (last : LastIsInForce) (views : CallsSeeWhatIsInForce) (begins : BeginsChangeNothing) where
     comes : (d : Directory) (token : List ℕ) (loaded : Texts) (fuel : ℕ) (recorded : List EventRecord) → IsShort (state_after d token loaded fuel recorded) →
         (number : ℕ) (trace : CallTraceWithTransfers) → trace_of (call_config d) number (state_after d token loaded fuel recorded).call_ops ≡ Some trace → CallReachesOutcome d token loaded fuel recorded number trace
@@ -178,5 +182,6 @@ module _ (back : LegsGoBack) (room_replies : ConferencesReplyInTheirOwn) (steps 
 
 -- ---- what is sent
 
-pub sends_no_injection : OperationsSendNoInjection → ReleasedLegsHaveNoInjection → EmitsHaveNoInjection → CallsSeeWhatIsInForce → ReadingHasNoInjection → ((m : Message Start) → MessageHasNoInjection m → HasOwnFields m) → RunsSendNoInjection
+pub sends_no_injection : OperationsSendNoInjection → ReleasedLegsHaveNoInjection → EmitsHaveNoInjection → CallsSeeWhatIsInForce → ReadingHasNoInjection →
+    ((m : Message Start) → MessageHasNoInjection m → HasOwnFields m) → RunsSendNoInjection
 sends_no_injection sends legs seats views read own d token loaded recorded home clean_token short fuel enough = all_own d recorded own sends legs seats views read token home clean_token loaded fuel

@@ -6,9 +6,11 @@ use Rattle.mmtel_compose.specs.ReceivedMessages.{MessageView, status_of}
 use Rattle.mmtel_b2bua.specs.Entries.{busy_beside, has_received_key, has_sent_branch, is_numbered, kept_entry}
 use Rattle.mmtel_b2bua.specs.Operations as histories
 use Rattle.mmtel_b2bua.specs.Operations.{Drops, Finishes, Receives, Releases, Restores, TableOp, step_on_finish, step_on_receive_after, table_after}
-use Rattle.mmtel_b2bua.specs.Detaching.{entries_after_release, entries_after_restore, entry_after_release, entry_after_restore, finish_step, place_of, released_at, released_leg_of, released_where, restored_at, restored_where, step_of_finish, step_of_finish_at, step_of_finish_in}
+use Rattle.mmtel_b2bua.specs.Detaching.{entries_after_release, entries_after_restore, entry_after_release, entry_after_restore, finish_step, place_of, released_at}
+use Rattle.mmtel_b2bua.specs.Detaching.{released_leg_of, released_where, restored_at, restored_where, step_of_finish, step_of_finish_at, step_of_finish_in}
 use Rattle.mmtel_b2bua.specs.Queries.{party}
-use Rattle.mmtel_b2bua.specs.Tables.{TableStep, busy_with, call_step, entry_for, invites_by, opening_step, put_at, snapshot_at, step_in, step_of_arrival as opened_in, step_of_entry_at, step_of_receiver as received_in, step_of_signal}
+use Rattle.mmtel_b2bua.specs.Tables.{TableStep, busy_with, call_step, entry_for, invites_by, opening_step, put_at, snapshot_at, step_in}
+use Rattle.mmtel_b2bua.specs.Tables.{step_of_arrival as opened_in, step_of_entry_at, step_of_receiver as received_in, step_of_signal}
 use Rattle.mmtel_b2bua.specs.declared.entries.Entry.{Entry}
 use Rattle.mmtel_b2bua.specs.declared.entries.InviteKey.{InviteKey}
 use Rattle.mmtel_b2bua.specs.declared.signals.Signal.{Signal}
@@ -73,11 +75,18 @@ use Rattle.mmtel_run_definitions.specs.Deadlines.{Deadline, OfCall, OfParticipan
 use Rattle.mmtel_run_definitions.specs.Events.{WebRequested, ParsedEvent, Received, TimedEvent, Nothing, Refused, message_in}
 use Rattle.mmtel_run_definitions.specs.Records.{until_of}
 use Rattle.mmtel_run_definitions.specs.Refusals.{Disposition, Enter, EnterConference, EnterSubscription, JoinConference, OpenCall, OpenConference, Register, Respond, Subscribe, disposition}
-use Rattle.mmtel_run_definitions.specs.Ownership.{DialogOwner, InSubscription, InCall, InConference, OfSubscriptions, OfCalls, OfConferences, Owner, account_of_side, owner_of_key, owner_of_branch, is_of_peer, leg_by, replacement_in, conference_config, replaced_side, status_of_fault}
+use Rattle.mmtel_run_definitions.specs.Ownership.{DialogOwner, InSubscription, InCall, InConference, OfSubscriptions, OfCalls, OfConferences, Owner, account_of_side}
+use Rattle.mmtel_run_definitions.specs.Ownership.{owner_of_key, owner_of_branch, is_of_peer, leg_by, replacement_in, conference_config, replaced_side, status_of_fault}
 use Rattle.mmtel_run_definitions.specs.Run.{after_deadline_if, after_due_deadlines, after_event_in_order, after_events, after_one_deadline, clock_at, first_due_deadline}
 use Rattle.mmtel_run_definitions.specs.ShortRuns.{tokens_of_op}
 use Rattle.mmtel_run_definitions.specs.Subscriptions.{after_mailbox_upload, after_notify_response, grant_response, notify_emits, other_response, refusal_response, with_mailbox_op}
-use Rattle.mmtel_run_definitions.specs.Transitions.{RunState, adoption_op, after_ack_by, after_adoption_if, after_call_end, after_call_signal, after_cancel, after_cancel_of, after_classified_message, after_conference_invite, after_conference_op, after_conference_signal, after_deadline, after_detach, after_disposition, after_due, after_factory_invite, after_handover, after_join_if, after_message, after_newcomer_refusal, after_opening_if, after_parsed_event, after_participant_request, after_refer_notify, after_replaces, after_replacing, after_replacing_named, after_replacing_side, after_request_timeout, after_response_to, after_service_timer, after_transaction_end, after_web_reply, after_web_request, calls_in, conference_signal_op, conferences_in, dialog_owner_in, initial_state, join_op, next_tag, output_of_conference_op, received_now, subscriptions_in, tokens_now, with_call_op, with_call_output, with_conference_output, with_draws, with_emit, with_emits, with_next_step, with_received_action, with_registration, with_response, with_retransmission, with_timer}
+use Rattle.mmtel_run_definitions.specs.Transitions.{RunState, adoption_op, after_ack_by, after_adoption_if, after_call_end, after_call_signal, after_cancel, after_cancel_of, after_classified_message}
+use Rattle.mmtel_run_definitions.specs.Transitions.{after_conference_invite, after_conference_op, after_conference_signal, after_deadline, after_detach, after_disposition, after_due, after_factory_invite}
+use Rattle.mmtel_run_definitions.specs.Transitions.{after_handover, after_join_if, after_message, after_newcomer_refusal, after_opening_if, after_parsed_event, after_participant_request, after_refer_notify}
+use Rattle.mmtel_run_definitions.specs.Transitions.{after_replaces, after_replacing, after_replacing_named, after_replacing_side, after_request_timeout, after_response_to, after_service_timer}
+use Rattle.mmtel_run_definitions.specs.Transitions.{after_transaction_end, after_web_reply, after_web_request, calls_in, conference_signal_op, conferences_in, dialog_owner_in, initial_state, join_op}
+use Rattle.mmtel_run_definitions.specs.Transitions.{next_tag, output_of_conference_op, received_now, subscriptions_in, tokens_now, with_call_op, with_call_output, with_conference_output, with_draws}
+use Rattle.mmtel_run_definitions.specs.Transitions.{with_emit, with_emits, with_next_step, with_received_action, with_registration, with_response, with_retransmission, with_timer}
 use Rattle.mmtel_run_definitions.proofs.MailboxSteps as mailing
 use Rattle.mmtel_run_definitions.proofs.MailboxSteps.{AreResponses, AreSteps, tells_in}
 use Rattle.mmtel_run_theorems.specs.EquivalentStates.{AllEarly, IsEarly}
@@ -146,7 +155,8 @@ module _ (steps : StepsSendOnce) (openings : OpeningsSendOnce) (config : CallCon
   }
 
   more : (asks : SentRequests) (es : List Entry) → Each (Sent before) es → Each (Sent (before ++ asks)) es
-  more asks es had = each_same (Sent before) (Sent (before ++ asks)) (λ e is. call_more (RequestWasSent config.sip before) (RequestWasSent config.sip (before ++ asks)) (sent_before config.sip before asks) e.call is) es had
+  more asks es had = each_same (Sent before) (Sent (before ++ asks))
+      (λ e is. call_more (RequestWasSent config.sip before) (RequestWasSent config.sip (before ++ asks)) (sent_before config.sip before asks) e.call is) es had
 
   put_if : (P : Entry → Type 0) (b : Bool) (at : ℕ) (es : List Entry) → Each P es → Each P (cond b (remove es at) es)
   put_if P true at es had = each_removed P es at had
@@ -340,7 +350,8 @@ module _ (d : Directory) (token : List ℕ) where
   }
 
   -- what was requested before, and what is requested now
-  sent_now : (asks : SentRequests) (out : List Emit) (method branch : List ℕ) (peer : Peer) → RequestWasSent d.sip (asks ++ requests_in out) method branch peer → RequestWasSent d.sip (asks_after out asks) method branch peer
+  sent_now : (asks : SentRequests) (out : List Emit) (method branch : List ℕ) (peer : Peer) → RequestWasSent d.sip (asks ++ requests_in out) method branch peer →
+      RequestWasSent d.sip (asks_after out asks) method branch peer
   sent_now asks out method branch peer was = sent_after d.sip method branch peer out asks (sent_parted d.sip method branch peer asks (requests_in out) was)
 
   module _ (once : Once) where
@@ -368,7 +379,8 @@ module _ (d : Directory) (token : List ℕ) where
             (λ e is. call_more (RequestWasSent d.sip (asks ++ requests_in output.out)) (RequestWasSent d.sip (asks_after output.out asks)) (sent_now asks output.out) e.call is)
             (table_after (call_config d) (op ∷ w.call_ops)).entries (well had).calls_in;
         conferences_sent = table_more (SomeInviteWasSent d.sip asks) (SomeInviteWasSent d.sip (asks_after output.out asks))
-            (λ branch peer was. sent_now asks output.out (codes "INVITE") branch peer (sent_before d.sip asks (requests_in output.out) (codes "INVITE") branch peer was)) (rooms.table_after (conference_config d) w.conference_ops) had.conferences_sent;
+            (λ branch peer was. sent_now asks output.out (codes "INVITE") branch peer (sent_before d.sip asks (requests_in output.out) (codes "INVITE") branch peer was))
+            (rooms.table_after (conference_config d) w.conference_ops) had.conferences_sent;
         numbered = λ less.
             let are = (well had).out_in less in
             let on : w.drawn ≤ output.tokens.drawn = numbers_on d.sip token w.drawn output.tokens.drawn output.out are in
@@ -377,7 +389,8 @@ module _ (d : Directory) (token : List ℕ) where
 
       holds_by : Holds w → Holds (with_call_output at op output w)
       holds_by had =
-          same_sent (asks_after output.out asks) (asks_of (with_emits at output.out mid).actions) output.tokens.drawn (with_emits at output.out mid).drawn (Drops (length output.rows) ∷ op ∷ w.call_ops) (with_emits at output.out mid).call_ops w.conference_ops (with_emits at output.out mid).conference_ops
+          same_sent (asks_after output.out asks) (asks_of (with_emits at output.out mid).actions) output.tokens.drawn (with_emits at output.out mid).drawn
+          (Drops (length output.rows) ∷ op ∷ w.call_ops) (with_emits at output.out mid).call_ops w.conference_ops (with_emits at output.out mid).conference_ops
           (sym (with_emits_asks at output.out mid)) (sym (with_emits_drawn at output.out mid)) (sym (with_emits_ops at output.out mid)) (sym (with_emits_rooms at output.out mid)) (now had)
 
       bringing_goes : Goes w (with_call_output at op output w)
@@ -422,7 +435,8 @@ module _ (d : Directory) (token : List ℕ) where
       room_mid = record w { drawn = conference_output.tokens.drawn; conference_ops = rooms.Drops (length conference_output.rows) ∷ op ∷ w.conference_ops; waiting = w.waiting ++ conference_output.rows }
 
       sends : Holds w → OpSendsOnce d.sip room_asks (tokens_now token w) conference_output (rooms.table_after (conference_config d) (op ∷ w.conference_ops))
-      sends had = subst (λ (t : TokensView). OpSendsOnce d.sip room_asks t conference_output (rooms.table_after (conference_config d) (op ∷ w.conference_ops))) text (once.conferences (conference_config d) w.conference_ops op room_asks had.conferences_sent)
+      sends had = subst (λ (t : TokensView). OpSendsOnce d.sip room_asks t conference_output (rooms.table_after (conference_config d) (op ∷ w.conference_ops))) text
+          (once.conferences (conference_config d) w.conference_ops op room_asks had.conferences_sent)
 
       room_early : Holds w → IsEarly (after_conference_op d at op w) → IsEarly w
       room_early had less =
@@ -437,7 +451,8 @@ module _ (d : Directory) (token : List ℕ) where
             (λ method branch peer was. sent_now room_asks conference_output.out method branch peer (sent_before d.sip room_asks (requests_in conference_output.out) method branch peer was)) e.call is)
             (calls_in d w).entries had.calls_sent;
         conferences_sent =
-            let all = table_more (SomeInviteWasSent d.sip (room_asks ++ requests_in conference_output.out)) (SomeInviteWasSent d.sip (asks_after conference_output.out room_asks)) (sent_now room_asks conference_output.out (codes "INVITE"))
+            let all = table_more (SomeInviteWasSent d.sip (room_asks ++ requests_in conference_output.out)) (SomeInviteWasSent d.sip (asks_after conference_output.out room_asks))
+            (sent_now room_asks conference_output.out (codes "INVITE"))
             (rooms.table_after (conference_config d) (op ∷ w.conference_ops)) (sends had).conferences_in in
             record { live_in = all.live_in; abandoned_in = all.abandoned_in };
         numbered = λ less.
@@ -448,9 +463,11 @@ module _ (d : Directory) (token : List ℕ) where
 
       room_holds : Holds w → Holds (after_conference_op d at op w)
       room_holds had =
-          same_sent (asks_after conference_output.out room_asks) (asks_of (with_emits at conference_output.out room_mid).actions) conference_output.tokens.drawn (with_emits at conference_output.out room_mid).drawn w.call_ops (with_emits at conference_output.out room_mid).call_ops
+          same_sent (asks_after conference_output.out room_asks) (asks_of (with_emits at conference_output.out room_mid).actions) conference_output.tokens.drawn
+          (with_emits at conference_output.out room_mid).drawn w.call_ops (with_emits at conference_output.out room_mid).call_ops
           (rooms.Drops (length conference_output.rows) ∷ op ∷ w.conference_ops) (with_emits at conference_output.out room_mid).conference_ops
-          (sym (with_emits_asks at conference_output.out room_mid)) (sym (with_emits_drawn at conference_output.out room_mid)) (sym (with_emits_ops at conference_output.out room_mid)) (sym (with_emits_rooms at conference_output.out room_mid)) (room_now had)
+          (sym (with_emits_asks at conference_output.out room_mid)) (sym (with_emits_drawn at conference_output.out room_mid)) (sym (with_emits_ops at conference_output.out room_mid))
+          (sym (with_emits_rooms at conference_output.out room_mid)) (room_now had)
 
       housed_goes : Goes w (after_conference_op d at op w)
       housed_goes = record { early = room_early; holds = room_holds }
@@ -594,7 +611,8 @@ module _ (d : Directory) (token : List ℕ) where
     fired_goes now OfTransaction w =
         let o : Option DueEntryView = next_due now (live (with_next_step w).actions) in
         let v : RunState = record (with_next_step w) { actions = after_firing (with_next_step w).actions o } in
-        then_goes w (with_next_step w) (after_due d token (due_result o) v) (begun_goes w) (then_goes (with_next_step w) v (after_due d token (due_result o) v) (fires_goes o (with_next_step w)) (rung_goes (due_result o) v))
+        then_goes w (with_next_step w) (after_due d token (due_result o) v) (begun_goes w)
+        (then_goes (with_next_step w) v (after_due d token (due_result o) v) (fires_goes o (with_next_step w)) (rung_goes (due_result o) v))
     fired_goes now (OfServiceTimer armed others) w =
         let v : RunState = record (with_next_step w) { pending_timers = others } in
         then_goes w (with_next_step w) (after_service_timer d token armed.at armed.timer v) (begun_goes w)
@@ -606,7 +624,8 @@ module _ (d : Directory) (token : List ℕ) where
 
     pub settled_goes : (fuel now : ℕ) (w : RunState) → Goes w (after_due_deadlines d token fuel now w)
     settled_goes zero now w = same w
-    settled_goes (suc fuel) now w = then_goes w (after_one_deadline d token now w) (after_due_deadlines d token fuel now (after_one_deadline d token now w)) (if_fired_goes now (first_due_deadline now w) w) (settled_goes fuel now (after_one_deadline d token now w))
+    settled_goes (suc fuel) now w = then_goes w (after_one_deadline d token now w) (after_due_deadlines d token fuel now (after_one_deadline d token now w))
+        (if_fired_goes now (first_due_deadline now w) w) (settled_goes fuel now (after_one_deadline d token now w))
 
     -- ---- a REFER with Replaces
 
@@ -668,7 +687,8 @@ module _ (d : Directory) (token : List ℕ) where
       entering_room_goes key room seat w =
           let x : RoomSignal = of_room.Request room seat key s in
           let v : RunState = after_conference_signal d token at x w in
-          then_goes w v (after_participant_request d token at key s room seat w) (seated_goes at x w) (replacing_goes at room seat s.peer (replacement_in s.parsed (output_of_conference_op d (conference_signal_op token at x w) w).out) v)
+          then_goes w v (after_participant_request d token at key s room seat w) (seated_goes at x w)
+          (replacing_goes at room seat s.peer (replacement_in s.parsed (output_of_conference_op d (conference_signal_op token at x w) w).out) v)
 
       -- ---- messages
 
@@ -738,7 +758,8 @@ module _ (d : Directory) (token : List ℕ) where
     pub coming_goes : (fuel : ℕ) (x : TimedEvent) (w : RunState) → Goes w (coming_in d token fuel x w)
     coming_goes fuel x w =
         let v : RunState = after_due_deadlines d token fuel (clock_at w x.at) w in
-        then_goes w v (coming_in d token fuel x w) (settled_goes fuel (clock_at w x.at) w) (then_goes v (with_next_step v) (coming_in d token fuel x w) (begun_goes v) (drew_more (with_next_step v) (coming_in d token fuel x w) 0 refl (omega arith) refl refl))
+        then_goes w v (coming_in d token fuel x w) (settled_goes fuel (clock_at w x.at) w)
+        (then_goes v (with_next_step v) (coming_in d token fuel x w) (begun_goes v) (drew_more (with_next_step v) (coming_in d token fuel x w) 0 refl (omega arith) refl refl))
 
     pub comes_goes : (fuel : ℕ) (x : TimedEvent) (w : RunState) → Goes (coming_in d token fuel x w) (after_event_in_order d token fuel x w)
     comes_goes fuel x w =
@@ -751,7 +772,8 @@ module _ (d : Directory) (token : List ℕ) where
 
     pub after_goes : (fuel : ℕ) (xs : List TimedEvent) (w : RunState) → Goes w (after_events d token fuel xs w)
     after_goes fuel [] w = same w
-    after_goes fuel (x ∷ xs) w = then_goes w (after_event_in_order d token fuel x w) (after_events d token fuel xs (after_event_in_order d token fuel x w)) (one_goes fuel x w) (after_goes fuel xs (after_event_in_order d token fuel x w))
+    after_goes fuel (x ∷ xs) w = then_goes w (after_event_in_order d token fuel x w) (after_events d token fuel xs (after_event_in_order d token fuel x w)) (one_goes fuel x w)
+        (after_goes fuel xs (after_event_in_order d token fuel x w))
 
     -- where so few numbers were drawn in the end, so few were drawn whenever an event came
     pub early_in : (fuel : ℕ) (xs : List TimedEvent) (w : RunState) → Holds w → IsEarly (after_events d token fuel xs w) → AllEarly d token fuel xs w

@@ -13,9 +13,11 @@ use Rattle.mmtel_lex.specs.declared.values.Uri.{Uri}
 use Rattle.mmtel_sheet_grammar.specs.ReadResults.{Read, or_wrong, then_read}
 use Rattle.mmtel_sheet_grammar.specs.Elements.{is_target, target_at, target_or_wrong, text_at, time_at, tokens_at, truth_at, uri_read, uris_at, domain_at, number_at, clock_at, days_at, offset_at}
 use Rattle.mmtel_sheet_grammar.specs.Keys.{dotted_path, rule_key_of, rule_path}
-use Rattle.mmtel_sheet_grammar.specs.Rules.{action_of, allow_read, are_tables, event_read, forward_read, has_key, items_count, key_read, keys_of_rule, listed_key, listed_key_read, members_from, empty_draft, rule_from, rule_key_read, rule_of, rules_at, rules_from, rules_of, rules_within, until_read, day_until_read, days_read, offset_read, with_event}
+use Rattle.mmtel_sheet_grammar.specs.Rules.{action_of, allow_read, are_tables, event_read, forward_read, has_key, items_count, key_read, keys_of_rule, listed_key, listed_key_read, members_from}
+use Rattle.mmtel_sheet_grammar.specs.Rules.{empty_draft, rule_from, rule_key_read, rule_of, rules_at, rules_from, rules_of, rules_within, until_read, day_until_read, days_read, offset_read, with_event}
 use Rattle.mmtel_sheet_grammar.specs.Texts.{document_read, sheet_or_empty, sheet_read, stored_sheet}
-use Rattle.mmtel_sheet_grammar.specs.Walk.{schema, is_bound, version_at, version_of, name_read, bar_of, diversion_key, diversion_of, diversion_part, named_read, no_diversion_keys, presentation_of, restriction_of, sheet_from, table_key_of, table_read, waiting_of}
+use Rattle.mmtel_sheet_grammar.specs.Walk.{schema, is_bound, version_at, version_of, name_read, bar_of, diversion_key, diversion_of, diversion_part}
+use Rattle.mmtel_sheet_grammar.specs.Walk.{named_read, no_diversion_keys, presentation_of, restriction_of, sheet_from, table_key_of, table_read, waiting_of}
 use Rattle.mmtel_sheet_grammar.specs.declared.drafts.DiversionDraft.{DiversionDraft}
 use Rattle.mmtel_sheet_grammar.specs.declared.drafts.Hours.{Hours}
 use Rattle.mmtel_sheet_grammar.specs.declared.drafts.Notifications.{Notifications}
@@ -147,7 +149,8 @@ rule_ok : (s : Schema) (path : List ℕ) (ms : Members) → IfOk (rule_of s path
 rule_ok s path ms =
     then_ok DraftHasNoInjection RuleHasNoInjection (keys_of_rule s path ms) _
     (members_ok DraftHasNoInjection path (λ at d k v. rule_key_read s ms at d k v) (λ at r k d h. listed_key_ok ms at r (listed_key s (rule_key_of k)) d h) empty_draft ms tt)
-    (λ r h. then_ok ActionHasNoInjection RuleHasNoInjection (action_of s.service path r.target r.notifications r.allow) (λ a. Ok (rule_from r a)) (action_ok s.service path r.target r.notifications r.allow h) (λ a clean. clean))
+    (λ r h. then_ok ActionHasNoInjection RuleHasNoInjection (action_of s.service path r.target r.notifications r.allow) (λ a. Ok (rule_from r a))
+    (action_ok s.service path r.target r.notifications r.allow h) (λ a clean. clean))
 
 abbrev AllRulesHaveNoInjection : List Rule → Type 0
 AllRulesHaveNoInjection rules = list_all rule_has_no_injection rules ≡ true

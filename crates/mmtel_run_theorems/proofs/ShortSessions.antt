@@ -22,8 +22,10 @@ use Rattle.mmtel_b2bua.specs.declared.entries.Entry.{Entry}
 use Rattle.mmtel_focus.specs.Conferences.{Conference}
 use Rattle.mmtel_run_definitions.specs.OwnResponses.{StatusResponse, bad_extension, interval_too_small, plain_response, response_with_allow, unsupported_options}
 use Rattle.mmtel_run_definitions.specs.Calls.{are_full}
-use Rattle.mmtel_run_definitions.specs.Refusals.{Disposition, Enter, EnterConference, EnterSubscription, JoinConference, OpenCall, OpenConference, Register, Respond, Subscribe, disposition, disposition_by, disposition_by_method, disposition_in, entry_into, first_that_applies, in_dialog_disposition, invite_disposition}
-use Rattle.mmtel_run_definitions.specs.Refusals.{call_opening, invite_disposition_at, is_conference, is_factory, is_foreign, is_known_method, is_last_hop, is_of_no_subscription, is_register, is_short_session, is_subscribe, is_timed, is_unreadable_session}
+use Rattle.mmtel_run_definitions.specs.Refusals.{Disposition, Enter, EnterConference, EnterSubscription, JoinConference, OpenCall, OpenConference, Register, Respond, Subscribe, disposition}
+use Rattle.mmtel_run_definitions.specs.Refusals.{disposition_by, disposition_by_method, disposition_in, entry_into, first_that_applies, in_dialog_disposition, invite_disposition}
+use Rattle.mmtel_run_definitions.specs.Refusals.{call_opening, invite_disposition_at, is_conference, is_factory, is_foreign, is_known_method, is_last_hop}
+use Rattle.mmtel_run_definitions.specs.Refusals.{is_of_no_subscription, is_register, is_short_session, is_subscribe, is_timed, is_unreadable_session}
 use Rattle.mmtel_run_definitions.specs.Refusals.{audio_or_refusal, conference_number, registration_disposition, registration_disposition_of, to_account}
 use Rattle.mmtel_run_definitions.specs.Ownership.{DialogOwner, InCall, InConference, InSubscription, dialog_owner_of}
 use Rattle.mmtel_run_definitions.specs.Transitions.{RunState, after_disposition, after_new_request, calls_in, conferences_in, subscriptions_in, with_response}
@@ -203,7 +205,8 @@ module _ (directory : Directory) (merged full : Bool) (named : Option DialogOwne
       }))))))))
       is
 
-alone : (directory : Directory) (merged full : Bool) (named : Option DialogOwner) (message : ParsedMessage) (answer : StatusResponse) → disposition directory merged full named message ≡ Respond answer → answer.code ≡ 422 →
+alone : (directory : Directory) (merged full : Bool) (named : Option DialogOwner) (message : ParsedMessage) (answer : StatusResponse) →
+    disposition directory merged full named message ≡ Respond answer → answer.code ≡ 422 →
     RequestsShortSession directory message × IsElseAccepted directory merged (is_some named) message × (answer ≡ interval_too_small)
 alone directory merged full named message answer is so = alone_at directory merged full named message answer so is
 

@@ -136,7 +136,8 @@ module _ (texts_law : TextsAreThoseKept) (last_law : LastIsInForce) (in_force_la
     pub events : AllStoodThen number trace.start trace.events
 
   -- the call of this number opens by it
-  opens-so : (number : ℕ) (x : ReceivedSignal) (older : List TableOp) (a : Arrival) (came : CallTraceWithTransfers) → came ≡ record { start = start_by (call_config d) x (table_after (call_config d) older).entries a; events = [] } →
+  opens-so : (number : ℕ) (x : ReceivedSignal) (older : List TableOp) (a : Arrival) (came : CallTraceWithTransfers) →
+      came ≡ record { start = start_by (call_config d) x (table_after (call_config d) older).entries a; events = [] } →
       (a.number.0 ≡ number) → SeesRecordsInForce d token loaded fuel whole x older → ComesBy number (Receives x) older came →
       StoodSo number came a.served.origin (start_by (call_config d) x (table_after (call_config d) older).entries a).now
   opens-so number x older a came is same t by =
@@ -170,7 +171,8 @@ module _ (texts_law : TextsAreThoseKept) (last_law : LastIsInForce) (in_force_la
       })
 
   -- what is no signal, or is of no call
-  not_received : (number : ℕ) (came : Option CallEvent) (was : Option CallTraceWithTransfers) (trace : CallTraceWithTransfers) → ((s : TraceStart) (older : List CallEvent) → IfSome came (λ x. StoodThen number s x older)) → Before number was →
+  not_received : (number : ℕ) (came : Option CallEvent) (was : Option CallTraceWithTransfers) (trace : CallTraceWithTransfers) →
+      ((s : TraceStart) (older : List CallEvent) → IfSome came (λ x. StoodThen number s x older)) → Before number was →
       continued_trace None came was ≡ Some trace → TraceStood number trace
   not_received number came None trace t before h = absurd (none-some trace h)
   not_received number None (Some earlier) trace t before h = subst (TraceStood number) (same_Some earlier trace h) (before earlier refl)
@@ -178,10 +180,12 @@ module _ (texts_law : TextsAreThoseKept) (last_law : LastIsInForce) (in_force_la
       let was = before earlier refl in
       subst (TraceStood number) (same_Some (record earlier { events = x ∷ earlier.events }) trace h) (record { opened = was.opened; events = (t earlier.start earlier.events, was.events) })
 
-  op-goes : (number : ℕ) (op : TableOp) (older : List TableOp) (was : Option CallTraceWithTransfers) (trace : CallTraceWithTransfers) → OpSeesInForce d token loaded fuel whole op older → Before number was → ComesBy number op older trace →
+  op-goes : (number : ℕ) (op : TableOp) (older : List TableOp) (was : Option CallTraceWithTransfers) (trace : CallTraceWithTransfers) → OpSeesInForce d token loaded fuel whole op older →
+      Before number was → ComesBy number op older trace →
       continued_trace (opening_by (call_config d) op (table_after (call_config d) older)) (event_by op number (table_after (call_config d) older).entries) was ≡ Some trace → TraceStood number trace
   op-goes number (Receives x) older was trace t before by h =
-      goes number x older t (arrival_of (next_number (table_after (call_config d) older).opened) x.signal) (signal_of_call x.signal) was (entry_by (Receives x) (table_after (call_config d) older).entries) trace before by.mine by h
+      goes number x older t (arrival_of (next_number (table_after (call_config d) older).opened) x.signal) (signal_of_call x.signal) was
+      (entry_by (Receives x) (table_after (call_config d) older).entries) trace before by.mine by h
   op-goes number (Releases call side) older was trace t before by h = not_received number (Some (transfers.Releases side)) was trace (λ s older. tt) before h
   op-goes number (Restores call away) older was trace t before by h = not_received number (Some (transfers.Restores away)) was trace (λ s older. tt) before h
   op-goes number (Finishes call at tokens) older was trace t before by h = not_received number (Some (transfers.Finishes at (empty_output tokens))) was trace (λ s older. tt) before h
@@ -216,7 +220,8 @@ module _ (texts_law : TextsAreThoseKept) (last_law : LastIsInForce) (in_force_la
     received-so x newer older is t = record { received = x; earlier = older; later = newer; in_order = is; so = refl; snapshot = t }
 
     -- a diversion that was made by then
-    by-step : (k : ℕ) (x : CallEvent) (newer older : List CallEvent) → events ≡ newer ++ x ∷ older → StoodThen number s x older → nat_lt k (diversions_made_by s older) ≡ false → nat_lt k (diversions_made_by s (x ∷ older)) ≡ true →
+    by-step : (k : ℕ) (x : CallEvent) (newer older : List CallEvent) → events ≡ newer ++ x ∷ older → StoodThen number s x older → nat_lt k (diversions_made_by s older) ≡ false →
+        nat_lt k (diversions_made_by s (x ∷ older)) ≡ true →
         Reached k (snapshot_by x (snapshot_at_diversion s older k))
     by-step k (transfers.Receives x) newer older is t before after = Later (received-so x newer older is t) before after
     by-step k (transfers.Releases side) newer older is t before after = made-none k _ _ (released-made s side older) before after

@@ -3,7 +3,8 @@ use Rattle.std.proofs.Common.{◌≡◌, ◌≤◌, ◌<◌, ◌^◌, Bool, true
 use Rattle.std.specs.Prelude.{IfOk, IfSome}
 use Rattle.std.specs.List.{flat_map, list_all}
 use Rattle.std.proofs.lemmas.Bool.Decides.{nat_tests}
-use Rattle.mmtel_directory.specs.Directory.{account_words, addr_of, directory_by, directory_from, directory_of, extension_of, first_of, first_value, home_in, identities_of, ip_of, is_country, is_host, is_store_name, kind_and_rest, line_of, line_of_kind, line_of_words, may_follow, next_config_line, peer_of, readable, route_words, sip_in, trust_of}
+use Rattle.mmtel_directory.specs.Directory.{account_words, addr_of, directory_by, directory_from, directory_of, extension_of, first_of, first_value, home_in, identities_of, ip_of, is_country, is_host}
+use Rattle.mmtel_directory.specs.Directory.{is_store_name, kind_and_rest, line_of, line_of_kind, line_of_words, may_follow, next_config_line, peer_of, readable, route_words, sip_in, trust_of}
 use Rattle.mmtel_directory.specs.Lines.{and_then, is_comment, lines_by, lines_of, number_from}
 use Rattle.mmtel_directory.specs.declared.config_lines.Line.{Line}
 use Rattle.mmtel_directory.specs.declared.config_lines.Line.TheVariants as line
@@ -112,7 +113,8 @@ fine_kind : (k : LineKind) (s : List ℕ) → IfSome (line_of_kind k s) IsFineLi
 fine_kind kind.Sip s = of_known IsFineLine IsFine (addr_of s) _ (addr_fine s) (λ addr is. is)
 fine_kind kind.Web s = of_each IsFineLine (addr_of s) _ (λ addr. tt)
 fine_kind kind.Home s = of_either IsFineLine (is_host s) _ _ tt tt
-fine_kind kind.Peer s = of_each IsFineLine (split_once_at 32 s) _ (λ n. of_each IsFineLine (split_once_at 32 n.1) _ (λ a. of_each IsFineLine (peer_of n.0) _ (λ peer. of_each IsFineLine (addr_of a.0) _ (λ addr. of_each IsFineLine (trust_of a.1) _ (λ trusted. tt)))))
+fine_kind kind.Peer s = of_each IsFineLine (split_once_at 32 s) _
+    (λ n. of_each IsFineLine (split_once_at 32 n.1) _ (λ a. of_each IsFineLine (peer_of n.0) _ (λ peer. of_each IsFineLine (addr_of a.0) _ (λ addr. of_each IsFineLine (trust_of a.1) _ (λ trusted. tt)))))
 fine_kind kind.Route s = of_each IsFineLine (route_words s) _ (λ words. tt)
 fine_kind kind.Account s = of_each IsFineLine (account_words s) _ (λ words. of_each IsFineLine (identities_of words.1) _ (λ uris. tt))
 fine_kind kind.Operator s = of_each IsFineLine (readable (uri_of s)) _ (λ uri. tt)

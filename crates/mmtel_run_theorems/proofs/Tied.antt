@@ -22,7 +22,8 @@ use Rattle.mmtel_call.specs.declared.calls.Phase.{Phase}
 use Rattle.mmtel_call.specs.declared.calls.Phase.TheVariants.{Detached, Established, Offered, Over}
 use Rattle.mmtel_call.specs.declared.calls.Stage.{Stage}
 use Rattle.mmtel_call.specs.declared.calls.Stage.TheVariants.{Answered, Departing, Reinviting, Stable}
-use Rattle.mmtel_call_theorems.specs.Branches.SentRequests.{AbandonedWasSent, AnsweredWasSent, CallWasSent, Each, PhaseWasSent, RelayedWasSent, RequestWasSent, SentInviteWasSent, SomeInviteWasSent, StageWasSent, method_of}
+use Rattle.mmtel_call_theorems.specs.Branches.SentRequests.{AbandonedWasSent, AnsweredWasSent, CallWasSent, Each, PhaseWasSent, RelayedWasSent}
+use Rattle.mmtel_call_theorems.specs.Branches.SentRequests.{RequestWasSent, SentInviteWasSent, SomeInviteWasSent, StageWasSent, method_of}
 use Rattle.mmtel_call_theorems.specs.Noninterference.Observations.{trust_of}
 use Rattle.mmtel_call_theorems.specs.Noninterference.StepTable.{SentIn}
 use Rattle.mmtel_output.specs.ResponseMatching.{is_awaited_method}
@@ -171,9 +172,11 @@ module _ (differ : TokensDiffer) (owners : OwnersAreLive)
             awaited = λ i now cur. invited i.dialogue.peer
                 (with_branch Was i.branch branch i.dialogue.peer (sym (ap (is_branch branch) cur) ∙ now) (current_invite_sent Was c.phase i sent.phase_in cur));
             abandoned = λ place l there at_it. invited l.invite.dialogue.peer
-                (with_branch Was l.invite.branch branch l.invite.dialogue.peer (passes (is_of_branch branch) c.abandoned place l there at_it) (each_at (AbandonedWasSent Was) c.abandoned place l sent.others_in.abandoned_in at_it));
+                (with_branch Was l.invite.branch branch l.invite.dialogue.peer (passes (is_of_branch branch) c.abandoned place l there at_it)
+                (each_at (AbandonedWasSent Was) c.abandoned place l sent.others_in.abandoned_in at_it));
             answered = λ place t there at_it. invited t.invite.dialogue.peer
-                (with_branch Was t.invite.branch branch t.invite.dialogue.peer (passes (is_answered_invite branch) c.answered_invites place t there at_it) (each_at (AnsweredWasSent Was) c.answered_invites place t sent.others_in.answered_in at_it));
+                (with_branch Was t.invite.branch branch t.invite.dialogue.peer (passes (is_answered_invite branch) c.answered_invites place t there at_it)
+                (each_at (AnsweredWasSent Was) c.answered_invites place t sent.others_in.answered_in at_it));
             relayed = λ place flight there at_it.
                 let asked : List ℕ → Peer → Type 0 = RequestWasSent d.sip (asks_of w.actions) (method_of flight.kind) in
                 let i : SentInvite = flight.exchange.invite in
@@ -198,7 +201,8 @@ module _ (differ : TokensDiffer) (owners : OwnersAreLive)
           let tied : (peer : Peer) → Was branch peer → HasSameTrust d w (record { 0 = key }) peer = λ peer too. tie key was.0 was.1 branch was.2 peer (went branch peer too) in
           record {
             abandoned = λ place l there at_it. tied l.invite.dialogue.peer
-                (with_branch Was l.invite.branch branch l.invite.dialogue.peer (passes (is_of_branch branch) table.abandoned place l there at_it) (each_at (AbandonedWasSent Was) table.abandoned place l had.conferences_sent.abandoned_in at_it));
+                (with_branch Was l.invite.branch branch l.invite.dialogue.peer (passes (is_of_branch branch) table.abandoned place l there at_it)
+                (each_at (AbandonedWasSent Was) table.abandoned place l had.conferences_sent.abandoned_in at_it));
             participant = λ at place room seat there at_it its of_it.
                 let sent : ParticipantWasSent Was seat = each_at (ParticipantWasSent Was) room.participants place seat (each_at (ConferenceWasSent Was) table.live at room had.conferences_sent.live_in at_it) of_it in
                 let both = tied_by key branch (dialogue_of seat).peer seat.invite tied (passes (participant_has_branch branch) room.participants place seat its of_it) sent in
@@ -208,10 +212,12 @@ module _ (differ : TokensDiffer) (owners : OwnersAreLive)
           tie : (key : ℕ) (q : Peer) → peer_of key (live w.actions) ≡ Some q → (branch : List ℕ) → Went branch q → (peer : Peer) → Went branch peer → HasSameTrust d w (record { 0 = key }) peer
           tie key q of_q branch was peer too = ap (option_map (trusts d)) of_q ∙ ap (λ (p : Peer). Some (trusts d p)) (one_peer branch q peer was too)
 
-          tied_by : (key : ℕ) (branch : List ℕ) (peer : Peer) (o : Option Invite) → ((q : Peer) → Was branch q → HasSameTrust d w (record { 0 = key }) q) → invite_has_branch branch o ≡ true → ParticipantInviteWasSent Was peer o →
+          tied_by : (key : ℕ) (branch : List ℕ) (peer : Peer) (o : Option Invite) → ((q : Peer) → Was branch q → HasSameTrust d w (record { 0 = key }) q) → invite_has_branch branch o ≡ true →
+              ParticipantInviteWasSent Was peer o →
               InviteIsTied d w (record { 0 = key }) o × HasSameTrust d w (record { 0 = key }) peer
           tied_by key branch peer None tied asks sent = absurd (true_false (sym asks))
-          tied_by key branch peer (Some (Outstanding number i)) tied asks sent = (tied i.dialogue.peer (with_branch Was i.branch branch i.dialogue.peer asks sent.0), tied peer (with_branch Was i.branch branch peer asks sent.1))
+          tied_by key branch peer (Some (Outstanding number i)) tied asks sent =
+              (tied i.dialogue.peer (with_branch Was i.branch branch i.dialogue.peer asks sent.0), tied peer (with_branch Was i.branch branch peer asks sent.1))
           tied_by key branch peer (Some (Accepted other tag ack)) tied asks sent = (tt, tied peer (with_branch Was other branch peer asks sent))
 
     -- an ACK

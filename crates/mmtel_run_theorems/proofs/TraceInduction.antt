@@ -36,7 +36,8 @@ module _ (config : CallConfigView) (number : ℕ) (P : TraceStart → List CallE
       go (is_number number (call_of config op (table_after config older))) refl is (λ trace. trace_holds older trace a.1)
     where
       go : (b : Bool) → is_number number (call_of config op (table_after config older)) ≡ b →
-          (if b then continued_trace (opening_by config op (table_after config older)) (event_by op number (table_after config older).entries) (trace_of config number older) else trace_of config number older) ≡ Some trace →
+          (if b then continued_trace (opening_by config op (table_after config older)) (event_by op number (table_after config older).entries) (trace_of config number older) else trace_of config number older)
+          ≡ Some trace →
           ((trace : CallTraceWithTransfers) → trace_of config number older ≡ Some trace → P trace.start trace.events) → P trace.start trace.events
       go true mine now before =
           let h : HoldsBy op older = a.0 mine in

@@ -13,9 +13,12 @@ use Rattle.mmtel_call_theorems.proofs.NoInjection.Sending.{each_append}
 use Rattle.mmtel_message.specs.Message.{Message}
 use Rattle.mmtel_message.specs.Texts.{message_text}
 use Rattle.mmtel_message.specs.declared.messages.Start.{Start}
-use Rattle.mmtel_transaction.specs.Results.{DueEntryView, by_key, due_one, retransmission_for, last_sent, is_client_of, is_of, is_server_of, is_before, next_due, ack_class, class_of, request_class, response_class, due_result, sooner, retransmitted_text, text_by, state_text, bind_entry, is_full}
-use Rattle.mmtel_transaction.specs.Operations.{TransactionOp, DidAck, DidAsk, DidBegin, DidFire, DidSettle, DidHear, DidReply, change, entry_of, change_on_receipt, opened_on_receipt, is_live, live, send_count, openings, opens, step_of}
-use Rattle.mmtel_transaction.specs.Changes.{after_ack_2xx, after_any_reply, after_failure_ack, after_final, after_provisional, after_reply, after_response, after_retransmission, after_settling, after_timer, after_timer_by, change_of_key, is_ack_of, reliable_response_of, with_kept_ack, with_reliable_if, without_rseq}
+use Rattle.mmtel_transaction.specs.Results.{DueEntryView, by_key, due_one, retransmission_for, last_sent, is_client_of, is_of, is_server_of, is_before, next_due, ack_class}
+use Rattle.mmtel_transaction.specs.Results.{class_of, request_class, response_class, due_result, sooner, retransmitted_text, text_by, state_text, bind_entry, is_full}
+use Rattle.mmtel_transaction.specs.Operations.{TransactionOp, DidAck, DidAsk, DidBegin, DidFire, DidSettle, DidHear, DidReply, change, entry_of}
+use Rattle.mmtel_transaction.specs.Operations.{change_on_receipt, opened_on_receipt, is_live, live, send_count, openings, opens, step_of}
+use Rattle.mmtel_transaction.specs.Changes.{after_ack_2xx, after_any_reply, after_failure_ack, after_final, after_provisional, after_reply, after_response, after_retransmission}
+use Rattle.mmtel_transaction.specs.Changes.{after_settling, after_timer, after_timer_by, change_of_key, is_ack_of, reliable_response_of, with_kept_ack, with_reliable_if, without_rseq}
 use Rattle.mmtel_transaction.specs.Deadlines.{at_place, deadline, foremost_from, foremost_in, is_ending, is_sooner, is_untimed, retransmission_at, retransmission_by, sooner_of, state_retransmission_at, timer_of}
 use Rattle.mmtel_transaction.specs.Heads.{head_of, is_ack, is_invite, is_provisional, is_refusal, reliable_number}
 use Rattle.mmtel_transaction.specs.declared.entries.TransactionTimer.{TransactionTimer}
@@ -327,8 +330,10 @@ answers-still c h (answer ∷ answers) k = (sent_still c h answer.text k.0, answ
 
 all-still : (c : TransactionOp) (h : List TransactionOp) (es : List Entry) → Each (Keeps (Kind h) (IsSentIn h)) es → Each (Keeps (Kind h) (IsSentIn (c ∷ h))) es
 all-still c h [] k = tt
-all-still c h (e ∷ es) k =
-    (record { kind = k.0.kind; request = λ s. sent_still c h e.request (k.0.request s); last = last-still c h e.last k.0.last; waits = k.0.waits; reliable = answers-still c h e.reliable k.0.reliable }, all-still c h es k.1)
+all-still c h (e ∷ es) k = (
+  record { kind = k.0.kind; request = λ s. sent_still c h e.request (k.0.request s); last = last-still c h e.last k.0.last; waits = k.0.waits; reliable = answers-still c h e.reliable k.0.reliable },
+  all-still c h es k.1,
+)
 
 -- ---- a response is received by a client transaction
 
@@ -547,7 +552,8 @@ module _ (K : ℕ → Bool → Type 0) (T : List ℕ → Type 0) where
       go false is = k.request is
 
   -- a reliable response, where one is retransmitted first
-  after_retransmission-by : (e : Entry) (first : Option (ℕ × TransactionTimer)) → foremost_in e ≡ first → Keeps K T e → is_some (option_or (option_map (λ (f : ℕ × TransactionTimer). f.1.at) first) (state_retransmission_at e)) ≡ true →
+  after_retransmission-by : (e : Entry) (first : Option (ℕ × TransactionTimer)) → foremost_in e ≡ first → Keeps K T e →
+      is_some (option_or (option_map (λ (f : ℕ × TransactionTimer). f.1.at) first) (state_retransmission_at e)) ≡ true →
       T (text_by (first >>= λ (f : ℕ × TransactionTimer). slice_get e.reliable f.0) e)
   after_retransmission-by e None is k s = planned-own e k s
   after_retransmission-by e (Some f) is k s =
@@ -568,7 +574,8 @@ due-by K T None k = tt
 due-by K T (Some n) k = go (is_some (retransmission_at n.entry)) refl (is_ending n.entry.state)
   where
     go : (b : Bool) → is_some (retransmission_at n.entry) ≡ b → (c : Bool) →
-        IsOwnDue T (if b then due.Again n.entry.peer n.at (retransmitted_text n.entry) else if c then due.Over (record { 0 = n.entry.key }) n.at else due.Silent (record { 0 = n.entry.key }) n.entry.head.branch n.entry.head.method n.at)
+        IsOwnDue T (if b then due.Again n.entry.peer n.at (retransmitted_text n.entry) else if c then due.Over (record { 0 = n.entry.key }) n.at
+        else due.Silent (record { 0 = n.entry.key }) n.entry.head.branch n.entry.head.method n.at)
     go true is c = after_retransmission-own K T n.entry k is
     go false is true = tt
     go false is false = tt

@@ -87,7 +87,8 @@ abbrev RestoresAtOnce : CallTraceWithTransfers → Type 0
 RestoresAtOnce trace = AreRestoredAtOnce false trace.events
 
 module _ (back : LegsGoBack) (config : CallConfigView) (number : ℕ) where
-  receives : (x : ReceivedSignal) (es : List Entry) (opens : Option Arrival) (came : Option calls.Signal) (was : Option CallTraceWithTransfers) (trace : CallTraceWithTransfers) → ((earlier : CallTraceWithTransfers) → was ≡ Some earlier → RestoresAtOnce earlier) →
+  receives : (x : ReceivedSignal) (es : List Entry) (opens : Option Arrival) (came : Option calls.Signal) (was : Option CallTraceWithTransfers) (trace : CallTraceWithTransfers) →
+      ((earlier : CallTraceWithTransfers) → was ≡ Some earlier → RestoresAtOnce earlier) →
       continued_trace (option_map (start_by config x es) opens) (option_map (received_event x number es) came) was ≡ Some trace → RestoresAtOnce trace
   receives x es (Some a) came was trace before h = subst RestoresAtOnce (same_Some _ trace h) tt
   receives x es None came None trace before h = absurd (none-some trace h)
@@ -95,13 +96,16 @@ module _ (back : LegsGoBack) (config : CallConfigView) (number : ℕ) where
   receives x es None (Some s) (Some earlier) trace before h = subst RestoresAtOnce (same_Some _ trace h) (before earlier refl)
 
   -- two operations on one call
-  both : (x y : CallEvent) → ((events : List CallEvent) → AreRestoredAtOnce false events → AreRestoredAtOnce false (y ∷ x ∷ events)) → (one two : Option ℕ) → one ≡ two → (was : Option CallTraceWithTransfers) (trace : CallTraceWithTransfers) →
+  both : (x y : CallEvent) → ((events : List CallEvent) → AreRestoredAtOnce false events → AreRestoredAtOnce false (y ∷ x ∷ events)) → (one two : Option ℕ) → one ≡ two →
+      (was : Option CallTraceWithTransfers) (trace : CallTraceWithTransfers) →
       ((earlier : CallTraceWithTransfers) → was ≡ Some earlier → RestoresAtOnce earlier) →
-      (if is_number number two then continued_trace None (Some y) (if is_number number one then continued_trace None (Some x) was else was) else (if is_number number one then continued_trace None (Some x) was else was)) ≡ Some trace →
+      (if is_number number two then continued_trace None (Some y) (if is_number number one then continued_trace None (Some x) was else was) else (if is_number number one then continued_trace None (Some x) was else was))
+      ≡ Some trace →
       RestoresAtOnce trace
   both x y lends one two same was trace before h =
       go (is_number number one) was before (subst (λ (two : Option ℕ).
-      (if is_number number two then continued_trace None (Some y) (if is_number number one then continued_trace None (Some x) was else was) else (if is_number number one then continued_trace None (Some x) was else was)) ≡ Some trace)
+      (if is_number number two then continued_trace None (Some y) (if is_number number one then continued_trace None (Some x) was else was) else (if is_number number one then continued_trace None (Some x) was else was))
+      ≡ Some trace)
       (sym same) h)
     where
       go : (b : Bool) (was : Option CallTraceWithTransfers) → ((earlier : CallTraceWithTransfers) → was ≡ Some earlier → RestoresAtOnce earlier) →
@@ -127,7 +131,8 @@ module _ (back : LegsGoBack) (config : CallConfigView) (number : ℕ) where
       trace_of config number (Restores n leg ∷ Releases m side ∷ older) ≡ Some trace → ((trace : CallTraceWithTransfers) → trace_of config number older ≡ Some trace → RestoresAtOnce trace) → RestoresAtOnce trace
   unfolding trace_of
   restored n leg m side older trace w h before =
-      both (transfers.Releases side) (transfers.Restores leg) (λ events detached. detached) (call_of config (Releases m side) (table_after config older)) (call_of config (Restores n leg) (table_after config (Releases m side ∷ older)))
+      both (transfers.Releases side) (transfers.Restores leg) (λ events detached. detached) (call_of config (Releases m side) (table_after config older))
+      (call_of config (Restores n leg) (table_after config (Releases m side ∷ older)))
       (one-call n m side older w) (trace_of config number older) trace before h
 
   finished : (n at : ℕ) (tokens : TokensView) (m : ℕ) (side : Side) (older : List TableOp) (trace : CallTraceWithTransfers) → Went n m side older →
@@ -143,7 +148,8 @@ module _ (back : LegsGoBack) (config : CallConfigView) (number : ℕ) where
   detached_at_once (Receives x ∷ older) trace w h = go (is_number number (call_of config (Receives x) (table_after config older))) h (λ trace. detached_at_once older trace w)
     where
       go : (b : Bool) →
-          (if b then continued_trace (opening_by config (Receives x) (table_after config older)) (event_by (Receives x) number (table_after config older).entries) (trace_of config number older) else trace_of config number older) ≡ Some trace →
+          (if b then continued_trace (opening_by config (Receives x) (table_after config older)) (event_by (Receives x) number (table_after config older).entries) (trace_of config number older)
+          else trace_of config number older) ≡ Some trace →
           ((trace : CallTraceWithTransfers) → trace_of config number older ≡ Some trace → RestoresAtOnce trace) → RestoresAtOnce trace
       go true h before = receives x (table_after config older).entries (arrival_of (next_number (table_after config older).opened) x.signal) (signal_of_call x.signal) (trace_of config number older) trace before h
       go false h before = before trace h

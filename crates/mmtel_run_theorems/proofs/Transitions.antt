@@ -54,12 +54,19 @@ use Rattle.mmtel_run_definitions.specs.Deadlines.{Deadline, FirstTimer, OfCall, 
 use Rattle.mmtel_run_definitions.specs.Events.{ParsedEvent, Nothing, Refused, Received, WebRequested, message_in}
 use Rattle.mmtel_run_definitions.specs.Records.{until_of}
 use Rattle.mmtel_run_definitions.specs.Refusals.{Disposition, Respond, Enter, EnterConference, OpenCall, OpenConference, JoinConference, Register, Subscribe, EnterSubscription, disposition}
-use Rattle.mmtel_run_definitions.specs.Ownership.{DialogOwner, InSubscription, InCall, InConference, OfSubscriptions, OfCalls, OfConferences, Owner, account_of_side, owner_of_key, owner_of_branch, is_of_peer, replacement_in, replaced_side, leg_by, status_of_fault}
+use Rattle.mmtel_run_definitions.specs.Ownership.{DialogOwner, InSubscription, InCall, InConference, OfSubscriptions, OfCalls, OfConferences, Owner, account_of_side}
+use Rattle.mmtel_run_definitions.specs.Ownership.{owner_of_key, owner_of_branch, is_of_peer, replacement_in, replaced_side, leg_by, status_of_fault}
 use Rattle.mmtel_run_definitions.specs.Run.{after_deadline_if, after_one_deadline, first_due_deadline}
 use Rattle.mmtel_run_definitions.specs.Subscriptions.{grant_response, other_response, refusal_response, with_mailbox_op}
 use Rattle.mmtel_run_definitions.proofs.MailboxSteps as mailing
 use Rattle.mmtel_run_definitions.proofs.MailboxSteps.{AreResponses, AreSteps, tells_in}
-use Rattle.mmtel_run_definitions.specs.Transitions.{RunState, subscriptions_in, after_web_request, after_ack_by, after_adoption_if, adoption_op, after_service_timer, after_classified_message, with_timer, with_next_step, with_call_output, calls_in, after_event, after_cancel, after_cancel_of, output_of_conference_op, with_draws, with_emit, with_emits, after_transaction_end, after_participant_request, after_call_end, after_deadline, after_handover, conference_signal_op, received_now, with_received_action, dialog_owner_in, after_conference_op, with_upload, join_op, with_call_op, with_conference_output, after_parsed_event, next_tag, after_refer_notify, with_offers, opening_op, with_refusal_of_bytes, with_registration, with_retransmission, after_replacing, after_replacing_named, after_replacing_side, after_replaces, with_response, with_stateless_response, after_response_to, after_join_if, after_opening_if, conferences_in, after_due, after_conference_signal, after_web_reply, after_call_signal, after_request_timeout, after_detach, after_disposition, after_message, tokens_now, after_newcomer_refusal}
+use Rattle.mmtel_run_definitions.specs.Transitions.{RunState, subscriptions_in, after_web_request, after_ack_by, after_adoption_if, adoption_op, after_service_timer, after_classified_message, with_timer}
+use Rattle.mmtel_run_definitions.specs.Transitions.{with_next_step, with_call_output, calls_in, after_event, after_cancel, after_cancel_of, output_of_conference_op, with_draws, with_emit, with_emits}
+use Rattle.mmtel_run_definitions.specs.Transitions.{after_transaction_end, after_participant_request, after_call_end, after_deadline, after_handover, conference_signal_op, received_now, with_received_action}
+use Rattle.mmtel_run_definitions.specs.Transitions.{dialog_owner_in, after_conference_op, with_upload, join_op, with_call_op, with_conference_output, after_parsed_event, next_tag, after_refer_notify}
+use Rattle.mmtel_run_definitions.specs.Transitions.{with_offers, opening_op, with_refusal_of_bytes, with_registration, with_retransmission, after_replacing, after_replacing_named, after_replacing_side}
+use Rattle.mmtel_run_definitions.specs.Transitions.{after_replaces, with_response, with_stateless_response, after_response_to, after_join_if, after_opening_if, conferences_in, after_due, after_conference_signal}
+use Rattle.mmtel_run_definitions.specs.Transitions.{after_web_reply, after_call_signal, after_request_timeout, after_detach, after_disposition, after_message, tokens_now, after_newcomer_refusal}
 use Rattle.mmtel_run_theorems.proofs.ActionPrefixes.{Anyhow}
 use Rattle.mmtel_run_theorems.specs.StepMoments.{IsCallOpAt, IsConferenceOpAt, IsOfferAt, moment_due, moment_if}
 

@@ -10,8 +10,10 @@ use Rattle.mmtel_message.specs.Message.{Message}
 use Rattle.mmtel_message.specs.Texts.{message_text}
 use Rattle.mmtel_message.specs.declared.messages.Start.{Start}
 use Rattle.mmtel_transaction.specs.Results.{is_of, peer_of}
-use Rattle.mmtel_transaction.specs.Operations.{DidAck, DidAsk, DidBegin, DidFire, DidHear, DidReply, DidSettle, TransactionOp, change, change_on_receipt, entry_of, is_live, live, opened_on_receipt, openings, opens, send_count, step_of}
-use Rattle.mmtel_transaction.specs.Changes.{after_ack_2xx, after_any_reply, after_failure_ack, after_final, after_provisional, after_reply, after_response, after_settling, after_timer, after_timer_by, change_of_key, reliable_response_of, with_kept_ack, with_reliable_if}
+use Rattle.mmtel_transaction.specs.Operations.{DidAck, DidAsk, DidBegin, DidFire, DidHear, DidReply, DidSettle, TransactionOp, change}
+use Rattle.mmtel_transaction.specs.Operations.{change_on_receipt, entry_of, is_live, live, opened_on_receipt, openings, opens, send_count, step_of}
+use Rattle.mmtel_transaction.specs.Changes.{after_ack_2xx, after_any_reply, after_failure_ack, after_final, after_provisional, after_reply, after_response}
+use Rattle.mmtel_transaction.specs.Changes.{after_settling, after_timer, after_timer_by, change_of_key, reliable_response_of, with_kept_ack, with_reliable_if}
 use Rattle.mmtel_transaction.specs.Deadlines.{foremost_in}
 use Rattle.mmtel_transaction.specs.Heads.{head_of, is_invite, is_provisional}
 use Rattle.mmtel_transaction.specs.OnePeer.{KeepsPeers}
@@ -151,7 +153,8 @@ openings_below (c ∷ h) =
     let new : List Entry = opens (step_of h) (send_count h) (length (openings h)) c in
     let count : length (openings h ++ new) ≡ length (openings h) + length new = length-append (openings h) new in
     subst (λ (n : ℕ). AllBelow n (openings h ++ new)) (sym count)
-    (joined (length (openings h) + length new) (openings h) new (more (length (openings h)) (length (openings h) + length new) (openings h) (omega arith) (openings_below h)) (next_below (step_of h) (send_count h) (length (openings h)) c))
+    (joined (length (openings h) + length new) (openings h) new (more (length (openings h)) (length (openings h) + length new) (openings h) (omega arith) (openings_below h))
+    (next_below (step_of h) (send_count h) (length (openings h)) c))
 
 changed_below : (h : List TransactionOp) (n : ℕ) (es : List Entry) → AllBelow n es → AllBelow n (map (entry_of h) es)
 changed_below h n [] b = tt
@@ -175,7 +178,8 @@ found_below key n q (x ∷ es) b e = elim (cases_Bool (x.key == key)) [
 ]
 
 live_below : (h : List TransactionOp) (key : ℕ) (q : Peer) → peer_of key (live h) ≡ Some q → key < length (openings h)
-live_below h key q e = found_below key (length (openings h)) q (live h) (with_kept_ack_below is_live (length (openings h)) (map (entry_of h) (openings h)) (changed_below h (length (openings h)) (openings h) (openings_below h))) e
+live_below h key q e = found_below key (length (openings h)) q (live h)
+    (with_kept_ack_below is_live (length (openings h)) (map (entry_of h) (openings h)) (changed_below h (length (openings h)) (openings h) (openings_below h))) e
 
 -- ---- the peer of a transaction: the last one that it had as long as it was live
 

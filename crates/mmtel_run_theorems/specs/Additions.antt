@@ -29,4 +29,5 @@ DeadlinesAdd = (directory : Directory) (token : List ℕ) (fuel now : ℕ) (befo
 abbrev pub RunsAdd : Type 0
 RunsAdd = (directory : Directory) (token : List ℕ) (loaded : Texts) (fuel : ℕ) (earlier recorded : List EventRecord) →
     offers_of_run directory token loaded fuel (earlier ++ recorded)
-    ≡ offers_of_run directory token loaded fuel earlier ++ (after_events directory token fuel (timed_events directory recorded) (without_offers (state_after directory token loaded fuel earlier))).offers
+    ≡ offers_of_run directory token loaded fuel earlier
+    ++ (after_events directory token fuel (timed_events directory recorded) (without_offers (state_after directory token loaded fuel earlier))).offers

@@ -66,7 +66,8 @@ abbrev pub IsBookOf : ConferenceConfigView → List TableOp → List DatedEntry 
 IsBookOf config [] book = book ≡ []
 IsBookOf config (op ∷ older) book =
     (front : List DatedEntry) × (last : List DatedEntry) × (book ≡ front ++ last) × IsBookOf config older front
-    × IsBookAt (moment_of op) (running_meters (table_after config older).live) (running_meters (table_after config (op ∷ older)).live) (effects_after config older op).output.rows last
+    × IsBookAt (moment_of op) (running_meters (table_after config older).live) (running_meters (table_after config (op ∷ older)).live)
+    (effects_after config older op).output.rows last
 
 -- the meters that began, and those that were closed
 abbrev pub started_in : List DatedEntry → List MeterView

@@ -124,14 +124,17 @@ HasSameTrust directory state key peer = option_map (trusts directory) (peer_of k
 -- a client transaction that receives a response is with the peer that was sent the request: the INVITE of this branch, or the PRACK or UPDATE that is in flight with it
 pub record ResponseIsTiedToCall (directory : Directory) (state : RunState) (key : TKey) (branch : List ℕ) (c : Call) : Type 0 where
   pub awaited : (i : SentInvite) → is_current branch c ≡ true → current_invite c.phase ≡ Some i → HasSameTrust directory state key i.dialogue.peer
-  pub abandoned : (at : ℕ) (l : AbandonedInvite) → position (is_of_branch branch) c.abandoned ≡ Some at → slice_get c.abandoned at ≡ Some l → HasSameTrust directory state key l.invite.dialogue.peer
-  pub answered : (at : ℕ) (x : AnsweredInvite) → position (is_answered_invite branch) c.answered_invites ≡ Some at → slice_get c.answered_invites at ≡ Some x → HasSameTrust directory state key x.invite.dialogue.peer
+  pub abandoned : (at : ℕ) (l : AbandonedInvite) → position (is_of_branch branch) c.abandoned ≡ Some at →
+      slice_get c.abandoned at ≡ Some l → HasSameTrust directory state key l.invite.dialogue.peer
+  pub answered : (at : ℕ) (x : AnsweredInvite) → position (is_answered_invite branch) c.answered_invites ≡ Some at →
+      slice_get c.answered_invites at ≡ Some x → HasSameTrust directory state key x.invite.dialogue.peer
   pub relayed : (at : ℕ) (flight : RelayedTransaction) → position (is_in_flight branch) c.relayed ≡ Some at → slice_get c.relayed at ≡ Some flight →
       HasSameTrust directory state key flight.exchange.invite.dialogue.peer
 
 abbrev pub ResponseIsTied : Directory → RunState → MessageView → Type 0
 ResponseIsTied directory state m = (key : ℕ) (branch : List ℕ) (at : ℕ) (e : Entry) → class_of (head_of (message_in m.parsed)) (live state.actions) ≡ part.Answer key →
-    awaited_request_branch m ≡ Some branch → position (has_sent_branch (Some branch)) (calls_in directory state).entries ≡ Some at → slice_get (calls_in directory state).entries at ≡ Some e →
+    awaited_request_branch m ≡ Some branch → position (has_sent_branch (Some branch)) (calls_in directory state).entries ≡ Some at →
+    slice_get (calls_in directory state).entries at ≡ Some e →
     ResponseIsTiedToCall directory state (record { 0 = key }) branch e.call
 
 -- so is that of the INVITE of a participant that has this branch, and that of one that a conference abandoned
@@ -147,7 +150,8 @@ pub record ParticipantIsTied (directory : Directory) (state : RunState) (key : T
 pub record ResponseIsTiedToTable (directory : Directory) (state : RunState) (key : TKey) (branch : List ℕ) (table : Table) : Type 0 where
   pub abandoned : (at : ℕ) (l : AbandonedInvite) → position (is_of_branch branch) table.abandoned ≡ Some at → slice_get table.abandoned at ≡ Some l →
       HasSameTrust directory state key l.invite.dialogue.peer
-  pub participant : (at place : ℕ) (room : Conference) (seat : ParticipantState) → position (conference_has_branch branch) table.live ≡ Some at → slice_get table.live at ≡ Some room →
+  pub participant : (at place : ℕ) (room : Conference) (seat : ParticipantState) →
+      position (conference_has_branch branch) table.live ≡ Some at → slice_get table.live at ≡ Some room →
       position (participant_has_branch branch) room.participants ≡ Some place → slice_get room.participants place ≡ Some seat → ParticipantIsTied directory state key seat
 
 abbrev pub ConferenceResponseIsTied : Directory → RunState → MessageView → Type 0

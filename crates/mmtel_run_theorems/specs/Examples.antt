@@ -260,11 +260,14 @@ pub record PublicMaskDifferently (directory : Directory) (asked : List Who) (sta
   pub opens : IsClassified state plain_opening part.Fresh → ((p : Person) → hides_caller directory state (plain_opening p).parsed ≡ false) →
       MasksDifferently directory asked state plain_opening
   -- and sends a re-INVITE in it
-  pub asks : (e : Entry) (x : EstablishedLegs) (stage : Stage) (call : ℕ) → IsOfEstablished directory state plain_in_dialog Caller e x stage call → e.call.opening.restricted ≡ false →
+  pub asks : (e : Entry) (x : EstablishedLegs) (stage : Stage) (call : ℕ) →
+      IsOfEstablished directory state plain_in_dialog Caller e x stage call → e.call.opening.restricted ≡ false →
       MasksDifferently directory asked state plain_in_dialog
   -- how a restricted callee names the called party in To, and where it redirects the call to
-  pub named : (e : Entry) (x : OfferedAttempt) (branch : List ℕ) (key place : ℕ) → IsTargets directory state ok_named e x branch key place → MasksDifferently directory asked state ok_named
-  pub moves : (e : Entry) (x : OfferedAttempt) (branch : List ℕ) (key place : ℕ) → IsTargets directory state redirect_response e x branch key place → MasksDifferently directory asked state redirect_response
+  pub named : (e : Entry) (x : OfferedAttempt) (branch : List ℕ) (key place : ℕ) → IsTargets directory state ok_named e x branch key place →
+      MasksDifferently directory asked state ok_named
+  pub moves : (e : Entry) (x : OfferedAttempt) (branch : List ℕ) (key place : ℕ) →
+      IsTargets directory state redirect_response e x branch key place → MasksDifferently directory asked state redirect_response
   -- a person who is not marked in the History-Info
   pub history : IsClassified state invite_with_unmarked_entry part.Fresh → ((p : Person) → hides_caller directory state (invite_with_unmarked_entry p).parsed ≡ false) →
       MasksDifferently directory asked state invite_with_unmarked_entry
@@ -301,7 +304,8 @@ state_after_action loaded done = record (initial_state loaded) { actions = done 
 pub record TheyOccur (loaded : Texts) : Type 0 where
   pub first : IsClassified (initial_state loaded) private_opening part.Fresh
   pub again : (p : Person) →
-      class_of (head_of (message_in (plain_opening p).parsed)) (live (state_after_action loaded (DidHear phone (message_in (plain_opening p).parsed) 0 part.Fresh)).actions) ≡ part.Repeat 0
+      class_of (head_of (message_in (plain_opening p).parsed))
+      (live (state_after_action loaded (DidHear phone (message_in (plain_opening p).parsed) 0 part.Fresh)).actions) ≡ part.Repeat 0
   pub answers : IsClassified (state_after_action loaded (DidAsk phone server_bye 0)) ok_to_bye (part.Answer 0)
   pub stray : IsClassified (initial_state loaded) ok_to_invite part.Stray
 

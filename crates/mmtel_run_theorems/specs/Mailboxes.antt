@@ -144,7 +144,8 @@ pub record IsRefused (directory : Directory) (token : List ℕ) (at : ℕ) (key 
 
 -- this holds in every state
 abbrev pub UntrustedAreRefused : Type 0
-UntrustedAreRefused = (directory : Directory) (token : List ℕ) (at : ℕ) (key : TKey) (message : MessageView) (state : RunState) → is_method (codes "SUBSCRIBE") message.parsed.start ≡ true →
+UntrustedAreRefused = (directory : Directory) (token : List ℕ) (at : ℕ) (key : TKey) (message : MessageView) (state : RunState) →
+    is_method (codes "SUBSCRIBE") message.parsed.start ≡ true →
     message.parsed.trusted ≡ false → IsRefused directory token at key message state (after_new_request directory token at key message state)
 
 -- ---- of every run

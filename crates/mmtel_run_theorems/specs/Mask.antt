@@ -86,11 +86,13 @@ mask_event directory tested state Events.Nothing = Nothing
 mask_event directory tested state (Events.Refused peer source reply) = Refused peer source reply
 mask_event directory tested state (Events.Received message) =
     Received (without_private (role_of directory state message) message) (tests_beside directory.names.accounts tested (role_of directory state message) message.parsed)
-mask_event directory tested state (Events.WebRequested request kept rows) = WebRequested (stored_upload kept (upload_in directory.names request)) (counts_put_in directory.names request kept)
+mask_event directory tested state (Events.WebRequested request kept rows) =
+    WebRequested (stored_upload kept (upload_in directory.names request)) (counts_put_in directory.names request kept)
 
 -- the state in which an event comes: after the timers that are due by then, in a step of its own
 abbrev pub state_at_event : Directory → (token : List ℕ) → (fuel : ℕ) → TimedEvent → RunState → RunState
-state_at_event directory token fuel notice state = record (with_next_step (after_due_deadlines directory token fuel (clock_at state notice.at) state)) { clock = clock_at state notice.at }
+state_at_event directory token fuel notice state =
+    record (with_next_step (after_due_deadlines directory token fuel (clock_at state notice.at) state)) { clock = clock_at state notice.at }
 
 abbrev pub mask_all : Directory → (token : List ℕ) → (fuel : ℕ) → (tested : List Who) → List TimedEvent → RunState → List (ℕ × MaskedEvent)
 mask_all directory token fuel tested [] state = []

@@ -44,7 +44,8 @@ ConfigurationsAreRead = (text : List ℕ) (directory : Directory) (token : List 
 -- for runs in which fewer than 2^60 numbers are drawn: under two configurations that are equal but for the URIs of accounts, where lookups in the masked run have equal results
 abbrev pub NoninterferenceInBoth : Type 0
 NoninterferenceInBoth = (directory far : Directory) (token : List ℕ) (loaded : Texts) (fuel : ℕ) (recorded run : List EventRecord) (seer : Peer) →
-    BranchesAreRead directory token → EquivalentConfigs (records_in directory loaded recorded) directory far → AllLookUpEqually directory far (mask far token loaded fuel run).events →
+    BranchesAreRead directory token → EquivalentConfigs (records_in directory loaded recorded) directory far →
+    AllLookUpEqually directory far (mask far token loaded fuel run).events →
     AllEarly directory token fuel (timed_events directory recorded) (initial_state loaded) → trusts directory seer ≡ false →
     mask directory token loaded fuel recorded ≡ mask far token loaded fuel run →
     view seer (offers_of_run directory token loaded fuel recorded) ≡ view seer (offers_of_run far token loaded fuel run)

@@ -84,7 +84,8 @@ rows_of_call state number = filter (λ row. is_call_row row && is_charging_recor
 -- the statement about the bound, which a configuration sets (RFC 7044 §7)
 pub record StaysWithinTheBound (directory : Directory) (trace : CallTraceWithTransfers) : Type 0 where
   -- the diversions that it came with and those that were made are together at most the bound, or the number that it came with where that is more
-  pub diversions : received_diversions (opening_in trace.start) + diversions_made (outcome_after trace.start trace.events) ≤ max directory.bound (received_diversions (opening_in trace.start))
+  pub diversions : received_diversions (opening_in trace.start) + diversions_made (outcome_after trace.start trace.events)
+      ≤ max directory.bound (received_diversions (opening_in trace.start))
   -- it reaches at most one target more than the bound, and has no more INVITEs
   pub targets : length (outcome_after trace.start trace.events).targets ≤ directory.bound + 1
   pub attempts : count_by is_invited (labels_of_trace trace) ≤ directory.bound + 1
@@ -101,7 +102,8 @@ pub record IsChargedExactly (state : RunState) (number : ℕ) (trace : CallTrace
   pub ended : (cause : Cause) → (call_after trace.start trace.events).phase ≡ Over cause → is_some (answer_moment (endings_after trace.start trace.events)) ≡ true → cause ≡ Ended
 
 -- by its Outcome, which is a function of how its attempts ended and of the states of the run
-pub record CallReachesOutcome (directory : Directory) (token : List ℕ) (loaded : Texts) (fuel : ℕ) (recorded : List EventRecord) (number : ℕ) (trace : CallTraceWithTransfers) : Type 0 where
+pub record CallReachesOutcome (directory : Directory) (token : List ℕ) (loaded : Texts) (fuel : ℕ) (recorded : List EventRecord)
+    (number : ℕ) (trace : CallTraceWithTransfers) : Type 0 where
   -- its state in the table, its result, what was sent for it, and what was counted of it
   pub exact : CallIsExact (call_config directory) (state_after directory token loaded fuel recorded).call_ops number trace
   -- the INVITEs to its targets, each by the diversion that led there, and its final response are those of Outcome, in order

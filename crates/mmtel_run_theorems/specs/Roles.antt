@@ -159,7 +159,8 @@ other_role c m None None None = unshown_response
 abbrev pub response_role_of : (branch : List ℕ) → MessageView → Call → Role
 response_role_of branch m c =
     if is_current branch c then awaited_role c.phase c.opening m
-    else other_role c m (abandoned_invite_at (position (is_of_branch branch) c.abandoned) c.abandoned) (answered_invite_at (position (is_answered_invite branch) c.answered_invites) c.answered_invites)
+    else other_role c m (abandoned_invite_at (position (is_of_branch branch) c.abandoned) c.abandoned)
+    (answered_invite_at (position (is_answered_invite branch) c.answered_invites) c.answered_invites)
     (relayed_at (position (is_in_flight branch) c.relayed) c.relayed)
 
 abbrev pub role_in_entry : (branch : List ℕ) → MessageView → Option Entry → Option Role
@@ -198,13 +199,15 @@ abbrev pub participant_response_role : MessageView → Option AbandonedInvite �
 participant_response_role m abandoned seat = if is_of_abandoned m abandoned && is_of_participant m seat then unshown_response else Plain
 
 abbrev pub role_in_conference_response : (branch : List ℕ) → MessageView → table.Table → Role
-role_in_conference_response branch m rooms = participant_response_role m (abandoned_invite_at (position (is_of_branch branch) rooms.abandoned) rooms.abandoned) (participant_invited branch rooms.live)
+role_in_conference_response branch m rooms = participant_response_role m
+    (abandoned_invite_at (position (is_of_branch branch) rooms.abandoned) rooms.abandoned) (participant_invited branch rooms.live)
 
 -- ---- a response: to an INVITE, PRACK or UPDATE of a call, or else to an INVITE of a conference. A response to a BYE, CANCEL or NOTIFY of the server is not relayed
 
 abbrev pub response_role_by : Directory → RunState → MessageView → (branch : Option (List ℕ)) → Role
 response_role_by directory state m None = unshown_response
-response_role_by directory state m (Some branch) = unwrap_or (role_in_response branch m (calls_in directory state)) (role_in_conference_response branch m (conferences_in directory state))
+response_role_by directory state m (Some branch) =
+    unwrap_or (role_in_response branch m (calls_in directory state)) (role_in_conference_response branch m (conferences_in directory state))
 
 abbrev pub response_role : Directory → RunState → MessageView → Role
 response_role directory state m = response_role_by directory state m (awaited_request_branch m)

@@ -46,5 +46,6 @@ pub record OpSendsOnce (sip : Addr) (before : List (Peer × Message Start)) (tok
   pub text_in : output.tokens.token ≡ tokens.token
 
 abbrev pub ConferencesSendOnce : Type 0
-ConferencesSendOnce = (config : ConferenceConfigView) (ops : List TableOp) (op : TableOp) (before : List (Peer × Message Start)) → TableWasSent (SomeInviteWasSent config.sip before) (table_after config ops) →
+ConferencesSendOnce = (config : ConferenceConfigView) (ops : List TableOp) (op : TableOp) (before : List (Peer × Message Start)) →
+    TableWasSent (SomeInviteWasSent config.sip before) (table_after config ops) →
     OpSendsOnce config.sip before (tokens_of_op op) (effects_after config ops op).output (table_after config (op ∷ ops))

@@ -40,7 +40,8 @@ operations_after run fuel recorded = (state_in run fuel recorded).call_ops
 
 -- this was the state for the call of this number when it received a signal in the run, by which its trace became this one; where that signal opened the call, the call itself kept
 -- this account busy
-pub record SnapshotIn (run : RunInputs) (fuel : ℕ) (recorded : List EventRecord) (number : ℕ) (came : CallTraceWithTransfers) (own : Option Account) (now : SnapshotView) : Type 0 where
+pub record SnapshotIn (run : RunInputs) (fuel : ℕ) (recorded : List EventRecord) (number : ℕ) (came : CallTraceWithTransfers)
+    (own : Option Account) (now : SnapshotView) : Type 0 where
   -- the event in which it received the signal, and those before and after it
   pub earlier : List EventRecord
   pub event : EventRecord
@@ -52,7 +53,8 @@ pub record SnapshotIn (run : RunInputs) (fuel : ℕ) (recorded : List EventRecor
   pub after : List TableOp
   pub operations : operations_after run fuel (earlier ++ event ∷ []) ≡ after ++ Receives received ∷ (before ++ operations_after run fuel earlier)
   -- this operation is of this call, and by it the trace of the call became this one
-  pub mine : is_number number (call_of (call_config run.directory) (Receives received) (table_after (call_config run.directory) (before ++ operations_after run fuel earlier))) ≡ true
+  pub mine : is_number number (call_of (call_config run.directory) (Receives received)
+      (table_after (call_config run.directory) (before ++ operations_after run fuel earlier))) ≡ true
   pub comes : trace_of (call_config run.directory) number (Receives received ∷ (before ++ operations_after run fuel earlier)) ≡ Some came
   -- the moment is that at which the signal was received, which is not later than the greatest moment of an event so far
   pub moment : now.at ≡ received.at
@@ -87,4 +89,5 @@ pub data ReachedIn (run : RunInputs) (fuel : ℕ) (recorded : List EventRecord) 
   Later : (step : ReceivedIn run fuel recorded number trace now) → nat_lt k (diversions_made_by trace.start step.earlier) ≡ false →
       nat_lt k (diversions_made_by trace.start (transfers.Receives step.received ∷ step.earlier)) ≡ true → ReachedIn run fuel recorded number trace k now
   -- the call has not made it, and the state is that of some step of it
-  NotYet : nat_lt k (diversions_made_by trace.start trace.events) ≡ false → ReceivedIn run fuel recorded number trace now ⊎ (now ≡ trace.start.now) → ReachedIn run fuel recorded number trace k now
+  NotYet : nat_lt k (diversions_made_by trace.start trace.events) ≡ false →
+      ReceivedIn run fuel recorded number trace now ⊎ (now ≡ trace.start.now) → ReachedIn run fuel recorded number trace k now

@@ -1,6 +1,7 @@
 //! Noninterference of a run with calls and conferences. These are theorems, without code.
 ghost use Rattle.mmtel_run_theorems.specs.SentInvites.{ConferencesSendOnce};
-ghost use Rattle.mmtel_run_theorems.specs.Noninterference.{ConfigurationsAreRead, MasksOnce, Noninterference, NoninterferenceInBoth, OffersKeepItInOneConfig, OffersKeepNoninterference};
+ghost use Rattle.mmtel_run_theorems.specs.Noninterference.{ConfigurationsAreRead, MasksOnce, Noninterference, NoninterferenceInBoth};
+ghost use Rattle.mmtel_run_theorems.specs.Noninterference.{OffersKeepItInOneConfig, OffersKeepNoninterference};
 ghost use Rattle.mmtel_run_theorems.specs.Noninterference.{RenamedAreLookedUpEqually, RunsAreTied, SeenByTimedEvents};
 ghost use Rattle.mmtel_run_theorems.specs.RenamedAccounts.{NobodyIsRenamed};
 ghost use Rattle.mmtel_run_theorems.specs.Examples.{EachOccurs, PublicAreShown, RestrictedAreHidden, UnshownAreHidden};

@@ -9,8 +9,10 @@ use Rattle.std.proofs.lemmas.Bool.{cases_Bool}
 use Rattle.std.proofs.lemmas.Bool.Decides.{nat_tests}
 use Rattle.mmtel_base.specs.Scanning.{IsFree, after_text}
 use Rattle.mmtel_base.proofs.Runs.{and_true, split_again}
-use Rattle.mmtel_sdp.specs.Sdp.{before_media, Section, sections, words, is_filled, first_word, media_line, first_of, map_of, map_in, map_under, direction_word, direction_in, under_audio, is_audio, medium_of, media_of, has_session_head, session_of, sdp_of}
-use Rattle.mmtel_sdp.specs.Mixer.{line, ip_text, session_lines, media_value, direction_text, offer_lines, offer_text, map_lines, accepted_lines, refused_lines, answer_direction, answer_media_lines, answer_lines, answer_text, has_audio, without_map, answer_media, answer_view, offer_view, ports_in, ports_of, ports_of_answer}
+use Rattle.mmtel_sdp.specs.Sdp.{before_media, Section, sections, words, is_filled, first_word, media_line, first_of, map_of, map_in, map_under}
+use Rattle.mmtel_sdp.specs.Sdp.{direction_word, direction_in, under_audio, is_audio, medium_of, media_of, has_session_head, session_of, sdp_of}
+use Rattle.mmtel_sdp.specs.Mixer.{line, ip_text, session_lines, media_value, direction_text, offer_lines, offer_text, map_lines, accepted_lines, refused_lines, answer_direction}
+use Rattle.mmtel_sdp.specs.Mixer.{answer_media_lines, answer_lines, answer_text, has_audio, without_map, answer_media, answer_view, offer_view, ports_in, ports_of, ports_of_answer}
 use Rattle.mmtel_sdp.specs.declared.lines.Line.{Line}
 use Rattle.mmtel_sdp.specs.declared.values.Direction.{Direction}
 use Rattle.mmtel_sdp.specs.declared.values.Direction.TheVariants.{SendRecv, SendOnly, RecvOnly, Inactive}
@@ -60,11 +62,13 @@ value_words kind port proto formats are =
     words_more kind (port ++ 32 ∷ (proto ++ 32 ∷ formats)) are.kind_is
     ∙ ap (λ (ws : List (List ℕ)). kind ∷ ws) (words_more port (proto ++ 32 ∷ formats) are.port_is ∙ ap (λ (ws : List (List ℕ)). port ∷ ws) (words_more proto formats are.proto_is))
 
-value_stated : (kind port proto formats first : List ℕ) (more : List (List ℕ)) → AreWords kind port proto → words formats ≡ first ∷ more → list_all is_filled (first ∷ more) ≡ true → media_line (media_value kind port proto formats) ≡ stated kind port proto first
+value_stated : (kind port proto formats first : List ℕ) (more : List (List ℕ)) → AreWords kind port proto → words formats ≡ first ∷ more → list_all is_filled (first ∷ more) ≡ true →
+    media_line (media_value kind port proto formats) ≡ stated kind port proto first
 unfolding media_line
 value_stated kind port proto formats first more are is filled =
     let whole : words (media_value kind port proto formats) ≡ kind ∷ (port ∷ (proto ∷ (first ∷ more))) = rw (value_words kind port proto formats are, is) refl in
-    let all : list_all is_filled (kind ∷ (port ∷ (proto ∷ (first ∷ more)))) ≡ true = both_true (is_filled kind) _ (filled_word kind are.kind_is) (both_true (is_filled port) _ (filled_word port are.port_is) (both_true (is_filled proto) _ (filled_word proto are.proto_is) filled)) in
+    let all : list_all is_filled (kind ∷ (port ∷ (proto ∷ (first ∷ more)))) ≡ true =
+    both_true (is_filled kind) _ (filled_word kind are.kind_is) (both_true (is_filled port) _ (filled_word port are.port_is) (both_true (is_filled proto) _ (filled_word proto are.proto_is) filled)) in
     rw (whole, all) refl
 
 value_kind : (kind port proto formats : List ℕ) → AreWords kind port proto → first_word (words (media_value kind port proto formats)) ≡ kind
@@ -73,7 +77,8 @@ value_kind kind port proto formats are = rw (value_words kind port proto formats
 value_plain : (kind port proto formats : List ℕ) → AreWords kind port proto → IsPlain formats → IsPlain (media_value kind port proto formats)
 unfolding media_value
 value_plain kind port proto formats are plain =
-    all_both plain_byte kind (32 ∷ (port ++ 32 ∷ (proto ++ 32 ∷ formats))) (word_plain kind are.kind_is) (all_both plain_byte port (32 ∷ (proto ++ 32 ∷ formats)) (word_plain port are.port_is) (all_both plain_byte proto (32 ∷ formats) (word_plain proto are.proto_is) plain))
+    all_both plain_byte kind (32 ∷ (port ++ 32 ∷ (proto ++ 32 ∷ formats))) (word_plain kind are.kind_is)
+    (all_both plain_byte port (32 ∷ (proto ++ 32 ∷ formats)) (word_plain port are.port_is) (all_both plain_byte proto (32 ∷ formats) (word_plain proto are.proto_is) plain))
 
 medium_words : (medium : Medium) (port : ℕ) → IsSound medium → AreWords medium.kind (decimal port) medium.proto
 medium_words medium port sound = record { kind_is = sound.kind; port_is = decimal_word port; proto_is = sound.proto }
@@ -169,7 +174,8 @@ answer_start : (port : ℕ) (direction : Direction) (media : List Medium) → be
 answer_start port direction [] = refl
 answer_start port direction (medium ∷ media) = elim (cases_Bool (is_audio medium.kind)) [ inl y ↦ rw y refl | inr n ↦ rw n refl ]
 
-under_stays : (direction : Direction) (map : List ℕ) (media : List Medium) → before_media ((map_lines map ++ line (byte "a") (direction_text direction) ∷ []) ++ flat_map refused_lines media) ≡ map_lines map ++ line (byte "a") (direction_text direction) ∷ []
+under_stays : (direction : Direction) (map : List ℕ) (media : List Medium) →
+    before_media ((map_lines map ++ line (byte "a") (direction_text direction) ∷ []) ++ flat_map refused_lines media) ≡ map_lines map ++ line (byte "a") (direction_text direction) ∷ []
 under_stays direction [] media = rw (refused_start media) refl
 under_stays direction (b ∷ map) media = rw (refused_start media) refl
 
@@ -259,7 +265,8 @@ opening_plain mixer = rw (ip_plain mixer) refl
 
 -- ---- the answer
 
-session_is : (lines : List Line) (medium : Medium) (media : List Medium) (direction : Direction) → has_session_head lines ≡ true → media_of (sections lines) ≡ Some (medium ∷ media) → first_of direction_in (under_audio (sections lines)) ≡ Some direction → session_of lines ≡ Some (record { media = medium ∷ media; direction = direction })
+session_is : (lines : List Line) (medium : Medium) (media : List Medium) (direction : Direction) → has_session_head lines ≡ true → media_of (sections lines) ≡ Some (medium ∷ media) →
+    first_of direction_in (under_audio (sections lines)) ≡ Some direction → session_of lines ≡ Some (record { media = medium ∷ media; direction = direction })
 unfolding session_of
 session_is lines medium media direction one two three = rw (one, two, three) refl
 
@@ -276,13 +283,16 @@ answer_session view mixer sound has =
     let direction : Direction = answer_direction view.direction in
     let some = not_empty view.media has in
     let parts = parts_are mixer.port (answer_direction view.direction) view.media in
-    let media : media_of (sections (answer_lines view mixer)) ≡ Some (some.0.0 ∷ some.0.1) = rw parts (media_are mixer.port (answer_direction view.direction) view.media sound ∙ ap (λ (ms : List Medium). Some ms) some.1) in
-    let turned : first_of direction_in (under_audio (sections (answer_lines view mixer))) ≡ Some (answer_direction view.direction) = rw parts (direction_is mixer.port (answer_direction view.direction) view.media sound has) in
+    let media : media_of (sections (answer_lines view mixer)) ≡ Some (some.0.0 ∷ some.0.1) =
+    rw parts (media_are mixer.port (answer_direction view.direction) view.media sound ∙ ap (λ (ms : List Medium). Some ms) some.1) in
+    let turned : first_of direction_in (under_audio (sections (answer_lines view mixer))) ≡ Some (answer_direction view.direction) =
+    rw parts (direction_is mixer.port (answer_direction view.direction) view.media sound has) in
     let made = session_is (answer_lines view mixer) some.0.0 some.0.1 (answer_direction view.direction) refl media turned in
     rw some.1 made
 
 answer_plain : (view : SdpView) (mixer : Mixer) → AreSound view.media → ArePlain (answer_lines view mixer)
-answer_plain view mixer sound = all_both plain_line (session_lines mixer) (answer_media_lines mixer.port (answer_direction view.direction) view.media) (opening_plain mixer) (answered_plain mixer.port (answer_direction view.direction) view.media sound)
+answer_plain view mixer sound = all_both plain_line (session_lines mixer) (answer_media_lines mixer.port (answer_direction view.direction) view.media) (opening_plain mixer)
+    (answered_plain mixer.port (answer_direction view.direction) view.media sound)
 
 answer_again : (view : SdpView) (mixer : Mixer) → AreSound view.media → has_audio view.media ≡ true → sdp_of (answer_text view mixer) ≡ Some (answer_view view)
 unfolding sdp_of answer_text
@@ -290,7 +300,8 @@ answer_again view mixer sound has = rw (lines_again (answer_lines view mixer) (a
 
 answer_ports : (view : SdpView) (mixer : Mixer) → AreSound view.media → ports_of (answer_text view mixer) ≡ Some (ports_of_answer mixer.port view.media)
 unfolding ports_of answer_text
-answer_ports view mixer sound = rw (lines_again (answer_lines view mixer) (answer_plain view mixer sound), parts_are mixer.port (answer_direction view.direction) view.media) (ports_are mixer.port (answer_direction view.direction) view.media sound)
+answer_ports view mixer sound = rw (lines_again (answer_lines view mixer) (answer_plain view mixer sound), parts_are mixer.port (answer_direction view.direction) view.media)
+    (ports_are mixer.port (answer_direction view.direction) view.media sound)
 
 pub reads_back_by : (view : SdpView) (mixer : Mixer) (text body : List ℕ) → has_audio view.media ≡ true → text ≡ answer_text view mixer → sdp_of body ≡ Some view → sdp_of text ≡ Some (answer_view view)
 reads_back_by view mixer text body has is read = rw is (answer_again view mixer (sdp_sound body view read) has)

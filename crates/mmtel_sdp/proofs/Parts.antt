@@ -63,7 +63,8 @@ has_first b (c ∷ s) =
 abbrev pub stated : List ℕ → List ℕ → List ℕ → List ℕ → Option MediaLine
 stated kind port proto format = Some (record { kind = kind; port = port; proto = proto; format = format })
 
-pub media_line_by : (head kind r port q proto p : List ℕ) → list_all is_filled (words head) ≡ true → words head ≡ kind ∷ words r → words r ≡ port ∷ words q → words q ≡ proto ∷ words p → media_line head ≡ stated kind port proto (first_word (words p))
+pub media_line_by : (head kind r port q proto p : List ℕ) → list_all is_filled (words head) ≡ true → words head ≡ kind ∷ words r → words r ≡ port ∷ words q → words q ≡ proto ∷ words p →
+    media_line head ≡ stated kind port proto (first_word (words p))
 unfolding media_line words
 media_line_by head kind r port q proto p filled one two three =
     let last = has_first 32 p in

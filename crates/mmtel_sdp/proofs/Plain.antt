@@ -153,5 +153,6 @@ pub lines_again : (lines : List Line) → ArePlain lines → lines_of (text_of l
 lines_again [] all = none_again
 lines_again (line ∷ lines) all =
     let both = and_true (plain_line line) (list_all plain_line lines) all in
-    let next : lines_of (front_of line ++ 10 ∷ text_of lines) ≡ next_lines (line_at (front_of line)) (lines_of (text_of lines)) = lines_more (front_of line ++ 10 ∷ text_of lines) (front_of line, text_of lines) (split_again 10 (front_of line) (text_of lines) (front_free line both.0)) in
+    let next : lines_of (front_of line ++ 10 ∷ text_of lines) ≡ next_lines (line_at (front_of line)) (lines_of (text_of lines)) =
+    lines_more (front_of line ++ 10 ∷ text_of lines) (front_of line, text_of lines) (split_again 10 (front_of line) (text_of lines) (front_free line both.0)) in
     ap (λ (s : List ℕ). lines_of s) (at_lf line (text_of lines)) ∙ next ∙ rw (line_again line both.0, lines_again lines both.1) refl

@@ -29,7 +29,8 @@ regroup : (front : List Line) (line : Line) (read : Option (List Line)) → with
 regroup front line (Some more) = ap (λ (lines : List Line). Some lines) (simp append_assoc)
 regroup front line None = refl
 
-pub goes_on : (front : List Line) (rest whole : List ℕ) (x : List ℕ × List ℕ) (line : Line) → lines_of whole ≡ with_front front (lines_of rest) → Some x ≡ split_once_at 10 rest → Some line ≡ line_at x.0 → lines_of whole ≡ with_front (front ++ line ∷ []) (lines_of x.1)
+pub goes_on : (front : List Line) (rest whole : List ℕ) (x : List ℕ × List ℕ) (line : Line) → lines_of whole ≡ with_front front (lines_of rest) → Some x ≡ split_once_at 10 rest →
+    Some line ≡ line_at x.0 → lines_of whole ≡ with_front (front ++ line ∷ []) (lines_of x.1)
 goes_on front rest whole x line so_far e is =
     so_far ∙ rw (lines_more rest x (sym e), ← is) (regroup front line (lines_of x.1))
 

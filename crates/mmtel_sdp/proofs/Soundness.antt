@@ -10,7 +10,8 @@ use Rattle.mmtel_base.specs.Scanning.{after_byte, after_text}
 use Rattle.mmtel_base.proofs.ChainTheorems.{bind_some, guard_some, where_some, unless_some, some_is}
 use Rattle.mmtel_base.proofs.Runs.{and_true}
 use Rattle.mmtel_sdp.specs.Lines.{lines_of}
-use Rattle.mmtel_sdp.specs.Sdp.{is_medium, before_media, Section, sections, words, is_filled, MediaLine, media_line_in, media_line, first_of, attribute, map_of, map_in, map_under, medium_from, medium_of, media_of, has_session_head, view_from, session_of, sdp_of}
+use Rattle.mmtel_sdp.specs.Sdp.{is_medium, before_media, Section, sections, words, is_filled, MediaLine, media_line_in, media_line, first_of, attribute}
+use Rattle.mmtel_sdp.specs.Sdp.{map_of, map_in, map_under, medium_from, medium_of, media_of, has_session_head, view_from, session_of, sdp_of}
 use Rattle.mmtel_sdp.specs.declared.lines.Line.{Line}
 use Rattle.mmtel_sdp.specs.declared.values.Medium.{Medium}
 use Rattle.mmtel_sdp.specs.declared.values.SdpView.{SdpView}
@@ -160,7 +161,8 @@ medium_sound under head None medium plain all e is = absurd cc
 medium_sound under head (Some said) medium plain all e is =
     let words = stated_sound head said all e in
     let made : Medium = record { kind = said.kind; proto = said.proto; format = said.format; map = map_under said.format under } in
-    let here : IsSound (record { kind = said.kind; proto = said.proto; format = said.format; map = map_under said.format under }) = record { kind = words.kind; proto = words.proto; format = words.format; map = map_sound said.format under plain } in
+    let here : IsSound (record { kind = said.kind; proto = said.proto; format = said.format; map = map_under said.format under }) =
+    record { kind = words.kind; proto = words.proto; format = words.format; map = map_sound said.format under plain } in
     subst (λ (m : Medium). IsSound m) (some_is (record { kind = said.kind; proto = said.proto; format = said.format; map = map_under said.format under }) medium is) here
 
 media_sound : (parts : List Section) (media : List Medium) → list_all plain_part parts ≡ true → media_of parts ≡ Some media → AreSound media

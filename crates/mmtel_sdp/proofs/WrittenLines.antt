@@ -39,7 +39,8 @@ rest_lines port direction false media = answer_media_lines port direction media
 pub record IsWrittenSoFar (port : ℕ) (direction : Direction) (taken : Bool) (out : List ℕ) (rest : List Medium) (whole : List ℕ) : Type 0 where
   pub same : out ++ text_of (rest_lines port direction taken rest) ≡ whole
 
-pub answer_is : (view : SdpView) (mixer : Mixer) (direction : Direction) (media : List Medium) (out whole : List ℕ) → media ≡ view.media → direction ≡ answer_direction view.direction → out ≡ text_of (session_lines mixer) → whole ≡ out ++ text_of (answer_media_lines mixer.port direction media) → whole ≡ answer_text view mixer
+pub answer_is : (view : SdpView) (mixer : Mixer) (direction : Direction) (media : List Medium) (out whole : List ℕ) → media ≡ view.media → direction ≡ answer_direction view.direction →
+    out ≡ text_of (session_lines mixer) → whole ≡ out ++ text_of (answer_media_lines mixer.port direction media) → whole ≡ answer_text view mixer
 unfolding answer_text
 answer_is view mixer direction media out whole same turned one two =
     two ∙ rw (one, same, turned) (sym (text_of_both (session_lines mixer) (answer_media_lines mixer.port (answer_direction view.direction) view.media)))

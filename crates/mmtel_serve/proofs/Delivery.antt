@@ -29,10 +29,12 @@ delivered_nothing none s given d token loaded es fuel serves short enough = (
   none d.peers.known given,
 )
 
-module _ (law : NumbersNeverFall) (always : GivesAlways) (both : PartsAreDelivered) (xs : List EventRecord) (s t : Server) (first : ContinuesServingBy xs s t) (given between : Option LinkOutput) (gave : DeliveredOn xs s given between) where
+module _ (law : NumbersNeverFall) (always : GivesAlways) (both : PartsAreDelivered) (xs : List EventRecord) (s t : Server) (first : ContinuesServingBy xs s t) (given between : Option LinkOutput)
+    (gave : DeliveredOn xs s given between) where
   -- in a run of all these and then of more, by so many firings
   front : (ys : List EventRecord) (d : Directory) (token : List ℕ) (loaded : Texts) (es : List EventRecord) (fuel : ℕ) → RepresentsRun d token loaded es s → IsShortRun d token loaded (es ++ (xs ++ ys))
-      → IsEnough d token loaded fuel (es ++ (xs ++ ys)) → (added : List Offer) × (offers_of_run d token loaded fuel (es ++ xs) ≡ offers_of_run d token loaded fuel es ++ added) × Delivered d.peers.known added given between
+      → IsEnough d token loaded fuel (es ++ (xs ++ ys)) →
+      (added : List Offer) × (offers_of_run d token loaded fuel (es ++ xs) ≡ offers_of_run d token loaded fuel es ++ added) × Delivered d.peers.known added given between
   front ys d token loaded es fuel serves short enough =
       gave d token loaded es fuel serves (few_first law always xs ys d token loaded es short)
       (enough_of_front d token loaded fuel (es ++ xs) ys (subst (λ (l : List EventRecord). IsEnough d token loaded fuel l) (whole law always xs ys es) enough))

@@ -41,7 +41,8 @@ sent_there known offers (Some given) (Some now) addr texts gave seen =
     ∙ (bytes_then addr (map send_of given.offers) (map send_of gave.sent)
     ∙ ap (λ (l : List (List ℕ)). bytes_to addr (map send_of given.offers) ++ l) (ap (bytes_to addr) gave.sends_same ∙ seen)))
 
-pub kept_of : OffersKeepNoninterference → GivesAlways → BytesAreSeen → (recorded : List EventRecord) (old : Server) (given now : Option LinkOutput) → DeliveredOn recorded old given now → KeepsNoninterference recorded old given now
+pub kept_of : OffersKeepNoninterference → GivesAlways → BytesAreSeen → (recorded : List EventRecord) (old : Server) (given now : Option LinkOutput) → DeliveredOn recorded old given now →
+    KeepsNoninterference recorded old given now
 kept_of keeps always bytes recorded old given now gave d token loaded serves short =
     let enough = always d token loaded recorded in
     let here = gave d token loaded [] enough.0 serves short enough.1 in

@@ -45,7 +45,8 @@ module _ (laws : RunTheorems) (none : NothingIsDelivered) (both : PartsAreDelive
 
     read_more : (link : LinkState) → ReadsOn link → ReadsBetween start.link.input link.input start.link.output mid.link.output start.link.delivery_faults link.delivery_faults
     read_more link each =
-        reads_then start.link.input mid.link.input link.input start.link.output mid.link.output start.link.delivery_faults mid.link.delivery_faults link.delivery_faults (events_in s.recorded) s.effect.receives s.read each
+        reads_then start.link.input mid.link.input link.input start.link.output mid.link.output start.link.delivery_faults mid.link.delivery_faults link.delivery_faults
+        (events_in s.recorded) s.effect.receives s.read each
 
     front_kept : (recorded : List EventRecord) (given : Option LinkOutput) → DeliveryAborted recorded start.server start.link.output given → KeepsNoninterferenceSoFar recorded start.server start.link.output given
     front_kept recorded given gave = front_of keeps laws.always bytes recorded start.server start.link.output given gave
@@ -159,7 +160,8 @@ module _ (laws : RunTheorems) (none : NothingIsDelivered) (both : PartsAreDelive
       }
 
       -- it failed
-      pub fails : StaysOrRises mid.link.delivery_faults link.delivery_faults → (e : DriveFault) → ReceivesEvent mid.link.input link.input mid.link.delivery_faults link.delivery_faults (Err e) → ServeEffect most start (since link) (Err e)
+      pub fails : StaysOrRises mid.link.delivery_faults link.delivery_faults → (e : DriveFault) → ReceivesEvent mid.link.input link.input mid.link.delivery_faults link.delivery_faults (Err e) →
+          ServeEffect most start (since link) (Err e)
       fails stands LinkFault told = record {
         recorded = s.recorded;
         effect = made_failed laws start s.recorded turns mid s.effect most link less told.0;

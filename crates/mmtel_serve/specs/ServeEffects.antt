@@ -85,7 +85,8 @@ DeliveredOn recorded old given now =
 abbrev pub DeliveredUpTo : (done last : List EventRecord) → Server → Option LinkOutput → Option LinkOutput → Type 0
 DeliveredUpTo done last old given now =
     (directory : Directory) (token : List ℕ) (loaded : Texts) (earlier : List EventRecord) (fuel : ℕ) →
-    RepresentsRun directory token loaded earlier old → IsShortRun directory token loaded (earlier ++ (done ++ last)) → IsEnough directory token loaded fuel (earlier ++ (done ++ last)) →
+    RepresentsRun directory token loaded earlier old → IsShortRun directory token loaded (earlier ++ (done ++ last)) →
+    IsEnough directory token loaded fuel (earlier ++ (done ++ last)) →
     (added : List Offer)
     × IsPrefixBetween (offers_of_run directory token loaded fuel (earlier ++ done)) (offers_of_run directory token loaded fuel earlier ++ added)
     (offers_of_run directory token loaded fuel (earlier ++ (done ++ last)))

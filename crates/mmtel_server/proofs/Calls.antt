@@ -68,7 +68,8 @@ module _ (d : Directory) (token : List ℕ) (before out : List Offer) (s : Serve
 
     module _ (left : CallsView) (tokens : TokensView) (waiting : List Row) (drawn : tokens ≡ record { token = token; drawn = output.tokens.drawn })
         (taken_over : waiting ≡ s.waiting ++ calls.table.rows)
-        (dropped : (peers : Peers) (accounts : List AccountIdentity) (ops : List TableOp) → histories.Represents peers accounts calls ops → histories.Represents peers accounts left (Drops (length calls.table.rows) ∷ ops))
+        (dropped : (peers : Peers) (accounts : List AccountIdentity) (ops : List TableOp) → histories.Represents peers accounts calls ops →
+        histories.Represents peers accounts left (Drops (length calls.table.rows) ∷ ops))
         (stays_then : (peers : Peers) (accounts : List AccountIdentity) → site_in left peers accounts ≡ site_in calls peers accounts) where
       site_left : site_in left d.peers d.names.accounts ≡ call_config d
       site_left = stays_then d.peers d.names.accounts ∙ site_then
@@ -168,7 +169,8 @@ module _ (told : CallsSeeWhatIsInForce) (seen : CallsSeeRecordsAlone) (draws : N
         ∙ (ap (λ (m : TableStep). m.output.tokens) brings
         ∙ ap (λ (t : List ℕ). let r : TokensView = record { token = t; drawn = (output_of_signal d token at x w).tokens.drawn } in r) (draws.calls (call_config d) w.call_ops (received_now token at x w)).same)
 
-    pub hear : (emits ≡ (output_of_signal d token at x w).out) × RepresentsWithOffers d token before (record s { calls = left; tokens = tokens; waiting = waiting }) out (after_call_operation (Receives (received_now token at x w)) (output_of_signal d token at x w) w)
+    pub hear : (emits ≡ (output_of_signal d token at x w).out) × RepresentsWithOffers d token before (record s { calls = left; tokens = tokens; waiting = waiting }) out
+        (after_call_operation (Receives (received_now token at x w)) (output_of_signal d token at x w) w)
     hear = (
       sent w.call_ops (stand d token before out s w have) ∙ ap (λ (m : TableStep). m.output.out) brings,
       brought d token before out s w have (Receives (received_signal at s x)) (Receives (received_now token at x w)) (output_of_signal d token at x w) table_same refl calls done stays left tokens waiting tokens_are
@@ -192,7 +194,8 @@ module _ (draws : NumbersNeverFall) (d : Directory) (token : List ℕ) (before o
   module _ (calls left : CallsView) (tokens : TokensView) (emits : List Emit) (waiting : List Row)
       (done : (ops : List TableOp) → histories.Represents those known s.calls ops → histories.Represents those known calls (Finishes call.0 at s.tokens ∷ ops))
       (sent : (ops : List TableOp) → histories.Represents those known s.calls ops → emits ≡ (step_on_finish (site_in s.calls those known) call.0 at s.tokens (table_after (site_in s.calls those known) ops)).output.out)
-      (drew : (ops : List TableOp) → histories.Represents those known s.calls ops → tokens ≡ (step_on_finish (site_in s.calls those known) call.0 at s.tokens (table_after (site_in s.calls those known) ops)).output.tokens)
+      (drew : (ops : List TableOp) → histories.Represents those known s.calls ops →
+      tokens ≡ (step_on_finish (site_in s.calls those known) call.0 at s.tokens (table_after (site_in s.calls those known) ops)).output.tokens)
       (stays : (peers : Peers) (accounts : List AccountIdentity) → site_in calls peers accounts ≡ site_in s.calls peers accounts)
       (taken_over : waiting ≡ s.waiting ++ calls.table.rows)
       (dropped : (peers : Peers) (accounts : List AccountIdentity) (ops : List TableOp) → histories.Represents peers accounts calls ops → histories.Represents peers accounts left (Drops (length calls.table.rows) ∷ ops))

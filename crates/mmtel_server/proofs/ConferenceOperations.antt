@@ -168,7 +168,8 @@ module _ (f : TokensView → TableOp) (s : Server) (mid new : RoomsView) (waitin
     opens op is closes d token before out w have =
         let mine : f (tokens_now token w) ≡ op = is (tokens_now token w) in
         let those : Closes (f (tokens_now token w)) = subst Closes (sym mine) closes in
-        subst (λ (x : TableOp). (emits ≡ (output_of_conference_op d x w).out) × RepresentsWithOffers d token before (record s { rooms = new; waiting = waiting }) out (after_conference_operation x (output_of_conference_op d x w) w)) mine
+        subst (λ (x : TableOp). (emits ≡ (output_of_conference_op d x w).out)
+        × RepresentsWithOffers d token before (record s { rooms = new; waiting = waiting }) out (after_conference_operation x (output_of_conference_op d x w) w)) mine
         (sent w.conference_ops (stand d token before out w have those) ∙ ap (λ (e : Effects). e.output.out) (brought d token before out w have those), lodged d token before out w have those)
 
     pub does : ConferencesDrawOn → (closes : (t : TokensView) → Closes (f t)) → (own : (t : TokensView) → tokens_of_op (f t) ≡ t) → (tokens : TokensView)

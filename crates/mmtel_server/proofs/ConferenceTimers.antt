@@ -16,7 +16,10 @@ use Rattle.mmtel_leg.specs.declared.legs.Released.{Released}
 use Rattle.mmtel_run_definitions.specs.OwnResponses.{plain_response, response_to}
 use Rattle.mmtel_run_definitions.specs.Ownership.{account_of_side, is_of_peer, replaced_side, replacement_in, status_of_fault}
 use Rattle.mmtel_run_definitions.specs.ShortRuns.{tokens_of_op}
-use Rattle.mmtel_run_definitions.specs.Transitions.{RunState, adoption_op, after_adoption_if, after_call_end, after_conference_invite, after_conference_op, after_conference_signal, after_detach, after_factory_invite, after_join_if, after_newcomer_refusal, after_opening_if, after_participant_request, after_refer_notify, after_replaces, after_replacing, after_replacing_named, after_replacing_side, calls_in, conference_signal_op, conferences_in, join_op, next_tag, opening_op, output_of_conference_op, tokens_now, with_call_op, with_conference_output, with_draws, with_emits}
+use Rattle.mmtel_run_definitions.specs.Transitions.{RunState, adoption_op, after_adoption_if, after_call_end, after_conference_invite, after_conference_op, after_conference_signal}
+use Rattle.mmtel_run_definitions.specs.Transitions.{after_detach, after_factory_invite, after_join_if, after_newcomer_refusal, after_opening_if, after_participant_request, after_refer_notify}
+use Rattle.mmtel_run_definitions.specs.Transitions.{after_replaces, after_replacing, after_replacing_named, after_replacing_side, calls_in, conference_signal_op, conferences_in, join_op}
+use Rattle.mmtel_run_definitions.specs.Transitions.{next_tag, opening_op, output_of_conference_op, tokens_now, with_call_op, with_conference_output, with_draws, with_emits}
 use Rattle.mmtel_transaction.specs.declared.words.Emit.{Emit}
 use Rattle.mmtel_transaction.specs.declared.words.Emit.TheVariants as emit
 use Rattle.mmtel_transaction.specs.declared.words.TKey.{TKey}

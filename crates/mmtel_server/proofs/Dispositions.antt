@@ -7,7 +7,9 @@ use Rattle.mmtel_lex.specs.Reading.{Refusal, uri_of}
 use Rattle.mmtel_lex.specs.declared.values.Uri.{Uri}
 use Rattle.mmtel_message.specs.Faults.{is_method}
 use Rattle.mmtel_run_definitions.specs.OwnResponses.{StatusResponse, plain_response}
-use Rattle.mmtel_run_definitions.specs.Refusals.{Disposition, Respond, Enter, EnterConference, OpenCall, OpenConference, JoinConference, Register, Subscribe, EnterSubscription, disposition_by_method, disposition, disposition_by, in_dialog_disposition, first_that_applies, entry_into, invite_disposition_at, is_of_no_subscription, is_factory, is_register, is_conference, is_subscribe, refusals, registration_disposition, registration_disposition_of, conference_number, to_account, audio_or_refusal}
+use Rattle.mmtel_run_definitions.specs.Refusals.{Disposition, Respond, Enter, EnterConference, OpenCall, OpenConference, JoinConference, Register, Subscribe, EnterSubscription, disposition_by_method}
+use Rattle.mmtel_run_definitions.specs.Refusals.{disposition, disposition_by, in_dialog_disposition, first_that_applies, entry_into, invite_disposition_at, is_of_no_subscription, is_factory, is_register}
+use Rattle.mmtel_run_definitions.specs.Refusals.{is_conference, is_subscribe, refusals, registration_disposition, registration_disposition_of, conference_number, to_account, audio_or_refusal}
 use Rattle.mmtel_run_definitions.specs.Ownership.{DialogOwner, InCall, InConference, InSubscription}
 use Rattle.mmtel_sdp.specs.Offers.{offers_audio}
 use Rattle.mmtel_trust.specs.ParsedMessage.{ParsedMessage}

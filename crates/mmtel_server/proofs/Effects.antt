@@ -18,7 +18,8 @@ use Rattle.mmtel_run_theorems.specs.Outcome.{CallsOfRunsReachOutcome}
 use Rattle.mmtel_run_theorems.specs.ChargingRecords.{RunParticipantsChargedOnce}
 use Rattle.mmtel_web_service.specs.KeeperCalls.{CountsFaults, IsKeeperResult}
 use Rattle.mmtel_web.specs.Handling.{KeeperOutcomeView}
-use Rattle.mmtel_server.specs.DriveEffects.{CallsReachOutcome, ChargesParticipants, ContinuesServingBy, HoldsUploads, IsAtEnd, KeeperResultsButLast, KeeperResultsOfRun, ReceivesMore, RunEffect, SendsNoInjectionInRun, with_uploads_and_rows}
+use Rattle.mmtel_server.specs.DriveEffects.{CallsReachOutcome, ChargesParticipants, ContinuesServingBy, HoldsUploads, IsAtEnd, KeeperResultsButLast}
+use Rattle.mmtel_server.specs.DriveEffects.{KeeperResultsOfRun, ReceivesMore, RunEffect, SendsNoInjectionInRun, with_uploads_and_rows}
 use Rattle.mmtel_server.specs.Follows.{NumbersNeverFall}
 use Rattle.mmtel_server_timers.specs.Handover.{accepted_rows}
 use Rattle.mmtel_server.specs.Theorems.{RunTheorems}
@@ -31,7 +32,8 @@ use Rattle.mmtel_server.specs.declared.servers.Server.{Server}
 use Rattle.mmtel_server.proofs.Charging.{charged}
 use Rattle.mmtel_server.proofs.Prefixes.{enough_of_front, short_front}
 use Rattle.mmtel_server.proofs.Received.{receives_nothing, receives_still, receives_then}
-use Rattle.mmtel_server.proofs.Keeping.{all_then, counted_last, counted_lost, counted_one, counted_then, events_lost, holds_lost, holds_nothing, holds_one, holds_unaccepted, length_lost, lost_events, results_last, results_lost, results_one, results_then, uploads_both}
+use Rattle.mmtel_server.proofs.Keeping.{all_then, counted_last, counted_lost, counted_one, counted_then, events_lost, holds_lost, holds_nothing, holds_one}
+use Rattle.mmtel_server.proofs.Keeping.{holds_unaccepted, length_lost, lost_events, results_last, results_lost, results_one, results_then, uploads_both}
 
 -- ---- lists
 

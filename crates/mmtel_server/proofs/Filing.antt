@@ -19,7 +19,10 @@ use Rattle.mmtel_run_definitions.specs.Ownership.{DialogOwner, InSubscription, I
 use Rattle.mmtel_run_definitions.specs.Run.{after_deadline_if, after_due_deadlines, after_one_deadline, first_due_deadline}
 use Rattle.mmtel_run_definitions.specs.ShortRuns.{tokens_of_op}
 use Rattle.mmtel_run_definitions.proofs.MailboxTransitions as boxes
-use Rattle.mmtel_run_definitions.specs.Transitions.{RunState, subscriptions_in, after_web_reply, after_ack_by, after_service_timer, after_classified_message, with_next_step, calls_in, after_cancel, after_cancel_of, output_of_conference_op, with_emit, with_emits, after_event_end, after_transaction_end, after_call_end, after_deadline, after_handover, conference_signal_op, received_now, with_received_action, dialog_owner_in, after_conference_op, with_conference_output, after_parsed_event, with_retransmission, after_response_to, after_due, after_conference_signal, after_call_signal, after_request_timeout, after_disposition, tokens_now}
+use Rattle.mmtel_run_definitions.specs.Transitions.{RunState, subscriptions_in, after_web_reply, after_ack_by, after_service_timer, after_classified_message, with_next_step, calls_in, after_cancel}
+use Rattle.mmtel_run_definitions.specs.Transitions.{after_cancel_of, output_of_conference_op, with_emit, with_emits, after_event_end, after_transaction_end, after_call_end, after_deadline, after_handover}
+use Rattle.mmtel_run_definitions.specs.Transitions.{conference_signal_op, received_now, with_received_action, dialog_owner_in, after_conference_op, with_conference_output, after_parsed_event}
+use Rattle.mmtel_run_definitions.specs.Transitions.{with_retransmission, after_response_to, after_due, after_conference_signal, after_call_signal, after_request_timeout, after_disposition, tokens_now}
 use Rattle.mmtel_transaction.specs.Results.{after_firing, due_result, hear_result, is_merged, next_due}
 use Rattle.mmtel_transaction.specs.Operations.{live}
 use Rattle.mmtel_transaction.specs.declared.words.Due.{Due}

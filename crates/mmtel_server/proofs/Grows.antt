@@ -25,7 +25,12 @@ use Rattle.mmtel_run_definitions.specs.Refusals.{Disposition, Respond, Enter, En
 use Rattle.mmtel_run_definitions.specs.Ownership.{DialogOwner, InSubscription, InCall, InConference, OfSubscriptions, OfCalls, OfConferences, Owner, owner_of_branch, conference_config}
 use Rattle.mmtel_run_definitions.specs.ShortRuns.{IsShort, tokens_of_op}
 use Rattle.mmtel_run_definitions.proofs.MailboxTransitions as boxes
-use Rattle.mmtel_run_definitions.specs.Transitions.{RunState, with_timer, subscriptions_in, after_web_request, after_ack, after_ack_by, after_classified_message, with_next_step, with_call_output, calls_in, after_event, after_cancel, after_cancel_of, output_of_conference_op, with_draws, with_emit, with_emits, after_event_end, after_participant_request, after_call_end, after_handover, received_now, with_received_action, dialog_owner_in, after_conference_op, after_conference_invite, with_call_op, with_conference_output, after_parsed_event, after_refer_notify, with_offers, after_factory_invite, with_refusal_of_bytes, with_registration, with_retransmission, with_response, with_stateless_response, after_response, after_response_to, after_conference_signal, after_web_reply, after_call_signal, after_disposition, after_new_request, tokens_now, after_message, after_message_as}
+use Rattle.mmtel_run_definitions.specs.Transitions.{RunState, with_timer, subscriptions_in, after_web_request, after_ack, after_ack_by, after_classified_message, with_next_step, with_call_output}
+use Rattle.mmtel_run_definitions.specs.Transitions.{calls_in, after_event, after_cancel, after_cancel_of, output_of_conference_op, with_draws, with_emit, with_emits, after_event_end}
+use Rattle.mmtel_run_definitions.specs.Transitions.{after_participant_request, after_call_end, after_handover, received_now, with_received_action, dialog_owner_in, after_conference_op}
+use Rattle.mmtel_run_definitions.specs.Transitions.{after_conference_invite, with_call_op, with_conference_output, after_parsed_event, after_refer_notify, with_offers, after_factory_invite}
+use Rattle.mmtel_run_definitions.specs.Transitions.{with_refusal_of_bytes, with_registration, with_retransmission, with_response, with_stateless_response, after_response, after_response_to}
+use Rattle.mmtel_run_definitions.specs.Transitions.{after_conference_signal, after_web_reply, after_call_signal, after_disposition, after_new_request, tokens_now, after_message, after_message_as}
 use Rattle.mmtel_transaction.specs.Results.{hear_result, is_merged}
 use Rattle.mmtel_transaction.specs.Operations.{TransactionOp, live}
 use Rattle.mmtel_transaction.specs.declared.words.Emit.{Emit}

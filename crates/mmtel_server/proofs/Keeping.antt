@@ -148,7 +148,8 @@ puts_then [] ys texts = refl
 puts_then (x ∷ xs) ys texts = puts_then xs ys _
 
 -- and then more
-pub all_then : (xs ys : Texts) (rows more : List Row) (held : Option KeeperContents) → option_map (with_uploads_and_rows ys more) (option_map (with_uploads_and_rows xs rows) held) ≡ option_map (with_uploads_and_rows (xs ++ ys) (rows ++ more)) held
+pub all_then : (xs ys : Texts) (rows more : List Row) (held : Option KeeperContents) →
+    option_map (with_uploads_and_rows ys more) (option_map (with_uploads_and_rows xs rows) held) ≡ option_map (with_uploads_and_rows (xs ++ ys) (rows ++ more)) held
 all_then xs ys rows more None = refl
 all_then xs ys rows more (Some h) =
     ap (λ (sheets : Texts). holding sheets ((h.rows ++ rows) ++ more)) (sym (puts_then xs ys h.sheets))
@@ -171,7 +172,8 @@ by_web web.Charges failed rows held left calls after a = a.0 ∙ unchanged held
 by_web web.Charges no_memory rows held left calls after a = a.0 ∙ unchanged held
 
 -- by how it was called in an event
-holds_stored : (names : WebDirectory) (e : Event) (kept : KeeperOutcomeView) (rows : List Row) (held left : Option KeeperContents) (calls after : Option KeeperCalls) → IsKeeperResult (call_of names e) kept rows held left calls after
+holds_stored : (names : WebDirectory) (e : Event) (kept : KeeperOutcomeView) (rows : List Row) (held left : Option KeeperContents) (calls after : Option KeeperCalls) →
+    IsKeeperResult (call_of names e) kept rows held left calls after
     → left ≡ option_map (with_uploads_and_rows (option_to_list (upload_at names e kept)) []) held
 holds_stored names (event.Datagram from at bytes) kept rows held left calls after a = a.1.0 ∙ unchanged held
 holds_stored names (event.Web at bytes) kept rows held left calls after a = by_web (web_of names [] (request_of bytes)) kept rows held left calls after a
@@ -211,8 +213,12 @@ uploads_both names (x ∷ xs) ys =
 -- ---- in a run
 
 pub holds_nothing : (s : Server) (held : Option KeeperContents) → HoldsUploads [] s held held
-holds_nothing s held d token loaded es fuel enough serves short =
-    ([], ap (λ (l : List EventRecord). (after_events d token fuel (timed_events d l) (initial_state loaded)).filed) (append-nil es) ∙ sym (append-nil (after_events d token fuel (timed_events d es) (initial_state loaded)).filed), unchanged held)
+holds_nothing s held d token loaded es fuel enough serves short = (
+  [],
+  ap (λ (l : List EventRecord). (after_events d token fuel (timed_events d l) (initial_state loaded)).filed) (append-nil es)
+      ∙ sym (append-nil (after_events d token fuel (timed_events d es) (initial_state loaded)).filed),
+  unchanged held,
+)
 
 pub holds_unaccepted : (one : EventRecord) (s : Server) (held left : Option KeeperContents) (calls midst : Option KeeperCalls) → one.accepted ≡ false
     → ((d : Directory) (token : List ℕ) (loaded : Texts) (es : List EventRecord) → RepresentsRun d token loaded es s → IsShortRun d token loaded (es ++ one ∷ [])

@@ -116,5 +116,6 @@ full_done s t s2 out out2 at peer source trusted m x f stays is follows d token 
     let why : (x ≡ m) × (class_of (head_of m) (live w.actions) ≡ part.Full) = subst (λ (g : HearFault). IsRefusal (class_of (head_of m) (live w.actions)) m g) is h.1 in
     let none : None ≡ hear_result w.actions peer m = sym (ap (λ (p : MessageClass). class_result (length (openings w.actions)) (live w.actions) peer m p) why.1) in
     let same : after_classified_message d token at (message_view peer source trusted x) None w ≡ after_message d token at (message_view peer source trusted m) w =
-    ap (λ (y : Message Start). after_classified_message d token at (message_view peer source trusted y) None w) why.0 ∙ ap (λ (o : Option Heard). after_message_as d token at (message_view peer source trusted m) o w) none in
+    ap (λ (y : Message Start). after_classified_message d token at (message_view peer source trusted y) None w) why.0
+    ∙ ap (λ (o : Option Heard). after_message_as d token at (message_view peer source trusted m) o w) none in
     subst (λ (y : RunState). RepresentsWithOffers d token before s2 out2 y) same (follows d token before w (goes_on d token before s t out w w.actions did h.0) (subst IsShort (sym same) short))

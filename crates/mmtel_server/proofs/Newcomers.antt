@@ -36,7 +36,8 @@ module _ (law : NumbersNeverFall) (old mid : Server) (out : List Offer) (at : �
       (cut.0, prefix_on now (before ++ left.offers) (before ++ all.offers) cut.1 (prefix_of before (before ++ left.offers) left all (ends law d token at took left) refl))
 
   -- memory ran out while the CDRs that waited were handed over
-  pub broke_handing : (t : Server) (now : List Offer) → Follows (record mid { clock = at }) out t now (λ d token. after_parsed_event d token at (x d)) → AddsOfferPrefix old out now (λ d token. after_event d token at (x d) took)
+  pub broke_handing : (t : Server) (now : List Offer) → Follows (record mid { clock = at }) out t now (λ d token. after_parsed_event d token at (x d)) →
+      AddsOfferPrefix old out now (λ d token. after_event d token at (x d) took)
   broke_handing t now follows d token before w did short =
       let from : RunState = there d token before w did short in
       let left : RunState = done d token before w did short in

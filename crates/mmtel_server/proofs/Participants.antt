@@ -23,7 +23,9 @@ use Rattle.mmtel_message.specs.Faults.{is_method}
 use Rattle.mmtel_environment.specs.declared.events.Offer.{Offer}
 use Rattle.mmtel_run_definitions.specs.Ownership.{account_at, account_of_side, is_accepted, is_of_peer, leg_by, replaced_side, replacement_in, replaces_by, status_of_fault}
 use Rattle.mmtel_run_definitions.specs.ShortRuns.{IsShort, tokens_of_op}
-use Rattle.mmtel_run_definitions.specs.Transitions.{RunState, adoption_op, after_adoption_if, after_call_end, after_conference_op, after_conference_signal, after_detach, after_join_if, after_newcomer_refusal, after_opening_if, after_participant_request, after_refer_notify, after_replaces, after_replacing, after_replacing_named, after_replacing_side, calls_in, conference_signal_op, conferences_in, next_tag, output_of_conference_op, tokens_now, with_call_op, with_conference_output, with_draws, with_emits}
+use Rattle.mmtel_run_definitions.specs.Transitions.{RunState, adoption_op, after_adoption_if, after_call_end, after_conference_op, after_conference_signal, after_detach, after_join_if, after_newcomer_refusal}
+use Rattle.mmtel_run_definitions.specs.Transitions.{after_opening_if, after_participant_request, after_refer_notify, after_replaces, after_replacing, after_replacing_named, after_replacing_side, calls_in}
+use Rattle.mmtel_run_definitions.specs.Transitions.{conference_signal_op, conferences_in, next_tag, output_of_conference_op, tokens_now, with_call_op, with_conference_output, with_draws, with_emits}
 use Rattle.mmtel_base.specs.Numbers.{token_text}
 use Rattle.mmtel_transaction.specs.Tokens.{TokensView}
 use Rattle.mmtel_transaction.specs.declared.words.Emit.{Emit}
@@ -36,7 +38,8 @@ use Rattle.mmtel_types.specs.declared.numbers.RoomNo.{RoomNo}
 use Rattle.mmtel_types.specs.declared.sides.Side.{Side}
 use Rattle.mmtel_server.proofs.Owners.{breaks_so, follows_so}
 use Rattle.mmtel_server.proofs.Operations.{done_breaks, done_follows, draw_is_small, drew}
-use Rattle.mmtel_server.proofs.Grows.{Grows, draws, followed, grows_on, grows_on_call_end, grows_with_call_op, grows_with_conference_op, grows_with_conference_output, grows_with_emits, offer_prefix_added, prefix_of, prefix_on, same, seats, short_of}
+use Rattle.mmtel_server.proofs.Grows.{Grows, draws, followed, grows_on, grows_on_call_end, grows_with_call_op, grows_with_conference_op}
+use Rattle.mmtel_server.proofs.Grows.{grows_with_conference_output, grows_with_emits, offer_prefix_added, prefix_of, prefix_on, same, seats, short_of}
 use Rattle.mmtel_server.proofs.ConferenceOperations.{Closes}
 use Rattle.mmtel_server.proofs.ConferenceTimers as words
 use Rattle.mmtel_server.specs.Follows.{AddsOfferPrefix, ConferencesOpen, ConferencesPerform, Follows, NumbersNeverFall, after_conference_draw, after_conference_operation}
@@ -62,13 +65,16 @@ enters_own room at leg account (joining.Referred by) t = refl
 
 module _ (law : NumbersNeverFall) (d : Directory) (token : List ℕ) (at : ℕ) where
   pub turns_away_grows : (key : TKey) (s : MessageView) (tag : List ℕ) (code : ℕ) (w : RunState) → Grows w (after_newcomer_refusal d at key s tag code w)
-  turns_away_grows = words.turns_away Grows grows_on d token at same (draws 1) (grows_with_emits at) (grows_with_conference_output at) (grows_with_conference_op law d at) grows_with_call_op (grows_on_call_end law d token at)
+  turns_away_grows = words.turns_away Grows grows_on d token at same (draws 1) (grows_with_emits at) (grows_with_conference_output at) (grows_with_conference_op law d at) grows_with_call_op
+      (grows_on_call_end law d token at)
 
   pub room_opens_grows : (key : TKey) (s : MessageView) (tag : List ℕ) (full : Bool) (w : RunState) → Grows w (after_opening_if d at key s tag full w)
-  room_opens_grows = words.room_opens Grows grows_on d token at same (draws 1) (grows_with_emits at) (grows_with_conference_output at) (grows_with_conference_op law d at) grows_with_call_op (grows_on_call_end law d token at)
+  room_opens_grows = words.room_opens Grows grows_on d token at same (draws 1) (grows_with_emits at) (grows_with_conference_output at) (grows_with_conference_op law d at) grows_with_call_op
+      (grows_on_call_end law d token at)
 
   pub room_joins_grows : (key : TKey) (s : MessageView) (room : RoomNo) (tag : List ℕ) (found : Result ℕ RoomFault) (w : RunState) → Grows w (after_join_if d token at key s room tag found w)
-  room_joins_grows = words.room_joins Grows grows_on d token at same (draws 1) (grows_with_emits at) (grows_with_conference_output at) (grows_with_conference_op law d at) grows_with_call_op (grows_on_call_end law d token at)
+  room_joins_grows = words.room_joins Grows grows_on d token at same (draws 1) (grows_with_emits at) (grows_with_conference_output at) (grows_with_conference_op law d at) grows_with_call_op
+      (grows_on_call_end law d token at)
 
   pub adopts_grows : (room : RoomNo) (seat : ℕ) (call : CallNo) (leg : Released) (account : Option Account) (found : Result ℕ RoomFault) (w : RunState)
       → Grows w (after_adoption_if d token at room seat call leg account found w)
@@ -76,13 +82,15 @@ module _ (law : NumbersNeverFall) (d : Directory) (token : List ℕ) (at : ℕ) 
 
   pub takes_out_grows : (room : RoomNo) (seat : ℕ) (call : CallNo) (side : Side) (account : Option Account) (leg : Option Released) (w : RunState)
       → Grows w (after_detach d token at room seat call side account leg w)
-  takes_out_grows = words.takes_out Grows grows_on d token at same (draws 1) (grows_with_emits at) (grows_with_conference_output at) (grows_with_conference_op law d at) grows_with_call_op (grows_on_call_end law d token at)
+  takes_out_grows = words.takes_out Grows grows_on d token at same (draws 1) (grows_with_emits at) (grows_with_conference_output at) (grows_with_conference_op law d at) grows_with_call_op
+      (grows_on_call_end law d token at)
 
   pub replaces_grows : (peer : Peer) (room : RoomNo) (seat : ℕ) (x : Replaces) (w : RunState) → Grows w (after_replacing d token at peer room seat x w)
   replaces_grows = words.replaces Grows grows_on d token at same (draws 1) (grows_with_emits at) (grows_with_conference_output at) (grows_with_conference_op law d at) grows_with_call_op (grows_on_call_end law d token at)
 
   pub replaces_asked_grows : (peer : Peer) (room : RoomNo) (seat : ℕ) (x : Option Replaces) (w : RunState) → Grows w (after_replaces d token at peer room seat x w)
-  replaces_asked_grows = words.requested_replaces Grows grows_on d token at same (draws 1) (grows_with_emits at) (grows_with_conference_output at) (grows_with_conference_op law d at) grows_with_call_op (grows_on_call_end law d token at)
+  replaces_asked_grows = words.requested_replaces Grows grows_on d token at same (draws 1) (grows_with_emits at) (grows_with_conference_output at)
+      (grows_with_conference_op law d at) grows_with_call_op (grows_on_call_end law d token at)
 
 -- ---- a tag is drawn first
 
@@ -146,12 +154,14 @@ module _ (s : Server) (P : (Directory → List ℕ → RunState → RunState) �
         → P (λ d token w. with_conference_output at (Opens (join_request at leg account key said)) (output_of_conference_op d (Opens (join_request at leg account key said)) w) w)
         → P (λ d token w. after_opening_if d at key said tag (is_table_full (conferences_in d w).live) w)
     opened_so leg account is_leg is_account free p =
-        let mine : P (opened_as account) = subst (λ (l : Leg). P (λ d token w. with_conference_output at (Opens (join_request at l account key said)) (output_of_conference_op d (Opens (join_request at l account key said)) w) w)) is_leg p in
+        let mine : P (opened_as account) =
+        subst (λ (l : Leg). P (λ d token w. with_conference_output at (Opens (join_request at l account key said)) (output_of_conference_op d (Opens (join_request at l account key said)) w) w)) is_leg p in
         let theirs : P (λ d token w. after_opening_if d at key said tag false w) = reads (Option Account) account (λ d w. caller_account d.names.accounts said.parsed) opened_as (is_callers account is_account) mine in
         reads Bool (is_table_full s.rooms.table.live) (λ d w. is_table_full (conferences_in d w).live) (λ b d token w. after_opening_if d at key said tag b w) is_full
         (subst (λ (b : Bool). P (λ d token w. after_opening_if d at key said tag b w)) (sym free) theirs)
 
-    pub unopened_so : is_table_full s.rooms.table.live ≡ true → P (λ d token w. after_newcomer_refusal d at key said tag 503 w) → P (λ d token w. after_opening_if d at key said tag (is_table_full (conferences_in d w).live) w)
+    pub unopened_so : is_table_full s.rooms.table.live ≡ true → P (λ d token w. after_newcomer_refusal d at key said tag 503 w) →
+        P (λ d token w. after_opening_if d at key said tag (is_table_full (conferences_in d w).live) w)
     unopened_so full p =
         reads Bool (is_table_full s.rooms.table.live) (λ d w. is_table_full (conferences_in d w).live) (λ b d token w. after_opening_if d at key said tag b w) is_full
         (subst (λ (b : Bool). P (λ d token w. after_opening_if d at key said tag b w)) (sym full) p)
@@ -162,7 +172,8 @@ module _ (s : Server) (P : (Directory → List ℕ → RunState → RunState) �
     is_found : (d : Directory) (token : List ℕ) (w : RunState) → Represents d token s w → access room.0 s.rooms.table.live ≡ access room.0 (conferences_in d w).live
     is_found d token w have = ap (λ (r : RoomsView). access room.0 r.table.live) have.rooms
 
-    found_so : (g : Result ℕ RoomFault → Directory → List ℕ → RunState → RunState) (x : Result ℕ RoomFault) → access room.0 s.rooms.table.live ≡ x → P (g x) → P (λ d token w. g (access room.0 (conferences_in d w).live) d token w)
+    found_so : (g : Result ℕ RoomFault → Directory → List ℕ → RunState → RunState) (x : Result ℕ RoomFault) → access room.0 s.rooms.table.live ≡ x → P (g x) →
+        P (λ d token w. g (access room.0 (conferences_in d w).live) d token w)
     found_so g x is p = reads (Result ℕ RoomFault) (access room.0 s.rooms.table.live) (λ d w. access room.0 (conferences_in d w).live) g is_found (subst (λ (y : Result ℕ RoomFault). P (g y)) (sym is) p)
 
     -- the party that joins it
@@ -182,7 +193,8 @@ module _ (s : Server) (P : (Directory → List ℕ → RunState → RunState) �
       joined_so leg account is_leg is_account free p =
           found_so (λ x d token w. after_join_if d token at key said room tag x w) (access room.0 s.rooms.table.live) refl
           (joined_in (access room.0 s.rooms.table.live) free account is_account
-          (subst (λ (l : Leg). P (λ d token w. after_conference_op d at (Joins room.0 (record { at = at; tokens = tokens_now token w; leg = released.Caller l; account = account; key = key; invite = said })) w)) is_leg p))
+          (subst (λ (l : Leg). P (λ d token w. after_conference_op d at (Joins room.0 (record { at = at; tokens = tokens_now token w; leg = released.Caller l; account = account; key = key; invite = said })) w))
+          is_leg p))
 
       pub unjoined_so : (fault : RoomFault) → access room.0 s.rooms.table.live ≡ Err fault → P (λ d token w. after_newcomer_refusal d at key said tag (status_of_fault fault) w)
           → P (λ d token w. after_join_if d token at key said room tag (access room.0 (conferences_in d w).live) w)
@@ -212,7 +224,8 @@ module _ (s : Server) (P : (Directory → List ℕ → RunState → RunState) �
         → P (λ d token w. after_detach d token at room seat call side account leg w)
         → P (λ d token w. after_detach d token at room seat call side (account_of_side call side (calls_in d w).entries) (released_leg_of call.0 side (calls_in d w).entries) w)
     taken_so call side known account leg is_account is_known is_leg p =
-        reads (Option Account × Option Released) (account, leg) (λ d w. (account_of_side call side (calls_in d w).entries, released_leg_of call.0 side (calls_in d w).entries)) (λ x d token w. after_detach d token at room seat call side x.0 x.1 w)
+        reads (Option Account × Option Released) (account, leg) (λ d w. (account_of_side call side (calls_in d w).entries, released_leg_of call.0 side (calls_in d w).entries))
+        (λ x d token w. after_detach d token at room seat call side x.0 x.1 w)
         (λ d token w have i. (
           (is_account ∙ ap account_at (is_known d token w have)) i,
           (sym is_leg ∙ ap (λ (c : CallsView). released_leg_of call.0 side c.table.entries) have.calls) i,
@@ -236,7 +249,8 @@ module _ (s : Server) (P : (Directory → List ℕ → RunState → RunState) �
 module _ (op : Directory → List ℕ → RunState → TableOp) (old mid : Server) (emits given : List Emit) (at : ℕ) (out now : List Offer) (is : given ≡ emits) where
   pub housed_follows : ConferencesPerform old mid op emits → (new : Server) → Follows mid out new now (λ d token. with_emits at given) → Follows old out new now (λ d token w. after_conference_op d at (op d token w) w)
   housed_follows done new follows =
-      done_follows old mid (λ d token w. output_of_conference_op d (op d token w) w) (λ d token w. after_conference_draw (op d token w) (output_of_conference_op d (op d token w) w) w) emits given at out now done is new follows
+      done_follows old mid (λ d token w. output_of_conference_op d (op d token w) w)
+      (λ d token w. after_conference_draw (op d token w) (output_of_conference_op d (op d token w) w) w) emits given at out now done is new follows
 
   pub housed_breaks : ConferencesPerform old mid op emits → AddsOfferPrefix mid out now (λ d token. with_emits at given) → AddsOfferPrefix old out now (λ d token w. after_conference_op d at (op d token w) w)
   housed_breaks done breaks =
@@ -245,11 +259,14 @@ module _ (op : Directory → List ℕ → RunState → TableOp) (old mid : Serve
   pub lodged_follows : ConferencesOpen old mid op emits → (new : Server) → Follows mid out new now (λ d token. with_emits at given)
       → Follows old out new now (λ d token w. with_conference_output at (op d token w) (output_of_conference_op d (op d token w) w) w)
   lodged_follows done new follows =
-      done_follows old mid (λ d token w. output_of_conference_op d (op d token w) w) (λ d token w. after_conference_operation (op d token w) (output_of_conference_op d (op d token w) w) w) emits given at out now done is new follows
+      done_follows old mid (λ d token w. output_of_conference_op d (op d token w) w)
+      (λ d token w. after_conference_operation (op d token w) (output_of_conference_op d (op d token w) w) w) emits given at out now done is new follows
 
-  pub lodged_breaks : ConferencesOpen old mid op emits → AddsOfferPrefix mid out now (λ d token. with_emits at given) → AddsOfferPrefix old out now (λ d token w. with_conference_output at (op d token w) (output_of_conference_op d (op d token w) w) w)
+  pub lodged_breaks : ConferencesOpen old mid op emits → AddsOfferPrefix mid out now (λ d token. with_emits at given) →
+      AddsOfferPrefix old out now (λ d token w. with_conference_output at (op d token w) (output_of_conference_op d (op d token w) w) w)
   lodged_breaks done breaks =
-      done_breaks old mid (λ d token w. output_of_conference_op d (op d token w) w) (λ d token w. after_conference_operation (op d token w) (output_of_conference_op d (op d token w) w) w) emits given at out now done is breaks
+      done_breaks old mid (λ d token w. output_of_conference_op d (op d token w) w)
+      (λ d token w. after_conference_operation (op d token w) (output_of_conference_op d (op d token w) w) w) emits given at out now done is breaks
 
 -- it broke off in the first of two
 pub broke_first : (f h : Directory → List ℕ → RunState → RunState) (old : Server) (out now : List Offer) → ((d : Directory) (token : List ℕ) (w : RunState) → Grows (f d token w) (h d token w))
@@ -305,13 +322,15 @@ module _ (law : NumbersNeverFall) (at : ℕ) (key : TKey) (said : MessageView) (
       few_due : IsShort (then_due d token (received d token w))
       few_due = subst (λ (o : Option Replaces). IsShort (after_replaces d token at said.peer room seat o (received d token w))) (sym same_due) short
 
-    pub entered_follows : (new : Server) → Follows there between new now (λ d token. after_replaces d token at said.peer room seat accepted) → Follows s out new now (λ d token. after_participant_request d token at key said room seat)
+    pub entered_follows : (new : Server) → Follows there between new now (λ d token. after_replaces d token at said.peer room seat accepted) →
+        Follows s out new now (λ d token. after_participant_request d token at key said room seat)
     entered_follows new follows d token before w did short =
         subst (λ (o : Option Replaces). RepresentsWithOffers d token before new now (after_replaces d token at said.peer room seat o (received d token w))) (same_due d token before w did short)
         (followed received then_due s there new out between now (λ d token w. replaces_asked_grows law d token at said.peer room seat accepted w) received_first follows
         d token before w did (few_due d token before w did short))
 
-    pub entered_breaks : AddsOfferPrefix there between now (λ d token. after_replaces d token at said.peer room seat accepted) → AddsOfferPrefix s out now (λ d token. after_participant_request d token at key said room seat)
+    pub entered_breaks : AddsOfferPrefix there between now (λ d token. after_replaces d token at said.peer room seat accepted) →
+        AddsOfferPrefix s out now (λ d token. after_participant_request d token at key said room seat)
     entered_breaks breaks d token before w did short =
         subst (λ (o : Option Replaces). IsPrefixBetween out now (before ++ (after_replaces d token at said.peer room seat o (received d token w)).offers)) (same_due d token before w did short)
         (offer_prefix_added received then_due s there out between now (λ d token w. seats law d token at (of_room.Request room seat key said) w)

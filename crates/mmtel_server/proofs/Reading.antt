@@ -1,5 +1,6 @@
 -- How a web connection is read: what a read adds to the bytes that were read from it, and when it is read to the end of its request.
-use Rattle.std.proofs.Common.{◌≡◌, ◌≢◌, ◌+◌, ◌<◌, ◌≤◌, ℕ, min, Bool, true, false, List, [], ◌∷◌, ◌++◌, length, take, drop, slice_get, refl, sym, ap, ◌∙◌, subst, length-append, Option, Some, None, Result, Ok, Err, arith, inl, inr}
+use Rattle.std.proofs.Common.{◌≡◌, ◌≢◌, ◌+◌, ◌<◌, ◌≤◌, ℕ, min, Bool, true, false, List, [], ◌∷◌, ◌++◌, length, take, drop, slice_get}
+use Rattle.std.proofs.Common.{refl, sym, ap, ◌∙◌, subst, length-append, Option, Some, None, Result, Ok, Err, arith, inl, inr}
 use Rattle.std.specs.Result.{IsErr}
 use Rattle.std.proofs.Math.Seq.{take-add}
 use Rattle.std.proofs.lemmas.List.{length-drop, length-take-le, take-append-le, take_all}
@@ -78,7 +79,8 @@ module _ (input : LinkInput) (bytes room filled : List ℕ) where
       let same : length bytes + 0 ≡ length bytes = omega arith in
       (false, read_there later 0 told.2 ∙ ap (λ (k : ℕ). Some (read_to input k false)) same, front, inl (inr (nothing_left some none), stands))
 
-pub read_adds : (input now later : Option LinkInput) (bytes room filled : List ℕ) (n : ℕ) → n ≤ length filled → ReadIfExposed now later room filled (Ok n) → IsReading input now bytes → IsReading input later (bytes ++ take n filled)
+pub read_adds : (input now later : Option LinkInput) (bytes room filled : List ℕ) (n : ℕ) → n ≤ length filled → ReadIfExposed now later room filled (Ok n) → IsReading input now bytes →
+    IsReading input later (bytes ++ take n filled)
 read_adds None now later bytes room filled n less told is = let P : Option LinkInput → Type 0 = λ o. ReadIfExposed o later room filled (Ok n) in subst P is told
 read_adds (Some input) now later bytes room filled n less told is =
     let P : Option LinkInput → Type 0 = λ o. ReadIfExposed o later room filled (Ok n) in

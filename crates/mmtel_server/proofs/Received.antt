@@ -1,5 +1,6 @@
 -- What is received from a link, turn after turn, and how often it is called.
-use Rattle.std.proofs.Common.{◌≡◌, ◌+◌, ◌≤◌, ℕ, zero, suc, Bool, false, List, [], ◌∷◌, ◌++◌, drop, length, slice_get, take, refl, sym, ap, ◌∙◌, subst, append-nil, append_assoc, length-append, Option, Some, None, Result, Ok, Err, arith, inl, inr}
+use Rattle.std.proofs.Common.{◌≡◌, ◌+◌, ◌≤◌, ℕ, zero, suc, Bool, false, List, [], ◌∷◌, ◌++◌, drop, length, slice_get, take, refl, sym, ap}
+use Rattle.std.proofs.Common.{◌∙◌, subst, append-nil, append_assoc, length-append, Option, Some, None, Result, Ok, Err, arith, inl, inr}
 use Rattle.std.specs.Prelude.{◌⊎◌}
 use Rattle.std.proofs.lemmas.List.{take-take}
 use Rattle.std.specs.Result.{IsErrAnd}
@@ -13,7 +14,8 @@ use Rattle.mmtel_environment.specs.declared.events.Event.TheVariants as event
 use Rattle.mmtel_base.specs.declared.memory.NoMemory.{NoMemory}
 use Rattle.mmtel_types.specs.declared.addrs.Addr.{Addr}
 use Rattle.mmtel_types.specs.declared.numbers.Failed.{Failed}
-use Rattle.mmtel_server.specs.DriveEffects.{AddsOne, EachRead, HasFailedByNumber, IsCalledTimes, IsCalledWithin, IsNeeded, IsRead, IsReadOut, LastFailed, ReadButLast, ReadEach, ReceivesEvent, ReceivesMore, StaysOrRises, after_calls, events_to_come}
+use Rattle.mmtel_server.specs.DriveEffects.{AddsOne, EachRead, HasFailedByNumber, IsCalledTimes, IsCalledWithin, IsNeeded, IsRead, IsReadOut}
+use Rattle.mmtel_server.specs.DriveEffects.{LastFailed, ReadButLast, ReadEach, ReceivesEvent, ReceivesMore, StaysOrRises, after_calls, events_to_come}
 use Rattle.mmtel_server.specs.Turns.{IsReading, ReadsRequest, read_to}
 use Rattle.mmtel_server.specs.declared.driving.DriveFault.{DriveFault}
 use Rattle.mmtel_server.specs.declared.driving.DriveFault.TheVariants as fault

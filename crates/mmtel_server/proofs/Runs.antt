@@ -100,13 +100,15 @@ pub record AtClock (d : Directory) (token : List ℕ) (fuel now : ℕ) (event : 
 at_clock : NumbersNeverFall → (d : Directory) (token : List ℕ) (fuel now : ℕ) (event : EventRecord) (w : RunState) → now ≡ clock_at w (moment_of event.event) → IsSettledBefore fuel event d token w
     → IsShort (state_after_event fuel event d token w) → AtClock d token fuel now event w
 at_clock law d token fuel now event w at ready few =
-    let whole : state_after_event fuel event d token w ≡ after_event d token now (parsed_record d event) event.accepted (after_due_deadlines d token fuel now w) = ap (λ (k : ℕ). after_event d token k (parsed_record d event) event.accepted (after_due_deadlines d token fuel k w)) (sym at) in
+    let whole : state_after_event fuel event d token w ≡ after_event d token now (parsed_record d event) event.accepted (after_due_deadlines d token fuel now w) =
+    ap (λ (k : ℕ). after_event d token k (parsed_record d event) event.accepted (after_due_deadlines d token fuel k w)) (sym at) in
     let short = subst IsShort whole few in
     record {
       ready = subst (λ (k : ℕ). IsSettled d token fuel k w) (sym at) ready;
       whole = whole;
       short = short;
-      between = short_of (after_due_deadlines d token fuel now w) (after_event d token now (parsed_record d event) event.accepted (after_due_deadlines d token fuel now w)) (came_grows law d token now (parsed_record d event) event.accepted (after_due_deadlines d token fuel now w)) short;
+      between = short_of (after_due_deadlines d token fuel now w) (after_event d token now (parsed_record d event) event.accepted (after_due_deadlines d token fuel now w))
+          (came_grows law d token now (parsed_record d event) event.accepted (after_due_deadlines d token fuel now w)) short;
     }
 
 -- of the CDRs that waited, these were filed, and those still wait
@@ -116,14 +118,18 @@ WaitsBy w later took waiting = (later.filed ≡ w.filed ++ accepted_rows took wa
 -- the timers fire, and then the event comes
 module _ (law : NumbersNeverFall) (old mid : Server) (out between : List Offer) (event : EventRecord) (now : ℕ) (clock : (w : RunState) → old.clock ≡ w.clock → now ≡ clock_at w (moment_of event.event)) where
   -- the timers alone
-  pub cut_before : ((fuel : ℕ) → AddsOfferPrefixWhere old out between (IsSettledBy fuel now) (λ d token. after_due_deadlines d token fuel now)) → (fuel : ℕ) → AddsOfferPrefixWhere old out between (IsSettledBefore fuel event) (state_after_event fuel event)
+  pub cut_before : ((fuel : ℕ) → AddsOfferPrefixWhere old out between (IsSettledBy fuel now) (λ d token. after_due_deadlines d token fuel now)) → (fuel : ℕ) →
+      AddsOfferPrefixWhere old out between (IsSettledBefore fuel event) (state_after_event fuel event)
   cut_before breaks fuel d token before w did ready few =
       let here = at_clock law d token fuel now event w (clock w did.represents.clock) ready few in
       let cut = breaks fuel d token before w did here.ready here.between in
       let v = after_due_deadlines d token fuel now w in
       let more = came_grows law d token now (parsed_record d event) event.accepted v in
-      subst (λ (u : RunState). IsPrefixBetween out between (before ++ u.offers)) (sym here.whole)
-      (cut.0, prefix_on between (before ++ v.offers) (before ++ (after_event d token now (parsed_record d event) event.accepted v).offers) cut.1 (prefix_of before (before ++ v.offers) v (after_event d token now (parsed_record d event) event.accepted v) more refl))
+      subst (λ (u : RunState). IsPrefixBetween out between (before ++ u.offers)) (sym here.whole) (
+        cut.0,
+        prefix_on between (before ++ v.offers) (before ++ (after_event d token now (parsed_record d event) event.accepted v).offers) cut.1
+            (prefix_of before (before ++ v.offers) v (after_event d token now (parsed_record d event) event.accepted v) more refl),
+      )
 
   module _ (settles_all : (fuel : ℕ) → FollowsWhere old out mid between (IsSettledBy fuel now) (λ d token. after_due_deadlines d token fuel now)) where
     -- and nothing of the event
@@ -133,18 +139,21 @@ module _ (law : NumbersNeverFall) (old mid : Server) (out between : List Offer) 
         let v = after_due_deadlines d token fuel now w in
         let there = settles_all fuel d token before w did here.ready here.between in
         subst (λ (u : RunState). IsPrefixBetween out between (before ++ u.offers)) (sym here.whole)
-        (cut_of before out between w v (after_event d token now (parsed_record d event) event.accepted v) (settles d token law fuel now w) (came_grows law d token now (parsed_record d event) event.accepted v) did.offers there.offers)
+        (cut_of before out between w v (after_event d token now (parsed_record d event) event.accepted v) (settles d token law fuel now w)
+        (came_grows law d token now (parsed_record d event) event.accepted v) did.offers there.offers)
 
     module _ (new : Server) (after_all : List Offer) where
       -- and the event then
-      pub went_all : Follows mid between new after_all (λ d token. after_event d token now (parsed_record d event) event.accepted) → (fuel : ℕ) → FollowsWhere old out new after_all (IsSettledBefore fuel event) (state_after_event fuel event)
+      pub went_all : Follows mid between new after_all (λ d token. after_event d token now (parsed_record d event) event.accepted) → (fuel : ℕ) →
+          FollowsWhere old out new after_all (IsSettledBefore fuel event) (state_after_event fuel event)
       went_all comes fuel d token before w did ready few =
           let here = at_clock law d token fuel now event w (clock w did.represents.clock) ready few in
           let v = after_due_deadlines d token fuel now w in
           let there = settles_all fuel d token before w did here.ready here.between in
           subst (λ (u : RunState). RepresentsWithOffers d token before new after_all u) (sym here.whole) (comes d token before v there here.short)
 
-      pub cut_within : AddsOfferPrefix mid between after_all (λ d token. after_event d token now (parsed_record d event) event.accepted) → (fuel : ℕ) → AddsOfferPrefixWhere old out after_all (IsSettledBefore fuel event) (state_after_event fuel event)
+      pub cut_within : AddsOfferPrefix mid between after_all (λ d token. after_event d token now (parsed_record d event) event.accepted) → (fuel : ℕ) →
+          AddsOfferPrefixWhere old out after_all (IsSettledBefore fuel event) (state_after_event fuel event)
       cut_within breaks fuel d token before w did ready few =
           let here = at_clock law d token fuel now event w (clock w did.represents.clock) ready few in
           let v = after_due_deadlines d token fuel now w in
@@ -167,7 +176,8 @@ module _ (law : NumbersNeverFall) (old mid : Server) (out between : List Offer) 
         subst (λ (u : RunState). WaitsBy w u event.accepted waiting) (sym here.whole) (filed, left.1)
 
     -- the configuration is still that of the run
-    pub directory_there : (fuel : ℕ) (d : Directory) (token : List ℕ) (before : List Offer) (w : RunState) → RepresentsWithOffers d token before old out w → IsSettledBefore fuel event d token w → IsShort (state_after_event fuel event d token w) → mid.directory ≡ d
+    pub directory_there : (fuel : ℕ) (d : Directory) (token : List ℕ) (before : List Offer) (w : RunState) → RepresentsWithOffers d token before old out w → IsSettledBefore fuel event d token w →
+        IsShort (state_after_event fuel event d token w) → mid.directory ≡ d
     directory_there fuel d token before w did ready few =
         let here = at_clock law d token fuel now event w (clock w did.represents.clock) ready few in
         (settles_all fuel d token before w did here.ready here.between).represents.same_directory
@@ -178,7 +188,8 @@ module _ (s : Server) (x : ParsedEvent) (f : Directory → ParsedEvent) (told : 
   told_in : (d : Directory) → s.directory ≡ d → x ≡ f d
   told_in d same = told ∙ ap f same
 
-  pub told_follows : (out : List Offer) (new : Server) (now : List Offer) (at : ℕ) → Follows s out new now (λ d token. after_parsed_event d token at x) → Follows s out new now (λ d token. after_parsed_event d token at (f d))
+  pub told_follows : (out : List Offer) (new : Server) (now : List Offer) (at : ℕ) → Follows s out new now (λ d token. after_parsed_event d token at x) →
+      Follows s out new now (λ d token. after_parsed_event d token at (f d))
   told_follows out new now at follows d token before w did short =
       let is = told_in d did.represents.same_directory in
       subst (λ (y : ParsedEvent). RepresentsWithOffers d token before new now (after_parsed_event d token at y w)) is
@@ -193,7 +204,8 @@ module _ (s : Server) (x : ParsedEvent) (f : Directory → ParsedEvent) (told : 
 -- ---- a step
 
 -- it is noted that no step failed
-pub whole_again : (d : Directory) (token : List ℕ) (before out : List Offer) (s : Server) (w : RunState) → RepresentsWithOffers d token before s out w → RepresentsWithOffers d token before (record s { failed = false }) out w
+pub whole_again : (d : Directory) (token : List ℕ) (before out : List Offer) (s : Server) (w : RunState) → RepresentsWithOffers d token before s out w →
+    RepresentsWithOffers d token before (record s { failed = false }) out w
 whole_again d token before out s w did = record {
   represents = record {
     same_directory = did.represents.same_directory;
@@ -230,7 +242,8 @@ goes_on old new out now event always follows d token loaded events before went s
     record {
       fuel = fuel;
       enough = enough.1;
-      represents = whole_again d token before now new (after_events d token fuel (timed_events d (events ++ event ∷ [])) (initial_state loaded)) (subst (λ (u : RunState). RepresentsWithOffers d token before new now u) (sym last) did);
+      represents = whole_again d token before now new (after_events d token fuel (timed_events d (events ++ event ∷ [])) (initial_state loaded))
+          (subst (λ (u : RunState). RepresentsWithOffers d token before new now u) (sym last) did);
     }
 
 pub breaks_off : (old : Server) (out now : List Offer) (event : EventRecord)
@@ -305,7 +318,8 @@ module _ (adds : EventsAdd) (deadlines : DeadlinesAdd) (d : Directory) (token : 
   ready_unsaid : IsSettledBefore fuel one d token w → IsSettledBefore fuel one d token (without_offers w)
   ready_unsaid ready =
       let at : ℕ = clock_at w (moment_of one.event) in
-      let same : after_due_deadlines d token fuel at w ≡ with_earlier_offers w.offers (after_due_deadlines d token fuel at (without_offers w)) = ap (after_due_deadlines d token fuel at) (sym restored) ∙ deadlines d token fuel at w.offers (without_offers w) in
+      let same : after_due_deadlines d token fuel at w ≡ with_earlier_offers w.offers (after_due_deadlines d token fuel at (without_offers w)) =
+      ap (after_due_deadlines d token fuel at) (sym restored) ∙ deadlines d token fuel at w.offers (without_offers w) in
       subst (λ (u : RunState). first_due_deadline at u ≡ None) same ready
 
   short_unsaid : IsShort (state_after_event fuel one d token w) → IsShort (state_after_event fuel one d token (without_offers w))
@@ -334,7 +348,8 @@ module _ (adds : EventsAdd) (deadlines : DeadlinesAdd) where
 
   -- what holds for the configuration under whatever state the server represented holds under whatever run it serves in
   pub asked_then : (old : Server) (out : List Offer) (event : EventRecord) (P : Directory → Type 0) → GivesAlways
-      → ((d : Directory) (token : List ℕ) (before : List Offer) (w : RunState) (fuel : ℕ) → RepresentsWithOffers d token before old out w → IsSettledBefore fuel event d token w → IsShort (state_after_event fuel event d token w) → P d)
+      → ((d : Directory) (token : List ℕ) (before : List Offer) (w : RunState) (fuel : ℕ) → RepresentsWithOffers d token before old out w → IsSettledBefore fuel event d token w →
+      IsShort (state_after_event fuel event d token w) → P d)
       → (d : Directory) (token : List ℕ) (loaded : Texts) (events : List EventRecord) → RepresentsRun d token loaded events old → IsShortRun d token loaded (events ++ event ∷ []) → P d
   asked_then old out event P always is_so d token loaded events serves short =
       let enough = always d token loaded (events ++ event ∷ []) in
@@ -350,7 +365,8 @@ module _ (adds : EventsAdd) (deadlines : DeadlinesAdd) where
       subst (λ (u : RunState). WaitsBy w u event.accepted waiting) (sym here.last) left
 
   -- a prefix of what it adds was added
-  pub adds_front : (old : Server) (out now : List Offer) (event : EventRecord) → ((fuel : ℕ) → AddsOfferPrefixWhere old out now (IsSettledBefore fuel event) (state_after_event fuel event)) → AddsPrefixWhileServing old out now event
+  pub adds_front : (old : Server) (out now : List Offer) (event : EventRecord) → ((fuel : ℕ) → AddsOfferPrefixWhere old out now (IsSettledBefore fuel event) (state_after_event fuel event)) →
+      AddsPrefixWhileServing old out now event
   adds_front old out now event breaks d token loaded events fuel serves short enough =
       let w : RunState = after_events d token fuel (timed_events d events) (initial_state loaded) in
       let here = before_last d token loaded events event fuel old out serves short enough in
@@ -361,7 +377,8 @@ module _ (adds : EventsAdd) (deadlines : DeadlinesAdd) where
   pub adds_on : (old new : Server) (out now : List Offer) (event : EventRecord) → GivesAlways
       → ((fuel : ℕ) → FollowsWhere old out new now (IsSettledBefore fuel event) (state_after_event fuel event)) → ContinuesServing old out (record new { failed = false }) now event
   adds_on old new out now event always follows d token loaded events serves short =
-      let gone : (fuel : ℕ) → IsEnough d token loaded fuel (events ++ event ∷ []) → RepresentsWithOffers d token out new now (state_after_event fuel event d token (without_offers (after_events d token fuel (timed_events d events) (initial_state loaded)))) = λ fuel enough.
+      let gone : (fuel : ℕ) → IsEnough d token loaded fuel (events ++ event ∷ []) →
+      RepresentsWithOffers d token out new now (state_after_event fuel event d token (without_offers (after_events d token fuel (timed_events d events) (initial_state loaded)))) = λ fuel enough.
       let here = before_last d token loaded events event fuel old out serves short enough in
       follows fuel d token out (without_offers (after_events d token fuel (timed_events d events) (initial_state loaded))) here.did here.ready here.short in
       let enough = always d token loaded (events ++ event ∷ []) in

@@ -12,7 +12,8 @@ use Rattle.mmtel_run_definitions.specs.Deadlines.{Deadline, OfCall, OfParticipan
 use Rattle.mmtel_run_definitions.specs.Ownership.{OfSubscriptions, OfCalls, OfConferences, Owner, owner_of_key, owner_of_branch}
 use Rattle.mmtel_run_definitions.specs.Run.{IsSettled, after_deadline_if, after_due_deadlines, after_one_deadline, first_due_deadline}
 use Rattle.mmtel_run_definitions.proofs.MailboxTransitions as boxes
-use Rattle.mmtel_run_definitions.specs.Transitions.{RunState, subscriptions_in, after_service_timer, with_next_step, calls_in, output_of_conference_op, with_emit, with_emits, after_transaction_end, after_deadline, after_transaction_timer, conference_signal_op, received_now, after_due, after_conference_signal, after_call_signal, after_request_timeout, after_first_service_timer}
+use Rattle.mmtel_run_definitions.specs.Transitions.{RunState, subscriptions_in, after_service_timer, with_next_step, calls_in, output_of_conference_op, with_emit, with_emits, after_transaction_end, after_deadline}
+use Rattle.mmtel_run_definitions.specs.Transitions.{after_transaction_timer, conference_signal_op, received_now, after_due, after_conference_signal, after_call_signal, after_request_timeout, after_first_service_timer}
 use Rattle.mmtel_transaction.specs.Results.{DueEntryView, after_firing, due_result, next_due}
 use Rattle.mmtel_transaction.specs.Operations.{TransactionOp, live}
 use Rattle.mmtel_transaction.specs.declared.words.Due.{Due}
@@ -149,7 +150,8 @@ module _ (d : Directory) (token : List ℕ) where
 
     pub settles : (n now : ℕ) (w : RunState) → Grows w (after_due_deadlines d token n now w)
     settles zero now w = same w
-    settles (suc n) now w = grows_on w (after_one_deadline d token now w) (after_due_deadlines d token n now (after_one_deadline d token now w)) (fires_if now (first_due_deadline now w) w) (settles n now (after_one_deadline d token now w))
+    settles (suc n) now w = grows_on w (after_one_deadline d token now w) (after_due_deadlines d token n now (after_one_deadline d token now w)) (fires_if now (first_due_deadline now w) w)
+        (settles n now (after_one_deadline d token now w))
 
     -- no count is greater than one that is enough
     pub never_longer : (i fuel now : ℕ) (w : RunState) → IsSettled d token fuel now w → Grows (after_due_deadlines d token i now w) (after_due_deadlines d token fuel now w)

@@ -13,7 +13,8 @@ use Rattle.mmtel_leg.specs.declared.dialogues.DialogueFault.{DialogueFault}
 use Rattle.mmtel_message.specs.Faults.{is_method}
 use Rattle.mmtel_message.specs.Message.{Message}
 use Rattle.mmtel_message.specs.declared.messages.Start.{Start}
-use Rattle.mmtel_mwi.specs.Boxes.{BoxesView, changed, is_full, is_live, is_numbered, next_sub, notify_request, peer_of, request_check, request_check_of, set_by, subscribers_of, subscription_after_request, subscription_numbered, table_after_end, table_after_notify, table_after_refresh, with_counts, with_table}
+use Rattle.mmtel_mwi.specs.Boxes.{BoxesView, changed, is_full, is_live, is_numbered, next_sub, notify_request, peer_of, request_check, request_check_of, set_by, subscribers_of}
+use Rattle.mmtel_mwi.specs.Boxes.{subscription_after_request, subscription_numbered, table_after_end, table_after_notify, table_after_refresh, with_counts, with_table}
 use Rattle.mmtel_mwi.specs.Operations.{Ends, Notifies, Puts, Receives, Refreshes, Subscribes}
 use Rattle.mmtel_mwi.specs.Subscribing.{granted_seconds, refusal}
 use Rattle.mmtel_mwi.specs.declared.counts.Counts.{Counts}
@@ -24,8 +25,10 @@ use Rattle.mmtel_run_definitions.specs.OwnResponses.{StatusResponse, plain_respo
 use Rattle.mmtel_run_definitions.specs.Events.{message_in}
 use Rattle.mmtel_run_definitions.specs.Records.{until_of}
 use Rattle.mmtel_run_definitions.specs.Ownership.{leg_by}
-use Rattle.mmtel_run_definitions.specs.Subscriptions.{after_checked_request, after_expiry, after_request_in_order, after_subscription, after_subscription_for, after_subscription_request, grant_response, is_last_set, named_mailbox, notify_emits, subscribe_request_of, with_expiry_timer, with_mailbox_op}
-use Rattle.mmtel_run_definitions.specs.Subscriptions.{after_activation, after_last_notify, after_mailbox_upload, after_notify, after_notify_to_each, after_notify_to_peer, after_refresh_by, after_subscribe, after_subscribe_by, other_response}
+use Rattle.mmtel_run_definitions.specs.Subscriptions.{after_checked_request, after_expiry, after_request_in_order, after_subscription, after_subscription_for, after_subscription_request}
+use Rattle.mmtel_run_definitions.specs.Subscriptions.{grant_response, is_last_set, named_mailbox, notify_emits, subscribe_request_of, with_expiry_timer, with_mailbox_op}
+use Rattle.mmtel_run_definitions.specs.Subscriptions.{after_activation, after_last_notify, after_mailbox_upload, after_notify, after_notify_to_each}
+use Rattle.mmtel_run_definitions.specs.Subscriptions.{after_notify_to_peer, after_refresh_by, after_subscribe, after_subscribe_by, other_response}
 use Rattle.mmtel_run_definitions.specs.Transitions.{RunState, after_web_reply, after_web_request, subscriptions_in, with_emits, with_response}
 use Rattle.mmtel_base.specs.Numbers.{token_text}
 use Rattle.mmtel_transaction.specs.Tokens.{TokensView}
@@ -105,7 +108,8 @@ module _ (s : Server) (P : (Directory → List ℕ → RunState → RunState) �
   pub putting_so : (account : Account) (counts : Counts) (subs : List SubNo) → subs ≡ subscribers_of account s.boxes.table
       → P (λ d token w. after_notify_to_each d token at subs (with_mailbox_op (Puts account counts) w)) → P (λ d token. after_mailbox_upload d token at (Some (account, counts)))
   putting_so account counts subs are p =
-      reads (List SubNo) (subscribers_of account s.boxes.table) (λ d w. subscribers_of account (subscriptions_in w)) (λ x d token w. after_notify_to_each d token at x (with_mailbox_op (Puts account counts) w)) (are_due account)
+      reads (List SubNo) (subscribers_of account s.boxes.table) (λ d w. subscribers_of account (subscriptions_in w))
+      (λ x d token w. after_notify_to_each d token at x (with_mailbox_op (Puts account counts) w)) (are_due account)
       (subst (λ (x : List SubNo). P (λ d token w. after_notify_to_each d token at x (with_mailbox_op (Puts account counts) w))) are p)
 
   -- which SUBSCRIBE set its expiration
@@ -115,7 +119,8 @@ module _ (s : Server) (P : (Directory → List ℕ → RunState → RunState) �
   pub standing_so : (sub : SubNo) (seconds : ℕ) (set : Option ℕ) → (seconds == 0) ≡ false → set_by sub s.boxes.table ≡ set
       → P (λ d token w. with_expiry_timer sub set (until_of at seconds) (after_notify d token at sub false w)) → P (λ d token. after_activation d token at sub seconds)
   standing_so sub seconds set some is p =
-      subst (λ (b : Bool). P (λ d token w. if b then after_last_notify d token at sub w else with_expiry_timer sub (set_by sub (subscriptions_in w)) (until_of at seconds) (after_notify d token at sub false w))) (sym some)
+      subst (λ (b : Bool). P (λ d token w. if b then after_last_notify d token at sub w else with_expiry_timer sub (set_by sub (subscriptions_in w)) (until_of at seconds) (after_notify d token at sub false w)))
+      (sym some)
       (reads (Option ℕ) (set_by sub s.boxes.table) (λ d w. set_by sub (subscriptions_in w)) (λ x d token w. with_expiry_timer sub x (until_of at seconds) (after_notify d token at sub false w)) (is_set sub)
       (subst (λ (x : Option ℕ). P (λ d token w. with_expiry_timer sub x (until_of at seconds) (after_notify d token at sub false w))) (sym is) p))
 
@@ -134,7 +139,8 @@ module _ (s : Server) (P : (Directory → List ℕ → RunState → RunState) �
         → P (λ d token w. if full then with_response d token at key said (plain_response 503) w else after_subscription d token at key said account (granted_seconds said.parsed.expires) w)
         → P (λ d token. after_subscription_for d token at key said (Some account))
     made_for_so account full is p =
-        reads Bool (is_full s.boxes.table) (λ d w. is_full (subscriptions_in w)) (λ b d token w. if b then with_response d token at key said (plain_response 503) w else after_subscription d token at key said account (granted_seconds said.parsed.expires) w)
+        reads Bool (is_full s.boxes.table) (λ d w. is_full (subscriptions_in w))
+        (λ b d token w. if b then with_response d token at key said (plain_response 503) w else after_subscription d token at key said account (granted_seconds said.parsed.expires) w)
         has_filled
         (subst (λ (b : Bool). P (λ d token w. if b then with_response d token at key said (plain_response 503) w else after_subscription d token at key said account (granted_seconds said.parsed.expires) w)) (sym is) p)
 
@@ -145,7 +151,8 @@ module _ (s : Server) (P : (Directory → List ℕ → RunState → RunState) �
 
     pub subscribing_so : (o : Option ℕ) → o ≡ refusal (subscribe_request_of s.directory false said.parsed) → P (λ d token. after_subscribe_by d token at key said o) → P (λ d token. after_subscribe d token at key said)
     subscribing_so o is p =
-        reads (Option ℕ) (refusal (subscribe_request_of s.directory false said.parsed)) (λ d w. refusal (subscribe_request_of d false said.parsed)) (λ x d token w. after_subscribe_by d token at key said x w) (is_refused false)
+        reads (Option ℕ) (refusal (subscribe_request_of s.directory false said.parsed)) (λ d w. refusal (subscribe_request_of d false said.parsed))
+        (λ x d token w. after_subscribe_by d token at key said x w) (is_refused false)
         (subst (λ (x : Option ℕ). P (λ d token. after_subscribe_by d token at key said x)) is p)
 
     pub made_for_named : (o : Option Account) → o ≡ named_mailbox s.directory said.parsed → P (λ d token. after_subscription_for d token at key said o)
@@ -159,7 +166,8 @@ module _ (s : Server) (P : (Directory → List ℕ → RunState → RunState) �
       pub refreshing_so : (o : Option ℕ) → o ≡ refusal (subscribe_request_of s.directory true said.parsed) → P (λ d token. after_refresh_by d token at key said sub o)
           → P (λ d token. after_refresh_by d token at key said sub (refusal (subscribe_request_of d true said.parsed)))
       refreshing_so o is p =
-          reads (Option ℕ) (refusal (subscribe_request_of s.directory true said.parsed)) (λ d w. refusal (subscribe_request_of d true said.parsed)) (λ x d token w. after_refresh_by d token at key said sub x w) (is_refused true)
+          reads (Option ℕ) (refusal (subscribe_request_of s.directory true said.parsed)) (λ d w. refusal (subscribe_request_of d true said.parsed))
+          (λ x d token w. after_refresh_by d token at key said sub x w) (is_refused true)
           (subst (λ (x : Option ℕ). P (λ d token. after_refresh_by d token at key said sub x)) is p)
 
       -- the result of the subscription for it
@@ -188,7 +196,8 @@ module _ (at : ℕ) (sub : SubNo) (last : Bool) (peer : Peer) (s : Server) (out 
 
   telling_with_grows : (b : List ℕ) (d : Directory) (token : List ℕ) (w : RunState) → Grows w (telling_with b d token w)
   telling_with_grows b d token w =
-      grows_on w (with_mailbox_op (Notifies sub b) w) (telling_with b d token w) (grows_with_mailbox_op (Notifies sub b) w) (grows_with_emits at (notify_emits peer (notify_request d.sip sub last b at (subscriptions_in w))) (with_mailbox_op (Notifies sub b) w))
+      grows_on w (with_mailbox_op (Notifies sub b) w) (telling_with b d token w) (grows_with_mailbox_op (Notifies sub b) w)
+      (grows_with_emits at (notify_emits peer (notify_request d.sip sub last b at (subscriptions_in w))) (with_mailbox_op (Notifies sub b) w))
 
   is_due : (d : Directory) (token : List ℕ) (w : RunState) → Represents d token (record s { tokens = t }) w → m ≡ notify_request d.sip sub last branch at (subscriptions_in w)
   is_due d token w have = is_notice ∙ ap (λ (b : BoxesView). notify_request b.sip sub last branch at b.table) have.boxes
@@ -198,7 +207,8 @@ module _ (at : ℕ) (sub : SubNo) (last : Bool) (peer : Peer) (s : Server) (out 
   tells_peer new now follows =
       telling_so s (Follows s out new now) (follows_reads s out new now) at sub last (Some peer) is_peer_of
       (follows_tagged s t branch out drawn tags telling_with telling_with_grows new now
-      (follows_so m (λ d w. notify_request d.sip sub last branch at (subscriptions_in w)) (λ x d token w. with_emits at (notify_emits peer x) (with_mailbox_op (Notifies sub branch) w)) (record s { tokens = t }) out is_due new now
+      (follows_so m (λ d w. notify_request d.sip sub last branch at (subscriptions_in w)) (λ x d token w. with_emits at (notify_emits peer x) (with_mailbox_op (Notifies sub branch) w))
+      (record s { tokens = t }) out is_due new now
       (followed (λ d token. with_mailbox_op (Notifies sub branch)) (λ d token. with_emits at (notify_emits peer m)) (record s { tokens = t }) (record s { tokens = t; boxes = boxes }) new out out now
       (λ d token w. grows_with_emits at (notify_emits peer m) w) (notes_action (Notifies sub branch) (record s { tokens = t }) boxes out is_told) follows)))
 
@@ -206,7 +216,8 @@ module _ (at : ℕ) (sub : SubNo) (last : Bool) (peer : Peer) (s : Server) (out 
 pub notifies_then_ends : (at : ℕ) (sub : SubNo) (s mid : Server) (out now : List Offer) (boxes : BoxesView) → Follows s out mid now (λ d token. after_notify d token at sub true)
     → boxes ≡ with_table mid.boxes (table_after_end sub mid.boxes.table) → Follows s out (record mid { boxes = boxes }) now (λ d token. after_last_notify d token at sub)
 notifies_then_ends at sub s mid out now boxes tells is =
-    followed (λ d token. after_notify d token at sub true) (λ d token. with_mailbox_op (Ends sub)) s mid (record mid { boxes = boxes }) out now now (λ d token w. grows_with_mailbox_op (Ends sub) w) tells (notes_action (Ends sub) mid boxes now is)
+    followed (λ d token. after_notify d token at sub true) (λ d token. with_mailbox_op (Ends sub)) s mid (record mid { boxes = boxes }) out now now
+    (λ d token w. grows_with_mailbox_op (Ends sub) w) tells (notes_action (Ends sub) mid boxes now is)
 
 -- ---- one subscriber after another
 
@@ -279,7 +290,8 @@ module _ (at : ℕ) (key : TKey) (said : MessageView) (account : Account) (secon
   made_with_grows x d token w =
       let there : RunState = granted_with x d (subscribed_with x w) in
       grows_on w there (made_with x d token w)
-      (grows_on w (subscribed_with x w) there (grows_with_mailbox_op (Subscribes account (leg_by x said) (until_of at seconds)) w) (grows_with_emits at (emit.Reply key (response_to d.sip x said (grant_response seconds)) ∷ []) (subscribed_with x w)))
+      (grows_on w (subscribed_with x w) there (grows_with_mailbox_op (Subscribes account (leg_by x said) (until_of at seconds)) w)
+      (grows_with_emits at (emit.Reply key (response_to d.sip x said (grant_response seconds)) ∷ []) (subscribed_with x w)))
       (stands_grows d token at (next_sub (subscriptions_in w)) seconds there)
 
   module _ (sub : SubNo) (is_sub : sub ≡ next_sub s.boxes.table) (mid there : Server) (between : List Offer)
@@ -325,12 +337,14 @@ module _ (at : ℕ) (key : TKey) (said : MessageView) (sub : SubNo) (s mid : Ser
   refreshed_first_follows =
       followed (λ d token. with_mailbox_op (Refreshes sub (until_of at (granted_seconds said.parsed.expires)))) (λ d token. with_response d token at key said (grant_response (granted_seconds said.parsed.expires))) s
       (record s { boxes = boxes }) mid out out between
-      (λ d token w. grows_with_response d token at key said (grant_response (granted_seconds said.parsed.expires)) w) (notes_action (Refreshes sub (until_of at (granted_seconds said.parsed.expires))) s boxes out is_refreshed) answers
+      (λ d token w. grows_with_response d token at key said (grant_response (granted_seconds said.parsed.expires)) w)
+      (notes_action (Refreshes sub (until_of at (granted_seconds said.parsed.expires))) s boxes out is_refreshed) answers
 
   refreshed_first_grows : (d : Directory) (token : List ℕ) (w : RunState) → Grows w (refreshed_first d token w)
   refreshed_first_grows d token w =
       let v : RunState = with_mailbox_op (Refreshes sub (until_of at (granted_seconds said.parsed.expires))) w in
-      grows_on w v (refreshed_first d token w) (grows_with_mailbox_op (Refreshes sub (until_of at (granted_seconds said.parsed.expires))) w) (grows_with_response d token at key said (grant_response (granted_seconds said.parsed.expires)) v)
+      grows_on w v (refreshed_first d token w) (grows_with_mailbox_op (Refreshes sub (until_of at (granted_seconds said.parsed.expires))) w)
+      (grows_with_response d token at key said (grant_response (granted_seconds said.parsed.expires)) v)
 
   pub refreshes_follows : (new : Server) (now : List Offer) → Follows mid between new now (λ d token. after_activation d token at sub (granted_seconds said.parsed.expires))
       → Follows s out new now (λ d token. after_refresh_by d token at key said sub None)
@@ -370,7 +384,8 @@ module _ (sub : SubNo) (m : Message Start) (s : Server) where
   pub receives_nothing : peer_of sub s.boxes.table ≡ None → (out : List Offer) → Follows s out s out (λ d token. with_mailbox_op (Receives sub m))
   receives_nothing none out =
       notes_action (Receives sub m) s s.boxes out
-      (sym (ap (λ (l : List Subscription). with_table s.boxes (record s.boxes.table { live = l })) (changed_none (is_numbered sub) (subscription_after_request m) s.boxes.table.live (receives_none (subscription_numbered sub s.boxes.table) none))))
+      (sym (ap (λ (l : List Subscription). with_table s.boxes (record s.boxes.table { live = l }))
+      (changed_none (is_numbered sub) (subscription_after_request m) s.boxes.table.live (receives_none (subscription_numbered sub s.boxes.table) none))))
 
   pub says_there : (d : Directory) (token : List ℕ) (w : RunState) → Represents d token s w → request_check sub m s.boxes.table ≡ request_check sub m (subscriptions_in w)
   says_there d token w have = ap (λ (b : BoxesView). request_check sub m b.table) have.boxes
@@ -389,17 +404,21 @@ module _ (at : ℕ) (key : TKey) (said : MessageView) (sub : SubNo) (s : Server)
 
   -- it is accepted
   module _ (is : r ≡ Ok tt) (mid : Server) (hears : Follows s out mid out (λ d token. with_mailbox_op (Receives sub (message_in said.parsed)))) where
-    pub enters_follows : (new : Server) (now : List Offer) → Follows mid out new now (λ d token. after_request_in_order d token at key said sub) → Follows s out new now (λ d token. after_subscription_request d token at key said sub)
+    pub enters_follows : (new : Server) (now : List Offer) → Follows mid out new now (λ d token. after_request_in_order d token at key said sub) →
+        Follows s out new now (λ d token. after_subscription_request d token at key said sub)
     enters_follows new now follows =
         entering_so s (Follows s out new now) (follows_reads s out new now) at key said sub r says_so
         (subst (λ (x : Result (Unit {0}) DialogueFault). Follows s out new now (λ d token. after_checked_request d token at key said sub x)) (sym is)
-        (followed (λ d token. with_mailbox_op (Receives sub (message_in said.parsed))) (λ d token. after_request_in_order d token at key said sub) s mid new out out now (λ d token w. enters_by_grows d token at key said sub w) hears follows))
+        (followed (λ d token. with_mailbox_op (Receives sub (message_in said.parsed))) (λ d token. after_request_in_order d token at key said sub) s mid new out out now
+        (λ d token w. enters_by_grows d token at key said sub w) hears follows))
 
-    pub enters_breaks : (now : List Offer) → AddsOfferPrefix mid out now (λ d token. after_request_in_order d token at key said sub) → AddsOfferPrefix s out now (λ d token. after_subscription_request d token at key said sub)
+    pub enters_breaks : (now : List Offer) → AddsOfferPrefix mid out now (λ d token. after_request_in_order d token at key said sub) →
+        AddsOfferPrefix s out now (λ d token. after_subscription_request d token at key said sub)
     enters_breaks now breaks =
         entering_so s (AddsOfferPrefix s out now) (breaks_reads s out now) at key said sub r says_so
         (subst (λ (x : Result (Unit {0}) DialogueFault). AddsOfferPrefix s out now (λ d token. after_checked_request d token at key said sub x)) (sym is)
-        (offer_prefix_added (λ d token. with_mailbox_op (Receives sub (message_in said.parsed))) (λ d token. after_request_in_order d token at key said sub) s mid out out now (λ d token w. grows_with_mailbox_op (Receives sub (message_in said.parsed)) w)
+        (offer_prefix_added (λ d token. with_mailbox_op (Receives sub (message_in said.parsed))) (λ d token. after_request_in_order d token at key said sub) s mid out out now
+        (λ d token w. grows_with_mailbox_op (Receives sub (message_in said.parsed)) w)
         (λ d token w. enters_by_grows d token at key said sub w) hears breaks))
 
 -- by its method
@@ -407,16 +426,19 @@ module _ (P : (Directory → List ℕ → RunState → RunState) → Type 0) (at
   pub resubscribes_so : is_method (codes "SUBSCRIBE") said.parsed.start ≡ true → P (λ d token. after_refresh_by d token at key said sub (refusal (subscribe_request_of d true said.parsed)))
       → P (λ d token. after_request_in_order d token at key said sub)
   resubscribes_so is p =
-      subst (λ (b : Bool). P (λ d token w. if b then after_refresh_by d token at key said sub (refusal (subscribe_request_of d true said.parsed)) w else with_response d token at key said (other_response d said.parsed) w)) (sym is) p
+      subst (λ (b : Bool). P (λ d token w. if b then after_refresh_by d token at key said sub (refusal (subscribe_request_of d true said.parsed)) w
+      else with_response d token at key said (other_response d said.parsed) w)) (sym is) p
 
   pub other_so : is_method (codes "SUBSCRIBE") said.parsed.start ≡ false → P (λ d token. with_response d token at key said (other_response d said.parsed)) → P (λ d token. after_request_in_order d token at key said sub)
   other_so is p =
-      subst (λ (b : Bool). P (λ d token w. if b then after_refresh_by d token at key said sub (refusal (subscribe_request_of d true said.parsed)) w else with_response d token at key said (other_response d said.parsed) w)) (sym is) p
+      subst (λ (b : Bool). P (λ d token w. if b then after_refresh_by d token at key said sub (refusal (subscribe_request_of d true said.parsed)) w
+      else with_response d token at key said (other_response d said.parsed) w)) (sym is) p
 
 pub responds_to_other : (s : Server) (at : ℕ) (key : TKey) (said : MessageView) (a : StatusResponse) → a ≡ other_response s.directory said.parsed → (out : List Offer) (new : Server) (now : List Offer)
     → Follows s out new now (λ d token. with_response d token at key said a) → Follows s out new now (λ d token. with_response d token at key said (other_response d said.parsed))
 responds_to_other s at key said a is out new now follows =
-    follows_so a (λ d w. other_response d said.parsed) (λ x d token. with_response d token at key said x) s out (λ d token w have. is ∙ ap (λ (x : Directory). other_response x said.parsed) have.same_directory) new now follows
+    follows_so a (λ d w. other_response d said.parsed) (λ x d token. with_response d token at key said x) s out
+    (λ d token w have. is ∙ ap (λ (x : Directory). other_response x said.parsed) have.same_directory) new now follows
 
 -- ---- a web request, and after its reply the NOTIFYs that it causes
 

@@ -85,7 +85,8 @@ offers s out now os e d token before w did short = record {
 }
 
 -- these are the operations on the transactions
-with_action_done : (d : Directory) (token : List ℕ) (before out : List Offer) (s : Server) (t : Transactions) (w : RunState) (acts : List TransactionOp) → RepresentsWithOffers d token before s out w → table.Represents t acts
+with_action_done : (d : Directory) (token : List ℕ) (before out : List Offer) (s : Server) (t : Transactions) (w : RunState) (acts : List TransactionOp) →
+    RepresentsWithOffers d token before s out w → table.Represents t acts
     → RepresentsWithOffers d token before (record s { transactions = t }) out (record w { actions = acts })
 with_action_done d token before out s t w acts did stands = record {
   represents = record {
@@ -173,5 +174,6 @@ module _ (d : Directory) (token : List ℕ) (now : ℕ) (w : RunState) (armed : 
       let next = next_due now (live w.actions) in
       let one = kind_is (first_deadline next (first_due_timer now (queue_of armed))) x found in
       let is : first_due_deadline now w ≡ Some one.0 = sym (ap (λ (q : List run.PendingTimer). first_deadline next (first_due_timer now q)) same) ∙ one.1 in
-      let chosen : IfSome (Some one.0) (IsFirstTimer (first_due_timer now (queue_of armed))) = subst (λ (o : Option Deadline). IfSome o (IsFirstTimer (first_due_timer now (queue_of armed)))) one.1 (is_chosen next (first_due_timer now (queue_of armed))) in
+      let chosen : IfSome (Some one.0) (IsFirstTimer (first_due_timer now (queue_of armed))) =
+      subst (λ (o : Option Deadline). IfSome o (IsFirstTimer (first_due_timer now (queue_of armed)))) one.1 (is_chosen next (first_due_timer now (queue_of armed))) in
       (one.0, one.2, chosen, ap (λ (o : Option Deadline). after_deadline_if d token now o w) is)

@@ -197,7 +197,8 @@ RunsAll recorded old out new now (Err NoMemory) = StopsInLast recorded old out n
 abbrev pub KeepsNoninterference : List EventRecord → Server → List Offer → List Offer → Type 0
 KeepsNoninterference recorded old out now =
     (directory : Directory) (token : List ℕ) (loaded : Texts) (earlier : List EventRecord) →
-    RanFromStart directory token loaded earlier [] old out → IsShortRun directory token loaded (earlier ++ recorded) → IsIndistinguishable directory token loaded (earlier ++ recorded) now
+    RanFromStart directory token loaded earlier [] old out → IsShortRun directory token loaded (earlier ++ recorded) →
+    IsIndistinguishable directory token loaded (earlier ++ recorded) now
 
 abbrev pub KeepsAllUnlessAborted : List EventRecord → Server → List Offer → List Offer → Result Bool DriveFault → Type 0
 KeepsAllUnlessAborted recorded old out now (Ok closed) = KeepsNoninterference recorded old out now
@@ -215,7 +216,8 @@ CallsReachOutcome recorded old =
 abbrev pub ChargesParticipants : List EventRecord → Server → Type 0
 ChargesParticipants recorded old =
     (directory : Directory) (token : List ℕ) (loaded : Texts) (earlier : List EventRecord) →
-    RepresentsRun directory token loaded earlier old → IsShortRun directory token loaded (earlier ++ recorded) → ParticipantsChargedOnce directory token loaded (earlier ++ recorded)
+    RepresentsRun directory token loaded earlier old → IsShortRun directory token loaded (earlier ++ recorded) →
+    ParticipantsChargedOnce directory token loaded (earlier ++ recorded)
 
 -- and each message that is built in it has no injected header fields, and each text that is sent to a peer is that of one, under a home domain and a token of one line
 -- each

@@ -32,7 +32,8 @@ pub record NumbersNeverFall : Type 0 where
 
 -- the state after this operation on the calls, with its CDRs removed from them; none of its commands is executed yet
 abbrev pub after_call_operation : TableOp → StepOutput → RunState → RunState
-after_call_operation op output state = record state { call_ops = Drops (length output.rows) ∷ op ∷ state.call_ops; drawn = output.tokens.drawn; waiting = state.waiting ++ output.rows }
+after_call_operation op output state =
+    record state { call_ops = Drops (length output.rows) ∷ op ∷ state.call_ops; drawn = output.tokens.drawn; waiting = state.waiting ++ output.rows }
 
 -- the same for the conferences, for an operation that draws no number, and for one that draws some
 abbrev pub after_conference_operation : rooms.TableOp → StepOutput → RunState → RunState
@@ -56,7 +57,8 @@ output_at_end directory token at call state = (step_on_finish (call_config direc
 
 abbrev pub CallsReceive : Server → Server → ℕ → Signal → List Emit → Type 0
 CallsReceive old new at signal emits =
-    Performs old new (λ d token. output_of_signal d token at signal) (λ d token state. after_call_operation (Receives (received_now token at signal state)) (output_of_signal d token at signal state) state) emits
+    Performs old new (λ d token. output_of_signal d token at signal)
+    (λ d token state. after_call_operation (Receives (received_now token at signal state)) (output_of_signal d token at signal state) state) emits
 
 abbrev pub CallEnds : Server → Server → ℕ → CallNo → List Emit → Type 0
 CallEnds old new at call emits =
@@ -66,11 +68,13 @@ CallEnds old new at call emits =
 -- an operation on the conferences that draws no number, or one that may draw some
 abbrev pub ConferencesOpen : Server → Server → (Directory → List ℕ → RunState → rooms.TableOp) → List Emit → Type 0
 ConferencesOpen old new op emits =
-    Performs old new (λ d token state. output_of_conference_op d (op d token state) state) (λ d token state. after_conference_operation (op d token state) (output_of_conference_op d (op d token state) state) state) emits
+    Performs old new (λ d token state. output_of_conference_op d (op d token state) state)
+    (λ d token state. after_conference_operation (op d token state) (output_of_conference_op d (op d token state) state) state) emits
 
 abbrev pub ConferencesPerform : Server → Server → (Directory → List ℕ → RunState → rooms.TableOp) → List Emit → Type 0
 ConferencesPerform old new op emits =
-    Performs old new (λ d token state. output_of_conference_op d (op d token state) state) (λ d token state. after_conference_draw (op d token state) (output_of_conference_op d (op d token state) state) state) emits
+    Performs old new (λ d token state. output_of_conference_op d (op d token state) state)
+    (λ d token state. after_conference_draw (op d token state) (output_of_conference_op d (op d token state) state) state) emits
 
 -- ---- operations
 
@@ -90,12 +94,14 @@ AddsOfferPrefix old out now op =
 abbrev pub FollowsWhere : Server → List Offer → Server → List Offer → (Directory → List ℕ → RunState → Type 0) → (Directory → List ℕ → RunState → RunState) → Type 0
 FollowsWhere old out new now P op =
     (directory : Directory) (token : List ℕ) (before : List Offer) (state : RunState) →
-    RepresentsWithOffers directory token before old out state → P directory token state → IsShort (op directory token state) → RepresentsWithOffers directory token before new now (op directory token state)
+    RepresentsWithOffers directory token before old out state → P directory token state → IsShort (op directory token state) →
+    RepresentsWithOffers directory token before new now (op directory token state)
 
 abbrev pub AddsOfferPrefixWhere : Server → List Offer → List Offer → (Directory → List ℕ → RunState → Type 0) → (Directory → List ℕ → RunState → RunState) → Type 0
 AddsOfferPrefixWhere old out now P op =
     (directory : Directory) (token : List ℕ) (before : List Offer) (state : RunState) →
-    RepresentsWithOffers directory token before old out state → P directory token state → IsShort (op directory token state) → IsPrefixBetween out now (before ++ (op directory token state).offers)
+    RepresentsWithOffers directory token before old out state → P directory token state → IsShort (op directory token state) →
+    IsPrefixBetween out now (before ++ (op directory token state).offers)
 
 -- so many firings of timers are enough until a moment
 abbrev pub IsSettledBy : ℕ → ℕ → Directory → List ℕ → RunState → Type 0

@@ -74,7 +74,8 @@ pub record RepresentsWithOffers (directory : Directory) (token : List ℕ) (befo
 
 -- it went through the run with these events, over the texts that were loaded, in which every timer that was due has fired, and its outputs come after what was in
 -- the list before
-pub record RanFromStart (directory : Directory) (token : List ℕ) (loaded : Texts) (recorded : List EventRecord) (before : List Offer) (server : Server) (out : List Offer) : Type 0 where
+pub record RanFromStart (directory : Directory) (token : List ℕ) (loaded : Texts) (recorded : List EventRecord) (before : List Offer)
+    (server : Server) (out : List Offer) : Type 0 where
   pub fuel : ℕ
   pub enough : IsEnough directory token loaded fuel recorded
   pub represents : RepresentsWithOffers directory token before server out (state_after directory token loaded fuel recorded)

@@ -16,7 +16,13 @@ pub record LinkState : Type 0 where
   pub delivery_faults : ℕ
 
 abbrev pub link_state : {N : Type 0} → Link N → N → LinkState
-link_state ghosts link = record { input = ghosts.input link; output = ghosts.output link; calls = ghosts.calls link; arrival_faults = ghosts.arrival_faults link; delivery_faults = ghosts.delivery_faults link }
+link_state ghosts link = record {
+  input = ghosts.input link;
+  output = ghosts.output link;
+  calls = ghosts.calls link;
+  arrival_faults = ghosts.arrival_faults link;
+  delivery_faults = ghosts.delivery_faults link;
+}
 
 -- of a keeper: its contents and its calls, where it exposes them, and the count of its faults
 pub record KeeperState : Type 0 where

@@ -99,7 +99,8 @@ StepAborted event old offers keeper =
 abbrev pub AsksKeeperAfter : StepState → EventRecord → (keeper : KeeperState) → Type 0
 AsksKeeperAfter old one keeper =
     (directory : Directory) (token : List ℕ) (before : List Offer) (state : RunState) (fuel : ℕ) →
-    RepresentsWithOffers directory token before old.server old.offers state → IsSettledBefore fuel one directory token state → IsShort (state_after_event fuel one directory token state) →
+    RepresentsWithOffers directory token before old.server old.offers state → IsSettledBefore fuel one directory token state →
+    IsShort (state_after_event fuel one directory token state) →
     IsKeeperResult (call_of directory.names one.event) one.outcome one.rows old.keeper.contents keeper.contents old.keeper.calls keeper.calls
 
 -- and the CDRs that wait at its end are these

@@ -25,7 +25,8 @@ of_transaction OfTransaction e = refl
 of_transaction (OfServiceTimer armed others) e = absurd (let f : deadline.OfServiceTimer ≡ deadline.OfTransaction = e in cc)
 
 -- of a call or a participant
-pub of_service_timer : (first : Deadline) (chosen : Option FirstTimer) → kind_of first ≡ deadline.OfServiceTimer → IsFirstTimer chosen first → (call : FirstTimer) × (chosen ≡ Some call) × (OfServiceTimer call.first call.others ≡ first)
+pub of_service_timer : (first : Deadline) (chosen : Option FirstTimer) → kind_of first ≡ deadline.OfServiceTimer → IsFirstTimer chosen first →
+    (call : FirstTimer) × (chosen ≡ Some call) × (OfServiceTimer call.first call.others ≡ first)
 of_service_timer OfTransaction chosen e is = absurd (let f : deadline.OfTransaction ≡ deadline.OfServiceTimer = e in cc)
 of_service_timer (OfServiceTimer armed others) chosen e is = (first_timer armed others, is, refl)
 

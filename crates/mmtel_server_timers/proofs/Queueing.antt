@@ -48,7 +48,8 @@ module _ (now : ℕ) (q : NumberedTimer) where
       by_test true e t later =
           let same : pending_of x ≡ pending_of q = ap pending_in (same_Some x.1 q.1 t) in
           ap (λ (a : run.PendingTimer). first_due_timer now (a ∷ runs xs)) same
-          ∙ in_front now (pending_of q) due (runs xs) (all_runs (λ (a : run.PendingTimer). is_sooner a (pending_of q) ≡ false) xs (all_weaken (Beats q) (λ e. is_sooner (pending_of e) (pending_of q) ≡ false) (λ e b. b.0) xs beats.1))
+          ∙ in_front now (pending_of q) due (runs xs)
+          (all_runs (λ (a : run.PendingTimer). is_sooner a (pending_of q) ≡ false) xs (all_weaken (Beats q) (λ e. is_sooner (pending_of e) (pending_of q) ≡ false) (λ e b. b.0) xs beats.1))
       by_test false e t later =
           let numbers : AllByRecursion (λ e. x.0 < e.0) xs = all_weaken (λ e. (x.0 < e.0) × (x.1.step ≤ e.1.step)) (λ e. x.0 < e.0) (λ e l. l.0) xs follow.0 in
           let l : x.0 < q.0 = found_number x.0 q.0 q.1 xs t numbers in
@@ -243,7 +244,8 @@ follow_out n (x ∷ xs) follow = by_test (is_number n x.0) (follow_out n xs foll
     by_test true later = follow.1
     by_test false later = (all_out (λ y. (x.0 < y.0) × (x.1.step ≤ y.1.step)) n xs follow.0, later)
 
-pub kept_out : (next step : ℕ) (ranks : Ranks) (es : List NumberedTimer) (n : ℕ) → TimersInvariant next step ranks es → TimersInvariant next step (in_ranks (without (key_of n)) ranks) (remove_entry (is_at (nat_cmp n)) es)
+pub kept_out : (next step : ℕ) (ranks : Ranks) (es : List NumberedTimer) (n : ℕ) → TimersInvariant next step ranks es →
+    TimersInvariant next step (in_ranks (without (key_of n)) ranks) (remove_entry (is_at (nat_cmp n)) es)
 kept_out next step ranks es n are = record {
   in_order = follow_out n es are.in_order;
   below_next = all_out (λ e. (e.0 < next) × (e.1.step ≤ step)) n es are.below_next;
@@ -305,7 +307,8 @@ module _ (next step : ℕ) (ranks : Ranks) (es : List NumberedTimer) (are : Time
           ∙ ap (λ (c : Bool). of_rank r es ++ cond c (deadline_of new ∷ []) []) (sym (subst (λ (m : ℕ). (m == r) ≡ false) is t))
 
   pub kept_more : (k : ℕ) → k ≡ rank (timer_in a.timer) → step ≤ a.step → TimersInvariant (next + 1) a.step (in_rank k (after_arming a.at (key_of next)) ranks) (insert_entry nat_cmp es next a)
-  kept_more k is later = subst (λ (l : List NumberedTimer). TimersInvariant (next + 1) a.step (in_rank k (after_arming a.at (key_of next)) ranks) l) (sym (one_more next a es numbers)) (by_rank (rank_is (timer_in a.timer)))
+  kept_more k is later = subst (λ (l : List NumberedTimer). TimersInvariant (next + 1) a.step (in_rank k (after_arming a.at (key_of next)) ranks) l) (sym (one_more next a es numbers))
+      (by_rank (rank_is (timer_in a.timer)))
     where
       in_order : AreInOrder (es ++ new ∷ [])
       in_order = follow_last new es are.in_order (all_weaken (λ e. (e.0 < next) × (e.1.step ≤ step)) (λ e. (e.0 < next) × (e.1.step ≤ a.step)) (λ e l. (l.0, let h = l.1 in omega (arith, h, later))) es are.below_next)

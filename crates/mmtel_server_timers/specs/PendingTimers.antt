@@ -1,7 +1,8 @@
 -- The timers of calls, of participants of conferences and of subscriptions, as the server stores them.
 use Rattle.std.specs.Prelude.{◌≡◌, ◌==◌, ◌&&◌, ◌||◌, nat_lt, nat_le, Bool, ℕ, ⊤, List, map, Option, Some}
 use Rattle.std.specs.Option.{option_map}
-use Rattle.mmtel_run_definitions.specs.Deadlines.{Deadline, FirstTimer, OfCall, OfParticipant, OfServiceTimer, OfSubscription, OfTransaction, PendingTimer, ServiceTimer, first_timer}
+use Rattle.mmtel_run_definitions.specs.Deadlines.{Deadline, FirstTimer, OfCall, OfParticipant, OfServiceTimer}
+use Rattle.mmtel_run_definitions.specs.Deadlines.{OfSubscription, OfTransaction, PendingTimer, ServiceTimer, first_timer}
 use Rattle.mmtel_server_timers.specs.declared.pending_timers.ServiceTimer as service_timers
 use Rattle.mmtel_server_timers.specs.declared.pending_timers.ServiceTimer.TheVariants as service_timer
 use Rattle.mmtel_server_timers.specs.declared.pending_timers.PendingTimer as declared

@@ -20,7 +20,8 @@ pub fn hand_rows<K: Keeper>(
     ensures remaining { IfOk result (λ took. waiting.new ≡ remaining_rows took waiting.old) }
     ensures handed { IfOk result (λ took. HandsOver took waiting.old (K.contents keeper.old) (K.contents keeper.new) (K.calls keeper.old) (K.calls keeper.new)) }
     ensures counted { IfOk result (λ took. HandoverFaults took (K.faults keeper.old) (K.faults keeper.new)) }
-    ensures aborted { OnErr result (HandoverAborted (K.contents keeper.old) (K.contents keeper.new) (K.calls keeper.old) (K.calls keeper.new) (K.faults keeper.old) (K.faults keeper.new)) }
+    ensures aborted { OnErr result (HandoverAborted (K.contents keeper.old) (K.contents keeper.new) (K.calls keeper.old)
+        (K.calls keeper.new) (K.faults keeper.old) (K.faults keeper.new)) }
     ensures kept { OnErr result (waiting.new ≡ waiting.old) }
 {
     let count = waiting.items().len();

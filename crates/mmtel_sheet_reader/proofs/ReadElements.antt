@@ -9,7 +9,8 @@ use Rattle.toml.specs.Data.{Data, string, integer, float, boolean, datetime, arr
 use Rattle.mmtel_lex.specs.Reading.{uri_of, Refusal}
 use Rattle.mmtel_lex.specs.declared.values.Uri.{Uri}
 use Rattle.mmtel_sheet_grammar.specs.ReadResults.{Read, or_wrong}
-use Rattle.mmtel_sheet_grammar.specs.Elements.{uri_read, uri_at, is_target, target_or_wrong, target_at, is_domain, domain_at, is_token_text, token_at, time_at, items_from, uris_at, tokens_at, day_of, no_days, with_day, day_read, days_from, has_day, days_or_wrong, days_at, minutes_by, clock_of, clock_at, is_offset, offset_at, text_at}
+use Rattle.mmtel_sheet_grammar.specs.Elements.{uri_read, uri_at, is_target, target_or_wrong, target_at, is_domain, domain_at, is_token_text, token_at, time_at, items_from, uris_at, tokens_at}
+use Rattle.mmtel_sheet_grammar.specs.Elements.{day_of, no_days, with_day, day_read, days_from, has_day, days_or_wrong, days_at, minutes_by, clock_of, clock_at, is_offset, offset_at, text_at}
 use Rattle.mmtel_sheet_grammar.specs.Moments.{moment_of_text}
 use Rattle.mmtel_sheet_grammar.specs.declared.faults.SheetFault.TheVariants.{Wrong}
 use Rattle.mmtel_sheet_grammar.specs.Printable.{IsUriOfText, IsTarget, IsMoment}
@@ -43,7 +44,8 @@ target_some at s u text read = where_ok (is_target u && nat_le (length s) 256) (
     target_printable s u read both.0 short)
 
 pub target_ok : (at : List ℕ) (d : Data) → IsSound d → IfOk (target_at at d) IsTarget
-target_ok at (string s) text = then_all _ (λ u. target_or_wrong at s u) (λ u. uri_of s ≡ Ok u) IsTarget (or_all at (uri_read (uri_of s)) (λ u. uri_of s ≡ Ok u) (uri_of_text s (uri_of s) refl)) (λ u read. target_some at s u text read)
+target_ok at (string s) text = then_all _ (λ u. target_or_wrong at s u) (λ u. uri_of s ≡ Ok u) IsTarget (or_all at (uri_read (uri_of s)) (λ u. uri_of s ≡ Ok u) (uri_of_text s (uri_of s) refl))
+    (λ u read. target_some at s u text read)
 target_ok at (integer z) text = tt
 target_ok at (float x) text = tt
 target_ok at (boolean b) text = tt
@@ -87,9 +89,11 @@ module _ {A : Type 0} where
   all_last P [] x all p = (p, tt)
   all_last P (y ∷ xs) x all p = (all.0, all_last P xs x all.1 p)
 
-  items_ok : (read : Data → Read A) (P : A → Type 0) → ((d : Data) → IsSound d → IfOk (read d) P) → (done : List A) (ds : Items) → AllByRecursion P done → IsSoundArray ds → IfOk (items_from read done ds) (AllByRecursion P)
+  items_ok : (read : Data → Read A) (P : A → Type 0) → ((d : Data) → IsSound d → IfOk (read d) P) → (done : List A) (ds : Items) → AllByRecursion P done → IsSoundArray ds →
+      IfOk (items_from read done ds) (AllByRecursion P)
   items_ok read P each done no_items all texts = all
-  items_ok read P each done (item d ds) all texts = then_all (read d) (λ a. items_from read (done ++ a ∷ []) ds) P (AllByRecursion P) (each d texts.0) (λ a p. items_ok read P each (done ++ a ∷ []) ds (all_last P done a all p) texts.1)
+  items_ok read P each done (item d ds) all texts =
+      then_all (read d) (λ a. items_from read (done ++ a ∷ []) ds) P (AllByRecursion P) (each d texts.0) (λ a p. items_ok read P each (done ++ a ∷ []) ds (all_last P done a all p) texts.1)
 
 pub uris_ok : (at : List ℕ) (d : Data) → IsSound d → IfOk (uris_at at d) (AllByRecursion IsUriOfText)
 uris_ok at (string s) text = tt

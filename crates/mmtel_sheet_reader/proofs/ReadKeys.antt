@@ -44,50 +44,177 @@ pub record IsKept (s : Schema) (d : RuleDraft) : Type 0 where
   pub window : IfSome d.window IsWindow
 
 pub nothing_kept : (s : Schema) → IsKept s empty_draft
-nothing_kept s = record { abroad = λ e. absurd cc; diverted = λ e. absurd cc; hours = tt; weekly = tt; anonymous = λ e. absurd cc; event = tt; except = tt; from = tt; many = tt; media = tt; one = tt; target = tt; window = tt }
+nothing_kept s =
+    record { abroad = λ e. absurd cc; diverted = λ e. absurd cc; hours = tt; weekly = tt; anonymous = λ e. absurd cc; event = tt; except = tt; from = tt; many = tt; media = tt; one = tt; target = tt; window = tt }
 
 module _ (s : Schema) (ms : Members) (at : List ℕ) (d : RuleDraft) (k : IsKept s d) where
   allow_kept : (v : Data) → IfOk (key_read ms at d key.Allow v) (IsKept s)
-  allow_kept v = then_any (truth_at at v) _ (IsKept s) (λ b. record { abroad = k.abroad; diverted = k.diverted; hours = k.hours; weekly = k.weekly; anonymous = k.anonymous; event = k.event; except = k.except; from = k.from; many = k.many; media = k.media; one = k.one; target = k.target; window = k.window })
+  allow_kept v = then_any (truth_at at v) _ (IsKept s) (λ b. record {
+    abroad = k.abroad;
+    diverted = k.diverted;
+    hours = k.hours;
+    weekly = k.weekly;
+    anonymous = k.anonymous;
+    event = k.event;
+    except = k.except;
+    from = k.from;
+    many = k.many;
+    media = k.media;
+    one = k.one;
+    target = k.target;
+    window = k.window;
+  })
 
   anonymous_kept : (v : Data) → applies_to_callers s.service ≡ true → IfOk (key_read ms at d key.Anonymous v) (IsKept s)
-  anonymous_kept v listed = then_any (truth_at at v) _ (IsKept s) (λ b. record { abroad = k.abroad; diverted = k.diverted; hours = k.hours; weekly = k.weekly; anonymous = λ e. listed; event = k.event; except = k.except; from = k.from; many = k.many; media = k.media; one = k.one; target = k.target; window = k.window })
+  anonymous_kept v listed = then_any (truth_at at v) _ (IsKept s) (λ b. record {
+    abroad = k.abroad;
+    diverted = k.diverted;
+    hours = k.hours;
+    weekly = k.weekly;
+    anonymous = λ e. listed;
+    event = k.event;
+    except = k.except;
+    from = k.from;
+    many = k.many;
+    media = k.media;
+    one = k.one;
+    target = k.target;
+    window = k.window;
+  })
 
   diverted_kept : (v : Data) → applies_to_callers s.service ≡ true → IfOk (key_read ms at d key.Diverted v) (IsKept s)
-  diverted_kept v listed = then_any (truth_at at v) _ (IsKept s) (λ b. record { abroad = k.abroad; diverted = λ e. listed; hours = k.hours; weekly = k.weekly; anonymous = k.anonymous; event = k.event; except = k.except; from = k.from; many = k.many; media = k.media; one = k.one; target = k.target; window = k.window })
+  diverted_kept v listed = then_any (truth_at at v) _ (IsKept s) (λ b. record {
+    abroad = k.abroad;
+    diverted = λ e. listed;
+    hours = k.hours;
+    weekly = k.weekly;
+    anonymous = k.anonymous;
+    event = k.event;
+    except = k.except;
+    from = k.from;
+    many = k.many;
+    media = k.media;
+    one = k.one;
+    target = k.target;
+    window = k.window;
+  })
 
   international_kept : (v : Data) → is_outgoing s.service ≡ true → IfOk (key_read ms at d key.International v) (IsKept s)
-  international_kept v listed = then_any (truth_at at v) _ (IsKept s) (λ b. record { abroad = λ e. listed; diverted = k.diverted; hours = k.hours; weekly = k.weekly; anonymous = k.anonymous; event = k.event; except = k.except; from = k.from; many = k.many; media = k.media; one = k.one; target = k.target; window = k.window })
+  international_kept v listed = then_any (truth_at at v) _ (IsKept s) (λ b. record {
+    abroad = λ e. listed;
+    diverted = k.diverted;
+    hours = k.hours;
+    weekly = k.weekly;
+    anonymous = k.anonymous;
+    event = k.event;
+    except = k.except;
+    from = k.from;
+    many = k.many;
+    media = k.media;
+    one = k.one;
+    target = k.target;
+    window = k.window;
+  })
 
   day_from_kept : (v : Data) → IfOk (key_read ms at d key.DayFrom v) (IsKept s)
   day_from_kept v = then_any (clock_at 1_439 at v) _ (IsKept s) (λ n.
-      where_ok (has_key (codes "day-until") ms && has_key (codes "days") ms) (Ok (record d { day_from = Some n })) (Wrong at) (IsKept s) (λ both. record { abroad = k.abroad; diverted = k.diverted; hours = k.hours; weekly = k.weekly; anonymous = k.anonymous; event = k.event; except = k.except; from = k.from; many = k.many; media = k.media; one = k.one; target = k.target; window = k.window }))
+      where_ok (has_key (codes "day-until") ms && has_key (codes "days") ms) (Ok (record d { day_from = Some n })) (Wrong at) (IsKept s) (λ both. record {
+        abroad = k.abroad;
+        diverted = k.diverted;
+        hours = k.hours;
+        weekly = k.weekly;
+        anonymous = k.anonymous;
+        event = k.event;
+        except = k.except;
+        from = k.from;
+        many = k.many;
+        media = k.media;
+        one = k.one;
+        target = k.target;
+        window = k.window;
+      }))
 
   hours_kept : (n : ℕ) (o : Option ℕ) → n ≤ 1_440 → IfOk (day_until_read at d n o) (IsKept s)
   hours_kept n None bound = tt
   hours_kept n (Some f) bound = where_ok (nat_lt f n) _ (Wrong at) (IsKept s) (λ order.
       let before : f < n = grind (arith, nat_tests) in
-      record { abroad = k.abroad; diverted = k.diverted; hours = record { order = before; within = bound }; weekly = k.weekly; anonymous = k.anonymous; event = k.event; except = k.except; from = k.from; many = k.many; media = k.media; one = k.one; target = k.target; window = k.window })
+      record {
+        abroad = k.abroad;
+        diverted = k.diverted;
+        hours = record { order = before; within = bound };
+        weekly = k.weekly;
+        anonymous = k.anonymous;
+        event = k.event;
+        except = k.except;
+        from = k.from;
+        many = k.many;
+        media = k.media;
+        one = k.one;
+        target = k.target;
+        window = k.window;
+      })
 
   day_until_kept : (v : Data) → IfOk (key_read ms at d key.DayUntil v) (IsKept s)
   day_until_kept v = then_all (clock_at 1_440 at v) _ (λ n. n ≤ 1_440) (IsKept s) (clock_ok 1_440 at v) (λ n bound. hours_kept n d.day_from bound)
 
   week_kept : (days : List Bool) (o : Option Hours) → IsDays days → IfSome o IsHours → IfOk (days_read at d days o) (IsKept s)
   week_kept days None is hours = tt
-  week_kept days (Some h) is hours = record { abroad = k.abroad; diverted = k.diverted; hours = k.hours; weekly = record { whole = is.whole; days = is.some; order = hours.order; within = hours.within; offset = refl }; anonymous = k.anonymous; event = k.event; except = k.except; from = k.from; many = k.many; media = k.media; one = k.one; target = k.target; window = k.window }
+  week_kept days (Some h) is hours = record {
+    abroad = k.abroad;
+    diverted = k.diverted;
+    hours = k.hours;
+    weekly = record { whole = is.whole; days = is.some; order = hours.order; within = hours.within; offset = refl };
+    anonymous = k.anonymous;
+    event = k.event;
+    except = k.except;
+    from = k.from;
+    many = k.many;
+    media = k.media;
+    one = k.one;
+    target = k.target;
+    window = k.window;
+  }
 
   days_kept : (v : Data) → IfOk (key_read ms at d key.Days v) (IsKept s)
   days_kept v = then_all (days_at at v) _ IsDays (IsKept s) (days_ok at v) (λ days is. week_kept days d.hours is k.hours)
 
   ahead_kept : (z : ℤ) (o : Option Weekly) → is_offset z ≡ true → IfSome o IsWeekly → IfOk (offset_read at d z o) (IsKept s)
   ahead_kept z None is weekly = tt
-  ahead_kept z (Some w) is weekly = record { abroad = k.abroad; diverted = k.diverted; hours = k.hours; weekly = record { whole = weekly.whole; days = weekly.days; order = weekly.order; within = weekly.within; offset = is }; anonymous = k.anonymous; event = k.event; except = k.except; from = k.from; many = k.many; media = k.media; one = k.one; target = k.target; window = k.window }
+  ahead_kept z (Some w) is weekly = record {
+    abroad = k.abroad;
+    diverted = k.diverted;
+    hours = k.hours;
+    weekly = record { whole = weekly.whole; days = weekly.days; order = weekly.order; within = weekly.within; offset = is };
+    anonymous = k.anonymous;
+    event = k.event;
+    except = k.except;
+    from = k.from;
+    many = k.many;
+    media = k.media;
+    one = k.one;
+    target = k.target;
+    window = k.window;
+  }
 
   offset_kept : (v : Data) → IfOk (key_read ms at d key.Offset v) (IsKept s)
   offset_kept v = then_all (offset_at at v) _ (λ z. is_offset z ≡ true) (IsKept s) (offset_ok at v) (λ z is. ahead_kept z d.weekly is k.weekly)
 
   event_with : (e : EventWord) (o : Option EventWord) → is_diversion s.service ≡ true → IfOk (with_event at e d o) (IsKept s)
-  event_with e None listed = record { abroad = k.abroad; diverted = k.diverted; hours = k.hours; weekly = k.weekly; anonymous = k.anonymous; event = listed; except = k.except; from = k.from; many = k.many; media = k.media; one = k.one; target = k.target; window = k.window }
+  event_with e None listed = record {
+    abroad = k.abroad;
+    diverted = k.diverted;
+    hours = k.hours;
+    weekly = k.weekly;
+    anonymous = k.anonymous;
+    event = listed;
+    except = k.except;
+    from = k.from;
+    many = k.many;
+    media = k.media;
+    one = k.one;
+    target = k.target;
+    window = k.window;
+  }
   event_with e (Some f) listed = tt
 
   event_told : (e : EventWord) (b : Bool) → is_diversion s.service ≡ true → IfOk (event_read at e d b) (IsKept s)
@@ -100,34 +227,146 @@ module _ (s : Schema) (ms : Members) (at : List ℕ) (d : RuleDraft) (k : IsKept
   except_kept : (v : Data) → IsSound v → IfOk (key_read ms at d key.Except v) (IsKept s)
   except_kept v sound = then_all (uris_at at v) _ (λ us. AllByRecursion IsUriOfText us) (IsKept s) (uris_ok at v sound) (λ us all.
       where_ok (has_key (codes "many") ms) _ (Wrong at) (IsKept s) (λ many.
-      unless_err (nat_lt 64 (length us) && not (has_key (codes "one") ms)) (Ok (record d { except = us })) (Many at 64) (IsKept s) (λ few. record { abroad = k.abroad; diverted = k.diverted; hours = k.hours; weekly = k.weekly; anonymous = k.anonymous; event = k.event; except = all; from = k.from; many = k.many; media = k.media; one = k.one; target = k.target; window = k.window })))
+      unless_err (nat_lt 64 (length us) && not (has_key (codes "one") ms)) (Ok (record d { except = us })) (Many at 64) (IsKept s) (λ few. record {
+        abroad = k.abroad;
+        diverted = k.diverted;
+        hours = k.hours;
+        weekly = k.weekly;
+        anonymous = k.anonymous;
+        event = k.event;
+        except = all;
+        from = k.from;
+        many = k.many;
+        media = k.media;
+        one = k.one;
+        target = k.target;
+        window = k.window;
+      })))
 
   from_kept : (v : Data) → IfOk (key_read ms at d key.From v) (IsKept s)
   from_kept v = then_all (time_at at v) _ IsMoment (IsKept s) (time_ok at v) (λ t moment.
-      where_ok (has_key (codes "until") ms) (Ok (record d { from = Some t })) (Wrong at) (IsKept s) (λ until. record { abroad = k.abroad; diverted = k.diverted; hours = k.hours; weekly = k.weekly; anonymous = k.anonymous; event = k.event; except = k.except; from = moment; many = k.many; media = k.media; one = k.one; target = k.target; window = k.window }))
+      where_ok (has_key (codes "until") ms) (Ok (record d { from = Some t })) (Wrong at) (IsKept s) (λ until. record {
+        abroad = k.abroad;
+        diverted = k.diverted;
+        hours = k.hours;
+        weekly = k.weekly;
+        anonymous = k.anonymous;
+        event = k.event;
+        except = k.except;
+        from = moment;
+        many = k.many;
+        media = k.media;
+        one = k.one;
+        target = k.target;
+        window = k.window;
+      }))
 
   id_kept : (v : Data) → IfOk (key_read ms at d key.Id v) (IsKept s)
   id_kept v = then_any (text_at at v) _ (IsKept s) (λ x. k)
 
   many_kept : (v : Data) → IfOk (key_read ms at d key.Many v) (IsKept s)
-  many_kept v = then_all (domain_at at v) _ (λ x. is_domain x ≡ true) (IsKept s) (domain_ok at v) (λ x is. record { abroad = k.abroad; diverted = k.diverted; hours = k.hours; weekly = k.weekly; anonymous = k.anonymous; event = k.event; except = k.except; from = k.from; many = is; media = k.media; one = k.one; target = k.target; window = k.window })
+  many_kept v = then_all (domain_at at v) _ (λ x. is_domain x ≡ true) (IsKept s) (domain_ok at v) (λ x is. record {
+    abroad = k.abroad;
+    diverted = k.diverted;
+    hours = k.hours;
+    weekly = k.weekly;
+    anonymous = k.anonymous;
+    event = k.event;
+    except = k.except;
+    from = k.from;
+    many = is;
+    media = k.media;
+    one = k.one;
+    target = k.target;
+    window = k.window;
+  })
 
   media_kept : (v : Data) → IsSound v → IfOk (key_read ms at d key.Media v) (IsKept s)
-  media_kept v sound = then_all (tokens_at at v) _ (AllByRecursion (λ t. is_token_text t ≡ true)) (IsKept s) (tokens_ok at v sound) (λ ts all. record { abroad = k.abroad; diverted = k.diverted; hours = k.hours; weekly = k.weekly; anonymous = k.anonymous; event = k.event; except = k.except; from = k.from; many = k.many; media = all; one = k.one; target = k.target; window = k.window })
+  media_kept v sound = then_all (tokens_at at v) _ (AllByRecursion (λ t. is_token_text t ≡ true)) (IsKept s) (tokens_ok at v sound) (λ ts all. record {
+    abroad = k.abroad;
+    diverted = k.diverted;
+    hours = k.hours;
+    weekly = k.weekly;
+    anonymous = k.anonymous;
+    event = k.event;
+    except = k.except;
+    from = k.from;
+    many = k.many;
+    media = all;
+    one = k.one;
+    target = k.target;
+    window = k.window;
+  })
 
   notice_kept : (n : Notification) (v : Data) → IfOk (key_read ms at d (key.Notification n) v) (IsKept s)
-  notice_kept n v = then_any (truth_at at v) _ (IsKept s) (λ b. record { abroad = k.abroad; diverted = k.diverted; hours = k.hours; weekly = k.weekly; anonymous = k.anonymous; event = k.event; except = k.except; from = k.from; many = k.many; media = k.media; one = k.one; target = k.target; window = k.window })
+  notice_kept n v = then_any (truth_at at v) _ (IsKept s) (λ b. record {
+    abroad = k.abroad;
+    diverted = k.diverted;
+    hours = k.hours;
+    weekly = k.weekly;
+    anonymous = k.anonymous;
+    event = k.event;
+    except = k.except;
+    from = k.from;
+    many = k.many;
+    media = k.media;
+    one = k.one;
+    target = k.target;
+    window = k.window;
+  })
 
   one_kept : (v : Data) → IsSound v → IfOk (key_read ms at d key.One v) (IsKept s)
   one_kept v sound = then_all (uris_at at v) _ (λ us. AllByRecursion IsUriOfText us) (IsKept s) (uris_ok at v sound) (λ us all.
-      unless_err (nat_lt 64 (length us + length d.except)) (Ok (record d { one = Some us })) (Many at 64) (IsKept s) (λ few. record { abroad = k.abroad; diverted = k.diverted; hours = k.hours; weekly = k.weekly; anonymous = k.anonymous; event = k.event; except = k.except; from = k.from; many = k.many; media = k.media; one = all; target = k.target; window = k.window }))
+      unless_err (nat_lt 64 (length us + length d.except)) (Ok (record d { one = Some us })) (Many at 64) (IsKept s) (λ few. record {
+        abroad = k.abroad;
+        diverted = k.diverted;
+        hours = k.hours;
+        weekly = k.weekly;
+        anonymous = k.anonymous;
+        event = k.event;
+        except = k.except;
+        from = k.from;
+        many = k.many;
+        media = k.media;
+        one = all;
+        target = k.target;
+        window = k.window;
+      }))
 
   target_kept : (v : Data) → IsSound v → IfOk (key_read ms at d key.Target v) (IsKept s)
-  target_kept v sound = then_all (target_at at v) _ IsTarget (IsKept s) (target_ok at v sound) (λ u is. record { abroad = k.abroad; diverted = k.diverted; hours = k.hours; weekly = k.weekly; anonymous = k.anonymous; event = k.event; except = k.except; from = k.from; many = k.many; media = k.media; one = k.one; target = is; window = k.window })
+  target_kept v sound = then_all (target_at at v) _ IsTarget (IsKept s) (target_ok at v sound) (λ u is. record {
+    abroad = k.abroad;
+    diverted = k.diverted;
+    hours = k.hours;
+    weekly = k.weekly;
+    anonymous = k.anonymous;
+    event = k.event;
+    except = k.except;
+    from = k.from;
+    many = k.many;
+    media = k.media;
+    one = k.one;
+    target = is;
+    window = k.window;
+  })
 
   window_kept : (t : ℤ) (o : Option ℤ) → IsMoment t → IfSome o IsMoment → IfOk (until_read at d t o) (IsKept s)
   window_kept t None until from = tt
-  window_kept t (Some f) until from = where_ok (int_lt f t) _ (Wrong at) (IsKept s) (λ order. record { abroad = k.abroad; diverted = k.diverted; hours = k.hours; weekly = k.weekly; anonymous = k.anonymous; event = k.event; except = k.except; from = k.from; many = k.many; media = k.media; one = k.one; target = k.target; window = record { from = from; until = until; order = order } })
+  window_kept t (Some f) until from = where_ok (int_lt f t) _ (Wrong at) (IsKept s) (λ order. record {
+    abroad = k.abroad;
+    diverted = k.diverted;
+    hours = k.hours;
+    weekly = k.weekly;
+    anonymous = k.anonymous;
+    event = k.event;
+    except = k.except;
+    from = k.from;
+    many = k.many;
+    media = k.media;
+    one = k.one;
+    target = k.target;
+    window = record { from = from; until = until; order = order };
+  })
 
   until_kept : (v : Data) → IfOk (key_read ms at d key.Until v) (IsKept s)
   until_kept v = then_all (time_at at v) _ IsMoment (IsKept s) (time_ok at v) (λ t moment. window_kept t d.from moment k.from)
@@ -167,4 +406,5 @@ is_in_list s (Some n) = only_listed s n (is_listed s n) refl
 pub keys_kept : (s : Schema) (ms : Members) (path : List ℕ) (d : RuleDraft) (rest : Members) → IsKept s d → IsSoundTable rest → IfOk (keys_from s ms path d rest) (IsKept s)
 keys_kept s ms path d no_members k sound = k
 keys_kept s ms path d (member n v rest) k sound =
-    then_all (rule_key_read s ms (dotted_path path n) d n v) (λ e. keys_from s ms path e rest) (IsKept s) (IsKept s) (listed_kept s ms (dotted_path path n) d k (listed_key s (rule_key_of n)) v (is_in_list s (rule_key_of n)) sound.1) (λ e kept. keys_kept s ms path e rest kept sound.2)
+    then_all (rule_key_read s ms (dotted_path path n) d n v) (λ e. keys_from s ms path e rest) (IsKept s) (IsKept s)
+    (listed_kept s ms (dotted_path path n) d k (listed_key s (rule_key_of n)) v (is_in_list s (rule_key_of n)) sound.1) (λ e kept. keys_kept s ms path e rest kept sound.2)

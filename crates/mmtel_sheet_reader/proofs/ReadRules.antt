@@ -1,5 +1,6 @@
 -- What is read of a rule can be printed: its identities and its action.
-use Rattle.std.proofs.Common.{◌≡◌, ℕ, ℤ, ◌+◌, ◌≤◌, Bool, true, false, cond, ◌&&◌, not, nat_lt, int_lt, List, [], length, Option, Some, None, Ok, Ordering, Less, Equal, Greater, nat_cmp, is_eq, refl, sym, ap, subst, ◌∙◌, ◌⊎◌, inl, inr, arith, codes}
+use Rattle.std.proofs.Common.{◌≡◌, ℕ, ℤ, ◌+◌, ◌≤◌, Bool, true, false, cond, ◌&&◌, not, nat_lt, int_lt, List, [], length, Option, Some, None}
+use Rattle.std.proofs.Common.{Ok, Ordering, Less, Equal, Greater, nat_cmp, is_eq, refl, sym, ap, subst, ◌∙◌, ◌⊎◌, inl, inr, arith, codes}
 use Rattle.std.proofs.lemmas.Bool.{false≢true}
 use Rattle.std.proofs.lemmas.Bool.Decides.{nat_tests}
 use Rattle.std.specs.Cmp.Lexicographic.{slice_cmp}
@@ -81,13 +82,15 @@ module _ (ms : Members) (at : List ℕ) (d : RuleDraft) where
   other_same : (n : RuleKey) (v : Data) → IsOther n → IfOk (key_read ms at d n v) (IsSame d)
   other_same key.Allow v o = then_any (truth_at at v) _ (IsSame d) (λ b. record { except = refl; many = refl; one = refl })
   other_same key.Anonymous v o = then_any (truth_at at v) _ (IsSame d) (λ b. record { except = refl; many = refl; one = refl })
-  other_same key.DayFrom v o = then_any (clock_at 1_439 at v) _ (IsSame d) (λ n. where_ok (has_key (codes "day-until") ms && has_key (codes "days") ms) (Ok (record d { day_from = Some n })) (Wrong at) (IsSame d) (λ e. record { except = refl; many = refl; one = refl }))
+  other_same key.DayFrom v o = then_any (clock_at 1_439 at v) _ (IsSame d)
+      (λ n. where_ok (has_key (codes "day-until") ms && has_key (codes "days") ms) (Ok (record d { day_from = Some n })) (Wrong at) (IsSame d) (λ e. record { except = refl; many = refl; one = refl }))
   other_same key.DayUntil v o = then_any (clock_at 1_440 at v) _ (IsSame d) (λ n. hours_same n d.day_from)
   other_same key.Days v o = then_any (days_at at v) _ (IsSame d) (λ days. days_same days d.hours)
   other_same key.Diverted v o = then_any (truth_at at v) _ (IsSame d) (λ b. record { except = refl; many = refl; one = refl })
   other_same (key.Event e) v o = then_any (truth_at at v) _ (IsSame d) (λ b. event_told e b)
   other_same key.Except v o = absurd o
-  other_same key.From v o = then_any (time_at at v) _ (IsSame d) (λ t. where_ok (has_key (codes "until") ms) (Ok (record d { from = Some t })) (Wrong at) (IsSame d) (λ e. record { except = refl; many = refl; one = refl }))
+  other_same key.From v o =
+      then_any (time_at at v) _ (IsSame d) (λ t. where_ok (has_key (codes "until") ms) (Ok (record d { from = Some t })) (Wrong at) (IsSame d) (λ e. record { except = refl; many = refl; one = refl }))
   other_same key.Id v o = then_any (text_at at v) _ (IsSame d) (λ x. record { except = refl; many = refl; one = refl })
   other_same key.International v o = then_any (truth_at at v) _ (IsSame d) (λ b. record { except = refl; many = refl; one = refl })
   other_same key.Many v o = absurd o
@@ -124,7 +127,8 @@ apart_keys k l n m false e a c apart = e
 other_key : (k l : List ℕ) (n m : RuleKey) (v : Data) (rest : Members) → rule_key_of k ≡ Some n → rule_key_of l ≡ Some m → (n ≡ m → ⊥) → has_key k (member l v rest) ≡ has_key k rest
 other_key k l n m v rest a c apart = passed (slice_cmp nat_cmp k l) (get_member k rest) v (apart_keys k l n m (same_key k l) refl a c apart)
 
-some_before : {A : Type 0} (o : Option A) (k : List ℕ) (v : Data) (rest : Members) → is_before k rest ≡ true → IfSome o (λ x. is_before (codes "one") (member k v rest) ≡ true) → IfSome o (λ x. is_before (codes "one") rest ≡ true)
+some_before : {A : Type 0} (o : Option A) (k : List ℕ) (v : Data) (rest : Members) → is_before k rest ≡ true → IfSome o (λ x. is_before (codes "one") (member k v rest) ≡ true) →
+    IfSome o (λ x. is_before (codes "one") rest ≡ true)
 some_before None k v rest sorted behind = tt
 some_before (Some x) k v rest sorted behind = before_members (codes "one") k rest behind sorted
 
@@ -192,17 +196,38 @@ module _ (ms : Members) (k : List ℕ) (v : Data) (rest : Members) (sorted : is_
         where_ok (has_key (codes "many") ms) _ (Wrong at) Counted (λ many.
         unless_err (nat_lt 64 (length us) && not (has_key (codes "one") ms)) (Ok (record d { except = us })) (Many at 64) Counted (λ few.
         let old = moved key.Except d.except d.many d.one is many_not_except one_not_except c in
-        record { partner = inr many; alone = alone_by (length us) (has_key (codes "one") ms) few refl; few = never_one d.one (λ uris. length uris + length us ≤ 64) name c.behind; behind = old.behind; many_seen = old.many_seen; one_seen = old.one_seen })))
+        record {
+          partner = inr many;
+          alone = alone_by (length us) (has_key (codes "one") ms) few refl;
+          few = never_one d.one (λ uris. length uris + length us ≤ 64) name c.behind;
+          behind = old.behind;
+          many_seen = old.many_seen;
+          one_seen = old.one_seen;
+        })))
 
     many_counted : rule_key_of k ≡ Some key.Many → IfOk (key_read ms at d key.Many v) Counted
     many_counted is = then_any (domain_at at v) _ Counted (λ x.
-        record { partner = c.partner; alone = c.alone; few = c.few; behind = some_before d.one k v rest sorted c.behind; many_seen = inl refl; one_seen = seen_moved (codes "one") k v ms rest d.one (other_key (codes "one") k key.One key.Many v rest one_name is one_not_many) c.one_seen })
+        record {
+          partner = c.partner;
+          alone = c.alone;
+          few = c.few;
+          behind = some_before d.one k v rest sorted c.behind;
+          many_seen = inl refl;
+          one_seen = seen_moved (codes "one") k v ms rest d.one (other_key (codes "one") k key.One key.Many v rest one_name is one_not_many) c.one_seen;
+        })
 
     one_counted : rule_key_of k ≡ Some key.One → k ≡ codes "one" → IfOk (key_read ms at d key.One v) Counted
     one_counted is name = then_any (uris_at at v) _ Counted (λ us.
         unless_err (nat_lt 64 (length us + length d.except)) (Ok (record d { one = Some us })) (Many at 64) Counted (λ few.
         let bound : length us + length d.except ≤ 64 = grind (arith, nat_tests) in
-        record { partner = c.partner; alone = c.alone; few = bound; behind = subst (λ (y : List ℕ). is_before y rest ≡ true) name sorted; many_seen = seen_moved (codes "many") k v ms rest d.many (other_key (codes "many") k key.Many key.One v rest many_name is many_not_one) c.many_seen; one_seen = inl refl }))
+        record {
+          partner = c.partner;
+          alone = c.alone;
+          few = bound;
+          behind = subst (λ (y : List ℕ). is_before y rest ≡ true) name sorted;
+          many_seen = seen_moved (codes "many") k v ms rest d.many (other_key (codes "many") k key.Many key.One v rest many_name is many_not_one) c.many_seen;
+          one_seen = inl refl;
+        }))
 
     other_counted : (n : RuleKey) → IsOther n → rule_key_of k ≡ Some n → IfOk (key_read ms at d n v) Counted
     other_counted n o is = weaker (key_read ms at d n v) (IsSame d) Counted (other_same ms at d n v o) (λ e same. same_counted d e (moved n d.except d.many d.one is (not_many n o) (not_one n o) c) same)

@@ -10,7 +10,8 @@ use Rattle.mmtel_sheet_grammar.specs.ReadResults.{Read, IsReadResult, then_read}
 use Rattle.mmtel_sheet_grammar.specs.Elements.{truth_at, in_range, number_at}
 use Rattle.mmtel_sheet_grammar.specs.Keys.{dotted_path, rule_path}
 use Rattle.mmtel_sheet_grammar.specs.Rules.{members_from, empty_draft, action_of, rule_from, keys_of_rule, rule_of, are_tables, items_count, rules_from, rules_within, rules_at}
-use Rattle.mmtel_sheet_grammar.specs.Walk.{schema, no_diversion_keys, is_bound, diversion_key, diversion_part, diversion_of, no_bar_keys, is_rejection, bar_key, bar_part, bar_of, presentation_of, restriction_of, no_waiting_keys, waiting_key, waiting_part, waiting_of, table_key_of, table_read, named_read, name_read, version_at, version_of, sheet_from, sheet_of}
+use Rattle.mmtel_sheet_grammar.specs.Walk.{schema, no_diversion_keys, is_bound, diversion_key, diversion_part, diversion_of, no_bar_keys, is_rejection, bar_key, bar_part, bar_of, presentation_of}
+use Rattle.mmtel_sheet_grammar.specs.Walk.{restriction_of, no_waiting_keys, waiting_key, waiting_part, waiting_of, table_key_of, table_read, named_read, name_read, version_at, version_of, sheet_from, sheet_of}
 use Rattle.mmtel_sheet_grammar.specs.declared.drafts.BarDraft.{BarDraft}
 use Rattle.mmtel_sheet_grammar.specs.declared.drafts.DiversionDraft.{DiversionDraft}
 use Rattle.mmtel_sheet_grammar.specs.declared.drafts.Notifications.{Notifications}
@@ -47,7 +48,8 @@ action_ok service.Outgoing path target n (Some b) is = refl
 rule_ok : (s : Schema) (path : List ℕ) (ms : Members) → IsSoundTable ms → IfOk (rule_of s path ms) (IsRule s.service)
 rule_ok s path ms sound =
     then_all (keys_of_rule s path ms) _ (λ d. IsKept s d × IsCounted ms no_members d.except d.many d.one) (IsRule s.service)
-    (both_all (keys_of_rule s path ms) (IsKept s) (λ d. IsCounted ms no_members d.except d.many d.one) (keys_kept s ms path empty_draft ms (nothing_kept s) sound) (keys_counted s ms path empty_draft ms (nothing_counted ms) sound))
+    (both_all (keys_of_rule s path ms) (IsKept s) (λ d. IsCounted ms no_members d.except d.many d.one) (keys_kept s ms path empty_draft ms (nothing_kept s) sound)
+    (keys_counted s ms path empty_draft ms (nothing_counted ms) sound))
     (λ d both.
     let k = both.0 in
     then_all (action_of s.service path d.target d.notifications d.allow) (λ a. Ok (rule_from d a)) (IsAction s.service) (IsRule s.service) (action_ok s.service path d.target d.notifications d.allow k.target)
@@ -79,7 +81,8 @@ rules_ok s path done (item (boolean b) ds) all sound = tt
 rules_ok s path done (item (datetime dt) ds) all sound = tt
 rules_ok s path done (item (array es) ds) all sound = tt
 rules_ok s path done (item (table ms) ds) all sound =
-    then_all (rule_of s (rule_path path (length done)) ms) (λ r. rules_from s path (done ++ r ∷ []) ds) (IsRule s.service) (AreRead s (length done + items_count (item (table ms) ds))) (rule_ok s (rule_path path (length done)) ms sound.0)
+    then_all (rule_of s (rule_path path (length done)) ms) (λ r. rules_from s path (done ++ r ∷ []) ds) (IsRule s.service) (AreRead s (length done + items_count (item (table ms) ds)))
+    (rule_ok s (rule_path path (length done)) ms sound.0)
     (λ r is.
     let count : length (done ++ r ∷ []) + items_count ds ≡ length done + (items_count ds + 1) = omega (arith, length-append done (r ∷ [])) in
     rw (← count) (rules_ok s path (done ++ r ∷ []) ds (all_last (IsRule s.service) done r all is) sound.1))
@@ -150,8 +153,10 @@ diversion_step v at r k d is sound =
     either (bytes_eq k (codes "active")) _ _ IsDiversionDraft (then_any (truth_at at d) _ IsDiversionDraft (λ b. record { rules = is.rules; no_reply = is.no_reply; bound = is.bound }))
     (bound_key v at r k d _ is
     (either (bytes_eq k (codes "deflection")) _ _ IsDiversionDraft (then_any (truth_at at d) _ IsDiversionDraft (λ b. record { rules = is.rules; no_reply = is.no_reply; bound = is.bound }))
-    (either (bytes_eq k (codes "no-reply-time")) _ _ IsDiversionDraft (then_all (number_at 5 180 at d) _ (IsBetween 5 180) IsDiversionDraft (number_ok 5 180 at d) (λ n p. record { rules = is.rules; no_reply = p; bound = is.bound }))
-    (either (bytes_eq k (codes "rule")) _ _ IsDiversionDraft (then_all (rules_at (schema v service.Diversion) at d) _ (AreRules service.Diversion) IsDiversionDraft (rules_at_ok (schema v service.Diversion) at d sound) (λ rs p. record { rules = p; no_reply = is.no_reply; bound = is.bound })) tt))))
+    (either (bytes_eq k (codes "no-reply-time")) _ _ IsDiversionDraft
+    (then_all (number_at 5 180 at d) _ (IsBetween 5 180) IsDiversionDraft (number_ok 5 180 at d) (λ n p. record { rules = is.rules; no_reply = p; bound = is.bound }))
+    (either (bytes_eq k (codes "rule")) _ _ IsDiversionDraft (then_all (rules_at (schema v service.Diversion) at d) _ (AreRules service.Diversion) IsDiversionDraft
+    (rules_at_ok (schema v service.Diversion) at d sound) (λ rs p. record { rules = p; no_reply = is.no_reply; bound = is.bound })) tt))))
 
 no_rules : (s : Service) → AreRules s []
 no_rules s = record { each = tt; few = omega arith }
@@ -163,7 +168,8 @@ diversion_there false p is = tt
 diversion_ok : (v : Version) (path : List ℕ) (ms : Members) → IsSoundTable ms → IfOk (diversion_of v path ms) (λ part. IfSome part IsDiversion)
 diversion_ok v path ms sound =
     then_all (members_from path (λ at r k d. diversion_key v at r k d) no_diversion_keys ms) (λ r. Ok (diversion_part r)) IsDiversionDraft (λ part. IfSome part IsDiversion)
-    (members_ok path (λ at r k d. diversion_key v at r k d) IsDiversionDraft (diversion_step v) no_diversion_keys ms (record { rules = no_rules service.Diversion; no_reply = (omega arith, omega arith); bound = tt }) sound)
+    (members_ok path (λ at r k d. diversion_key v at r k d) IsDiversionDraft (diversion_step v) no_diversion_keys ms
+    (record { rules = no_rules service.Diversion; no_reply = (omega arith, omega arith); bound = tt }) sound)
     (λ r is. diversion_there r.active _ (record { rules = is.rules; least = is.no_reply.0; most = is.no_reply.1; bound = is.bound }))
 
 pub record IsBarDraft (s : Service) (r : BarDraft) : Type 0 where
@@ -177,14 +183,16 @@ bar_rest s at r k d = cond (bytes_eq k (codes "rule")) (then_read (rules_at s at
 rejection_ok : (v : Version) (s : Service) (at : List ℕ) (r : BarDraft) (k : List ℕ) (d : Data) → IsBarDraft s r → IfOk (bar_rest (schema v s) at r k d) (IsBarDraft s)
     → IfOk (cond (is_rejection s k) (then_read (truth_at at d) (λ b. Ok (record r { reject_anonymous = b }))) (bar_rest (schema v s) at r k d)) (IsBarDraft s)
 rejection_ok v service.Diversion at r k d is more = more
-rejection_ok v service.Incoming at r k d is more = either (bytes_eq k (codes "reject-anonymous")) _ _ (IsBarDraft service.Incoming) (then_any (truth_at at d) _ (IsBarDraft service.Incoming) (λ b. record { rules = is.rules; rejection = tt })) more
+rejection_ok v service.Incoming at r k d is more =
+    either (bytes_eq k (codes "reject-anonymous")) _ _ (IsBarDraft service.Incoming) (then_any (truth_at at d) _ (IsBarDraft service.Incoming) (λ b. record { rules = is.rules; rejection = tt })) more
 rejection_ok v service.Outgoing at r k d is more = more
 
 bar_step : (v : Version) (s : Service) (at : List ℕ) (r : BarDraft) (k : List ℕ) (d : Data) → IsBarDraft s r → IsSound d → IfOk (bar_key (schema v s) at r k d) (IsBarDraft s)
 bar_step v s at r k d is sound =
     either (bytes_eq k (codes "active")) _ _ (IsBarDraft s) (then_any (truth_at at d) _ (IsBarDraft s) (λ b. record { rules = is.rules; rejection = is.rejection }))
     (rejection_ok v s at r k d is
-    (either (bytes_eq k (codes "rule")) _ _ (IsBarDraft s) (then_all (rules_at (schema v s) at d) _ (AreRules s) (IsBarDraft s) (rules_at_ok (schema v s) at d sound) (λ rs p. record { rules = p; rejection = is.rejection })) tt))
+    (either (bytes_eq k (codes "rule")) _ _ (IsBarDraft s)
+    (then_all (rules_at (schema v s) at d) _ (AreRules s) (IsBarDraft s) (rules_at_ok (schema v s) at d sound) (λ rs p. record { rules = p; rejection = is.rejection })) tt))
 
 bar_there : (s : Service) (active : Bool) (p : BarPart) → IsBar s p → IfSome (cond active (Some p) None) (IsBar s)
 bar_there s true p is = is
@@ -219,14 +227,18 @@ waiting_ok path ms sound =
 -- ---- the document
 
 table_ok : (v : Version) (at : List ℕ) (s : Sheet) (k : TableKey) (ms : Members) → IsPrintable s → IsSoundTable ms → IfOk (table_read v at s k ms) IsPrintable
-table_ok v at s key.Diversion ms is sound = then_all (diversion_of v at ms) _ (λ part. IfSome part IsDiversion) IsPrintable (diversion_ok v at ms sound) (λ p q. record { diversion = q; incoming = is.incoming; outgoing = is.outgoing; waiting = is.waiting })
-table_ok v at s key.Incoming ms is sound = then_all (bar_of (schema v service.Incoming) at ms) _ (λ part. IfSome part (IsBar service.Incoming)) IsPrintable (bar_ok v service.Incoming at ms sound) (λ p q. record { diversion = is.diversion; incoming = q; outgoing = is.outgoing; waiting = is.waiting })
-table_ok v at s key.Outgoing ms is sound = then_all (bar_of (schema v service.Outgoing) at ms) _ (λ part. IfSome part (IsBar service.Outgoing)) IsPrintable (bar_ok v service.Outgoing at ms sound) (λ p q. record { diversion = is.diversion; incoming = is.incoming; outgoing = q; waiting = is.waiting })
+table_ok v at s key.Diversion ms is sound = then_all (diversion_of v at ms) _ (λ part. IfSome part IsDiversion) IsPrintable (diversion_ok v at ms sound)
+    (λ p q. record { diversion = q; incoming = is.incoming; outgoing = is.outgoing; waiting = is.waiting })
+table_ok v at s key.Incoming ms is sound = then_all (bar_of (schema v service.Incoming) at ms) _ (λ part. IfSome part (IsBar service.Incoming)) IsPrintable (bar_ok v service.Incoming at ms sound)
+    (λ p q. record { diversion = is.diversion; incoming = q; outgoing = is.outgoing; waiting = is.waiting })
+table_ok v at s key.Outgoing ms is sound = then_all (bar_of (schema v service.Outgoing) at ms) _ (λ part. IfSome part (IsBar service.Outgoing)) IsPrintable (bar_ok v service.Outgoing at ms sound)
+    (λ p q. record { diversion = is.diversion; incoming = is.incoming; outgoing = q; waiting = is.waiting })
 table_ok v at s key.Oip ms is sound = then_any (presentation_of at ms) _ IsPrintable (λ b. record { diversion = is.diversion; incoming = is.incoming; outgoing = is.outgoing; waiting = is.waiting })
 table_ok v at s key.Oir ms is sound = then_any (restriction_of at ms) _ IsPrintable (λ r. record { diversion = is.diversion; incoming = is.incoming; outgoing = is.outgoing; waiting = is.waiting })
 table_ok v at s key.Tip ms is sound = then_any (presentation_of at ms) _ IsPrintable (λ b. record { diversion = is.diversion; incoming = is.incoming; outgoing = is.outgoing; waiting = is.waiting })
 table_ok v at s key.Tir ms is sound = then_any (restriction_of at ms) _ IsPrintable (λ r. record { diversion = is.diversion; incoming = is.incoming; outgoing = is.outgoing; waiting = is.waiting })
-table_ok v at s key.Waiting ms is sound = then_all (waiting_of at ms) _ (λ part. IfSome part IsWaiting) IsPrintable (waiting_ok at ms sound) (λ p q. record { diversion = is.diversion; incoming = is.incoming; outgoing = is.outgoing; waiting = q })
+table_ok v at s key.Waiting ms is sound = then_all (waiting_of at ms) _ (λ part. IfSome part IsWaiting) IsPrintable (waiting_ok at ms sound)
+    (λ p q. record { diversion = is.diversion; incoming = is.incoming; outgoing = is.outgoing; waiting = q })
 
 named_ok : (v : Version) (at : List ℕ) (s : Sheet) (o : Option TableKey) (d : Data) → IsPrintable s → IsSound d → IfOk (named_read v at s o d) IsPrintable
 named_ok v at s None d is sound = tt

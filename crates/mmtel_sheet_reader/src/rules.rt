@@ -4,7 +4,8 @@ ghost use Rattle.toml.specs.Data.{as_table};
 ghost use Rattle.toml.specs.View.{view, table_view, array_view};
 ghost use Rattle.mmtel_sheet_grammar.specs.ReadResults.{IsReadResult, then_read, or_wrong};
 ghost use Rattle.mmtel_sheet_grammar.specs.Keys.{dotted_path, rule_key_of, rule_path};
-ghost use Rattle.mmtel_sheet_grammar.specs.Rules.{has_key, empty_draft, with_notification, event_read, except_read, one_read, from_read, until_read, key_read, listed_key, rule_key_read};
+ghost use Rattle.mmtel_sheet_grammar.specs.Rules.{has_key, empty_draft, with_notification, event_read, except_read};
+ghost use Rattle.mmtel_sheet_grammar.specs.Rules.{one_read, from_read, until_read, key_read, listed_key, rule_key_read};
 ghost use Rattle.mmtel_sheet_grammar.specs.Rules.{day_from_read, day_until_read, days_read, offset_read};
 ghost use Rattle.mmtel_sheet_grammar.specs.Rules.{who_of, condition_of, forward_read, allow_read, action_of, keys_of_rule, rule_of, are_tables, items_count, rules_from};
 ghost use Rattle.mmtel_sheet_grammar.specs.Rules.{rules_of, rules_at};
@@ -355,7 +356,8 @@ fn read_name(
     name: &str,
     value: &Value,
 ) -> Result<(), SheetFault>
-    ensures exact { IsReadResult (rule_key_read schema (table_view table.now) (dotted_path path.now name.now) draft.old name.now (view value.now)) (then_read result (λ _. Ok draft.new)) }
+    ensures exact { IsReadResult (rule_key_read schema (table_view table.now) (dotted_path path.now name.now) draft.old name.now (view value.now))
+        (then_read result (λ _. Ok draft.new)) }
     ensures sound { IfOk result (λ _. IsSound (view value.now)) }
 {
     let at = dotted_path(alloc, path, name.as_bytes())?;

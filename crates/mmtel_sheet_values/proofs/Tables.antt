@@ -41,7 +41,8 @@ room_there places ends a there =
 pub end_set : (places : List (ℕ × Option Sheet)) (old new : List (ℕ × ℕ)) (a until : ℕ) → Puts old new a until → of_entries places new ≡ with_registration_end (of_entries places old) a (Some until)
 end_set places old new a until h = λ i. record { sheets = sheets_of places; space = accounts_of places; registration_ends = inserted old new a until h i }
 
-pub end_taken : (places : List (ℕ × Option Sheet)) (old new : List (ℕ × ℕ)) (a : ℕ) → ((q : ℕ) → looked_up new q ≡ cond (is_eq (nat_cmp a q)) None (looked_up old q)) → of_entries places new ≡ with_registration_end (of_entries places old) a None
+pub end_taken : (places : List (ℕ × Option Sheet)) (old new : List (ℕ × ℕ)) (a : ℕ) → ((q : ℕ) → looked_up new q ≡ cond (is_eq (nat_cmp a q)) None (looked_up old q)) →
+    of_entries places new ≡ with_registration_end (of_entries places old) a None
 end_taken places old new a h = λ i. record { sheets = sheets_of places; space = accounts_of places; registration_ends = removed old new a h i }
 
 -- there is space for a sheet of an account exactly where it has an entry

@@ -136,7 +136,8 @@ place_is day h =
     let low = h.0 in
     let high = h.1 in
     let counted : pos (unsigned_abs (day +ℤ pos 4_371_953)) ≡ day +ℤ pos 4_371_953 = nonneg_abs (day +ℤ pos 4_371_953) (omega (arith, signed_arith)) in
-    place_from day (year_of_day day) (unsigned_abs (day +ℤ pos 4_371_953)) (years_within 20000 (unsigned_abs (day +ℤ pos 4_371_953))) (day_in_year day) counted refl (year_count (unsigned_abs (day +ℤ pos 4_371_953)) (omega (arith, signed_arith)) (omega (arith, signed_arith))) refl
+    place_from day (year_of_day day) (unsigned_abs (day +ℤ pos 4_371_953)) (years_within 20000 (unsigned_abs (day +ℤ pos 4_371_953))) (day_in_year day) counted refl
+    (year_count (unsigned_abs (day +ℤ pos 4_371_953)) (omega (arith, signed_arith)) (omega (arith, signed_arith))) refl
 
 -- the date of a day
 pub record IsDated (day : ℤ) : Type 0 where

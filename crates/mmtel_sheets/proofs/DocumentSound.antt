@@ -27,7 +27,9 @@ use Rattle.mmtel_sheet_values.specs.declared.values.Window.{Window}
 use Rattle.mmtel_sheet_reader.proofs.Ascii.{token_text, domain_text}
 use Rattle.mmtel_sheet_reader.proofs.Order.{before_through}
 use Rattle.mmtel_sheet_reader.proofs.ReadTables.{read_printable}
-use Rattle.mmtel_sheets.specs.Printing.{comes_before, with_key, each_item, where_true, uri_data, uris_data, except_beside, except_data, text_data, many_data, one_data, from_data, until_data, media_data, day_from_data, day_until_data, with_word, day_words, days_data, offset_data, bound_data, version_data, party_keys, allow_data, target_data, notification_data, late_keys, middle_keys, rule_data, rules_data, diversion_data, rejection_data, bar_data, presentation_data, word_of, restriction_data, waiting_data, part_data, late_tables, document_of}
+use Rattle.mmtel_sheets.specs.Printing.{comes_before, with_key, each_item, where_true, uri_data, uris_data, except_beside, except_data, text_data, many_data, one_data, from_data, until_data, media_data}
+use Rattle.mmtel_sheets.specs.Printing.{day_from_data, day_until_data, with_word, day_words, days_data, offset_data, bound_data, version_data, party_keys, allow_data, target_data, notification_data, late_keys}
+use Rattle.mmtel_sheets.specs.Printing.{middle_keys, rule_data, rules_data, diversion_data, rejection_data, bar_data, presentation_data, word_of, restriction_data, waiting_data, part_data, late_tables, document_of}
 use Rattle.mmtel_sheets.proofs.DayWords.{to_monday, to_tuesday, to_wednesday, to_thursday, to_friday, to_saturday}
 use Rattle.mmtel_sheets.proofs.MomentTexts.{moment_utf8, hour_utf8}
 use Rattle.mmtel_sheets.proofs.TablesBack.{sheet_back}
@@ -215,7 +217,8 @@ rejection_sound service.Outgoing b = tt
 bar_sound : (s : Service) (p : BarPart) → IsBar s p → IsSound (bar_data s p)
 bar_sound s p is =
     let rule : IsTail (codes "rule") (with_key (codes "rule") (Some (rules_data s p.rules)) no_members) = last_tail (codes "rule") (Some (rules_data s p.rules)) (rules_sound s p.rules is.rules) in
-    let rejection : IsTail (codes "reject-anonymous") (with_key (codes "reject-anonymous") (rejection_data s p.reject_anonymous) (with_key (codes "rule") (Some (rules_data s p.rules)) no_members)) = key_tail (codes "reject-anonymous") (codes "rule") (rejection_data s p.reject_anonymous) _ refl (rejection_sound s p.reject_anonymous) rule in
+    let rejection : IsTail (codes "reject-anonymous") (with_key (codes "reject-anonymous") (rejection_data s p.reject_anonymous) (with_key (codes "rule") (Some (rules_data s p.rules)) no_members)) =
+    key_tail (codes "reject-anonymous") (codes "rule") (rejection_data s p.reject_anonymous) _ refl (rejection_sound s p.reject_anonymous) rule in
     (key_tail (codes "active") (codes "reject-anonymous") (Some (boolean true)) _ refl tt rejection).sound
 
 waiting_sound : (calls : ℕ) → IsSound (waiting_data calls)
@@ -238,7 +241,8 @@ restriction_sound r =
 module _ (s : Sheet) (is : IsPrintable s) where
   late_sound : IsTail (codes "outgoing-communication-barring") (late_tables s)
   late_sound =
-      key_tail (codes "outgoing-communication-barring") (codes "terminating-identity-presentation") _ _ refl (part_sound (IsBar service.Outgoing) (bar_data service.Outgoing) (bar_sound service.Outgoing) s.outgoing is.outgoing)
+      key_tail (codes "outgoing-communication-barring") (codes "terminating-identity-presentation") _ _ refl
+      (part_sound (IsBar service.Outgoing) (bar_data service.Outgoing) (bar_sound service.Outgoing) s.outgoing is.outgoing)
       (key_tail (codes "terminating-identity-presentation") (codes "terminating-identity-presentation-restriction") (Some (presentation_data s.tip)) _ refl (presentation_sound s.tip)
       (key_tail (codes "terminating-identity-presentation-restriction") (codes "version") (Some (restriction_data s.tir)) _ refl (restriction_sound s.tir)
       (last_tail (codes "version") (Some version_data) tt)))
@@ -247,7 +251,8 @@ module _ (s : Sheet) (is : IsPrintable s) where
   document_sound =
       (key_tail (codes "communication-diversion") (codes "communication-waiting") _ _ refl (part_sound IsDiversion diversion_data diversion_sound s.diversion is.diversion)
       (key_tail (codes "communication-waiting") (codes "incoming-communication-barring") _ _ refl (part_sound IsWaiting waiting_data (λ n w. waiting_sound n) s.waiting is.waiting)
-      (key_tail (codes "incoming-communication-barring") (codes "originating-identity-presentation") _ _ refl (part_sound (IsBar service.Incoming) (bar_data service.Incoming) (bar_sound service.Incoming) s.incoming is.incoming)
+      (key_tail (codes "incoming-communication-barring") (codes "originating-identity-presentation") _ _ refl
+      (part_sound (IsBar service.Incoming) (bar_data service.Incoming) (bar_sound service.Incoming) s.incoming is.incoming)
       (key_tail (codes "originating-identity-presentation") (codes "originating-identity-presentation-restriction") (Some (presentation_data s.oip)) _ refl (presentation_sound s.oip)
       (key_tail (codes "originating-identity-presentation-restriction") (codes "outgoing-communication-barring") (Some (restriction_data s.oir)) _ refl (restriction_sound s.oir) late_sound))))).sound
 

@@ -12,7 +12,8 @@ use Rattle.mmtel_base.specs.declared.classes.Class.TheVariants.{Digit}
 use Rattle.mmtel_lex.specs.Grammar.{uri_text}
 use Rattle.mmtel_lex.specs.declared.values.Uri.{Uri}
 use Rattle.mmtel_sheet_grammar.specs.ReadResults.{Read, then_read}
-use Rattle.mmtel_sheet_grammar.specs.Elements.{number_at, uri_at, target_at, is_domain, domain_at, is_token_text, token_at, time_at, items_from, uris_at, tokens_at, day_of, no_days, day_read, days_from, has_day, days_at, clock_at, is_offset, offset_at}
+use Rattle.mmtel_sheet_grammar.specs.Elements.{number_at, uri_at, target_at, is_domain, domain_at, is_token_text, token_at, time_at, items_from, uris_at}
+use Rattle.mmtel_sheet_grammar.specs.Elements.{tokens_at, day_of, no_days, day_read, days_from, has_day, days_at, clock_at, is_offset, offset_at}
 use Rattle.mmtel_sheet_grammar.specs.Printable.{IsUriOfText, IsTarget, IsMoment}
 use Rattle.mmtel_sheets.specs.Printing.{each_item, uri_data, uris_data, hour_text, with_word, day_words}
 use Rattle.mmtel_sheets.specs.Times.{moment_text}

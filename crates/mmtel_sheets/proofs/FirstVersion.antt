@@ -14,7 +14,8 @@ use Rattle.mmtel_sheet_grammar.specs.Elements.{truth_at, number_at}
 use Rattle.mmtel_sheet_grammar.specs.Keys.{rule_key_of, event_of, notification_of, identity_key_of, second_key_of, other_key_of, key_or, notification_or, event_or, is_listed, dotted_path, rule_path}
 use Rattle.mmtel_sheet_grammar.specs.Rules.{members_from, empty_draft, listed_key, listed_key_read, action_of, rule_from, rule_of, are_tables, items_count, rules_from, rules_at}
 use Rattle.mmtel_sheet_grammar.specs.Texts.{document_read, sheet_read}
-use Rattle.mmtel_sheet_grammar.specs.Walk.{schema, no_diversion_keys, diversion_key, diversion_part, diversion_of, no_bar_keys, is_rejection, bar_key, bar_part, bar_of, table_key_of, table_read, named_read, name_read, sheet_from, sheet_of}
+use Rattle.mmtel_sheet_grammar.specs.Walk.{schema, no_diversion_keys, diversion_key, diversion_part, diversion_of, no_bar_keys, is_rejection}
+use Rattle.mmtel_sheet_grammar.specs.Walk.{bar_key, bar_part, bar_of, table_key_of, table_read, named_read, name_read, sheet_from, sheet_of}
 use Rattle.mmtel_sheet_grammar.specs.declared.faults.SheetFault.TheVariants.{NotToml, Unknown, Wrong, Many}
 use Rattle.mmtel_sheet_grammar.specs.declared.keys.Service.{Service}
 use Rattle.mmtel_sheet_grammar.specs.declared.keys.Service.TheVariants as service
@@ -31,7 +32,8 @@ use Rattle.mmtel_sheet_values.specs.Sheets.{empty_sheet}
 use Rattle.mmtel_sheet_values.specs.declared.values.EventWord.{EventWord}
 use Rattle.mmtel_sheet_values.specs.declared.values.Rule.{Rule}
 use Rattle.mmtel_sheet_values.specs.declared.values.Sheet.{Sheet}
-use Rattle.mmtel_sheets.specs.FirstVersion.{first_key_of, has_first_key, first_listed, first_rule_key, first_rule, first_rules_from, first_rules_at, first_diversion_key, first_diversion, first_bar_key, first_bar, first_table, first_name, first_from, first_sheet, first_document, first_read, HasNoVersion, NamesNoVersion}
+use Rattle.mmtel_sheets.specs.FirstVersion.{first_key_of, has_first_key, first_listed, first_rule_key, first_rule, first_rules_from, first_rules_at, first_diversion_key, first_diversion}
+use Rattle.mmtel_sheets.specs.FirstVersion.{first_bar_key, first_bar, first_table, first_name, first_from, first_sheet, first_document, first_read, HasNoVersion, NamesNoVersion}
 
 module _ {A B : Type 0} where
   then_alike : (r : Read A) (f g : A → Read B) → ((a : A) → f a ≡ g a) → then_read r f ≡ then_read r g

@@ -29,7 +29,8 @@ use Rattle.mmtel_sheet_values.specs.declared.values.Weekly.{Weekly}
 use Rattle.mmtel_sheet_values.specs.declared.values.Who.{Who}
 use Rattle.mmtel_sheet_values.specs.declared.values.Window.{Window}
 use Rattle.mmtel_sheet_grammar.specs.Printable.{IsUriOfText, IsWho, IsWindow, IsWeekly, IsAction}
-use Rattle.mmtel_sheets.specs.Printing.{with_key, where_true, except_beside, except_data, text_data, many_data, one_data, from_data, until_data, media_data, event_data, anonymous_data, diverted_data, abroad_data, day_from_data, day_until_data, days_data, offset_data, allow_data, target_data, notification_data}
+use Rattle.mmtel_sheets.specs.Printing.{with_key, where_true, except_beside, except_data, text_data, many_data, one_data, from_data, until_data, media_data, event_data}
+use Rattle.mmtel_sheets.specs.Printing.{anonymous_data, diverted_data, abroad_data, day_from_data, day_until_data, days_data, offset_data, allow_data, target_data, notification_data}
 use Rattle.mmtel_sheets.proofs.ElementsBack.{target_back, domain_back, time_back, uris_back, tokens_back, clock_back, days_back, offset_back}
 
 -- the rules of the service, as they are printed

@@ -18,7 +18,9 @@ use Rattle.mmtel_sheet_values.specs.declared.values.Sheet.{Sheet}
 use Rattle.mmtel_sheet_values.specs.declared.values.Weekly.{Weekly}
 use Rattle.mmtel_sheet_values.specs.declared.values.Who.{Who}
 use Rattle.mmtel_sheet_values.specs.declared.values.Window.{Window}
-use Rattle.mmtel_sheets.specs.Printing.{with_key, each_item, where_true, uri_data, uris_data, except_beside, except_data, text_data, many_data, one_data, from_data, until_data, media_data, day_from_data, day_until_data, with_word, days_data, offset_data, bound_data, party_keys, allow_data, target_data, notification_data, late_keys, middle_keys, rule_data, rules_data, diversion_data, rejection_data, bar_data, presentation_data, restriction_data, waiting_data, part_data, late_tables, document_of}
+use Rattle.mmtel_sheets.specs.Printing.{with_key, each_item, where_true, uri_data, uris_data, except_beside, except_data, text_data, many_data, one_data, from_data, until_data, media_data}
+use Rattle.mmtel_sheets.specs.Printing.{day_from_data, day_until_data, with_word, days_data, offset_data, bound_data, party_keys, allow_data, target_data, notification_data, late_keys, middle_keys}
+use Rattle.mmtel_sheets.specs.Printing.{rule_data, rules_data, diversion_data, rejection_data, bar_data, presentation_data, restriction_data, waiting_data, part_data, late_tables, document_of}
 use Rattle.mmtel_sheets.proofs.DayWords.{to_monday, to_tuesday, to_wednesday, to_thursday, to_friday, to_saturday}
 
 -- no deeper than this, and no dates
@@ -211,7 +213,8 @@ bar_plain : (s : Service) (part : Option BarPart) → IfSome (part_data (bar_dat
 bar_plain s None = tt
 bar_plain s (Some p) =
     let rules : ArePlain 3 (with_key (codes "rule") (Some (rules_data s p.rules)) no_members) = key_plain 3 (codes "rule") (Some (rules_data s p.rules)) no_members (rules_plain s p.rules) (none_plain 3) in
-    table_plain 3 _ (key_plain 3 (codes "active") (Some (boolean true)) _ (truth_plain 3 true) (key_plain 3 (codes "reject-anonymous") (rejection_data s p.reject_anonymous) _ (rejection_plain s p.reject_anonymous) rules))
+    table_plain 3 _
+    (key_plain 3 (codes "active") (Some (boolean true)) _ (truth_plain 3 true) (key_plain 3 (codes "reject-anonymous") (rejection_data s p.reject_anonymous) _ (rejection_plain s p.reject_anonymous) rules))
 
 waiting_plain : (calls : Option ℕ) → IfSome (part_data waiting_data calls) (IsPlain 4)
 waiting_plain None = tt
@@ -220,7 +223,8 @@ waiting_plain (Some n) = record { shallow = omega arith; dateless = refl }
 late_tables_plain : (s : Sheet) → ArePlain 4 (late_tables s)
 late_tables_plain s = key_plain 4 (codes "outgoing-communication-barring") _ _ (bar_plain service.Outgoing s.outgoing) (record { shallow = omega arith; dateless = refl })
 
-originating_plain : (s : Sheet) → ArePlain 4 (with_key (codes "originating-identity-presentation") (Some (presentation_data s.oip)) (with_key (codes "originating-identity-presentation-restriction") (Some (restriction_data s.oir)) (late_tables s)))
+originating_plain : (s : Sheet) →
+    ArePlain 4 (with_key (codes "originating-identity-presentation") (Some (presentation_data s.oip)) (with_key (codes "originating-identity-presentation-restriction") (Some (restriction_data s.oir)) (late_tables s)))
 originating_plain s =
     key_plain 4 (codes "originating-identity-presentation") (Some (presentation_data s.oip)) _ (record { shallow = omega arith; dateless = refl })
     (key_plain 4 (codes "originating-identity-presentation-restriction") (Some (restriction_data s.oir)) _ (record { shallow = omega arith; dateless = refl }) (late_tables_plain s))

@@ -31,7 +31,16 @@ pub record IsTimed (ms : ℕ) : Type 0 where
 
 timed : (ms : ℕ) → ms < 86_400_000 → IsTimed ms
 timed ms h = record {
-  time = record { hour = ms / 3_600_000; minute = ms / 60_000 % 60; second = ms / 1_000 % 60; subsec_nanosecond = ms % 1_000 * 1_000_000; hour_in = omega arith; minute_in = omega arith; second_in = omega arith; subsec_in = omega arith };
+  time = record {
+    hour = ms / 3_600_000;
+    minute = ms / 60_000 % 60;
+    second = ms / 1_000 % 60;
+    subsec_nanosecond = ms % 1_000 * 1_000_000;
+    hour_in = omega arith;
+    minute_in = omega arith;
+    second_in = omega arith;
+    subsec_in = omega arith;
+  };
   same = omega arith;
   text = let fraction = three_places (ms % 1_000) (omega arith) in rw fraction;
   whole = omega arith;

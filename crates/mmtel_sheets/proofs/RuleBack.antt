@@ -20,8 +20,11 @@ use Rattle.mmtel_sheet_values.specs.declared.values.EventWord.TheVariants as eve
 use Rattle.mmtel_sheet_values.specs.declared.values.Rule.{Rule}
 use Rattle.mmtel_sheet_values.specs.declared.values.Who.{Who}
 use Rattle.mmtel_sheet_grammar.specs.Printable.{IsWho, IsAction, IsRule}
-use Rattle.mmtel_sheets.specs.Printing.{with_key, allow_data, anonymous_data, diverted_data, abroad_data, day_from_data, day_until_data, days_data, offset_data, event_data, except_data, from_data, media_data, notification_data, target_data, many_data, one_data, until_data, rule_data}
-use Rattle.mmtel_sheets.proofs.KeySteps.{second, walk, allowed, aimed, notifications_after, except_of, many_of, one_of, start_of, day_from_of, hours_of, week_of, at_busy, at_no_answer, at_not_reachable, allow_step, anonymous_step, busy_step, diverted_step, day_from_step, day_until_step, days_step, abroad_step, offset_step, except_step, from_step, many_step, media_step, no_answer_step, not_reachable_step, not_registered_step, notice_step, one_step, target_step, until_step}
+use Rattle.mmtel_sheets.specs.Printing.{with_key, allow_data, anonymous_data, diverted_data, abroad_data, day_from_data, day_until_data, days_data, offset_data}
+use Rattle.mmtel_sheets.specs.Printing.{event_data, except_data, from_data, media_data, notification_data, target_data, many_data, one_data, until_data, rule_data}
+use Rattle.mmtel_sheets.proofs.KeySteps.{second, walk, allowed, aimed, notifications_after, except_of, many_of, one_of, start_of, day_from_of, hours_of, week_of, at_busy, at_no_answer}
+use Rattle.mmtel_sheets.proofs.KeySteps.{at_not_reachable, allow_step, anonymous_step, busy_step, diverted_step, day_from_step, day_until_step, days_step, abroad_step, offset_step}
+use Rattle.mmtel_sheets.proofs.KeySteps.{except_step, from_step, many_step, media_step, no_answer_step, not_reachable_step, not_registered_step, notice_step, one_step, target_step, until_step}
 
 passes : (o : Ordering) (x : Option Data) (d : Data) (b : Bool) → is_eq o ≡ false → is_some x ≡ b → is_some (match_ordering o x (Some d) x) ≡ b
 passes Less x d b apart e = e
@@ -535,7 +538,8 @@ who_back (Some w) is = refl
 
 -- the action of the rule, by its keys
 action_back : (s : Service) (path : List ℕ) (a : Action) → IsAction s a
-    → action_of s path (aimed a) (notifications_after notice.RevealServedToCaller a (notifications_after notice.RevealToTarget a (notifications_after notice.RevealToCaller a (notifications_after notice.NotifyCaller a all_notified))))
+    → action_of s path (aimed a)
+    (notifications_after notice.RevealServedToCaller a (notifications_after notice.RevealToTarget a (notifications_after notice.RevealToCaller a (notifications_after notice.NotifyCaller a all_notified))))
     (allowed a) ≡ Ok a
 action_back service.Diversion path (Forward f) is = refl
 action_back service.Incoming path (Forward f) is = absurd (let bad = is.0 in cc)

@@ -6,7 +6,8 @@ use Rattle.toml.specs.Parse.{parse_document}
 use Rattle.toml.specs.Data.{Data, Items, no_items, item, Members, no_members, member, get_member, as_array, as_table}
 use Rattle.mmtel_sheet_grammar.specs.ReadResults.{Read, then_read, or_wrong}
 use Rattle.mmtel_sheet_grammar.specs.Elements.{truth_at, number_at}
-use Rattle.mmtel_sheet_grammar.specs.Keys.{event_of, notification_of, identity_key_of, other_key_of, key_or, notification_or, event_or, is_diversion, is_barring, applies_to_callers, rule_path}
+use Rattle.mmtel_sheet_grammar.specs.Keys.{event_of, notification_of, identity_key_of, other_key_of, key_or, notification_or}
+use Rattle.mmtel_sheet_grammar.specs.Keys.{event_or, is_diversion, is_barring, applies_to_callers, rule_path}
 use Rattle.mmtel_sheet_grammar.specs.Rules.{members_from, empty_draft, listed_key_read, action_of, rule_from, are_tables, items_count}
 use Rattle.mmtel_sheet_grammar.specs.Walk.{no_diversion_keys, diversion_part, no_bar_keys, is_rejection, bar_part, presentation_of, restriction_of, waiting_of, table_key_of}
 use Rattle.mmtel_sheet_grammar.specs.declared.faults.SheetFault.TheVariants.{NotToml, Unknown, Wrong, Many}

@@ -8,7 +8,8 @@ use Rattle.mmtel_base.proofs.Runs.{and_true}
 use Rattle.mmtel_sqlite.specs.Columns.{has_word_and_status}
 use Rattle.mmtel_types.specs.Causes.{status_of, word_of}
 use Rattle.mmtel_types.specs.declared.causes.Cause.{Cause}
-use Rattle.mmtel_types.specs.declared.causes.Cause.TheVariants.{OutgoingBarred, IncomingBarred, AnonymousRejected, NotRegistered, NetworkBusy, NoReply, TooManyDiversions, Unreachable, Relayed, Cancelled, NoAccount, NoRoute, BadScheme, Hops, Extension, Critical, Merged, Full, Ended, Unacknowledged}
+use Rattle.mmtel_types.specs.declared.causes.Cause.TheVariants.{OutgoingBarred, IncomingBarred, AnonymousRejected, NotRegistered, NetworkBusy, NoReply, TooManyDiversions, Unreachable}
+use Rattle.mmtel_types.specs.declared.causes.Cause.TheVariants.{Relayed, Cancelled, NoAccount, NoRoute, BadScheme, Hops, Extension, Critical, Merged, Full, Ended, Unacknowledged}
 
 abbrev pub with_status : ℕ → List Cause
 with_status status =
@@ -55,6 +56,7 @@ status_is_same word status cause e = sym (eqb-true _ _ (and_true (bytes_eq (word
 pub missed : (word : List ℕ) (status : ℕ) → list_any (has_word_and_status word status) (with_status status) ≡ false → (cause : Cause) → word ≡ word_of cause → status ≡ status_of cause → ⊥
 missed word status none cause words statuses = both_ways _ (rw (words, statuses) at none) (cause_is_listed cause)
 
-pub missed_by : (word : List ℕ) (status : ℕ) (found : Option Cause) → IfNone found (list_any (has_word_and_status word status) (with_status status) ≡ false) → IfNone found ((cause : Cause) → word ≡ word_of cause → status ≡ status_of cause → ⊥)
+pub missed_by : (word : List ℕ) (status : ℕ) (found : Option Cause) → IfNone found (list_any (has_word_and_status word status) (with_status status) ≡ false) →
+    IfNone found ((cause : Cause) → word ≡ word_of cause → status ≡ status_of cause → ⊥)
 missed_by word status None none = missed word status none
 missed_by word status (Some cause) none = none

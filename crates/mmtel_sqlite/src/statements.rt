@@ -182,7 +182,8 @@ fn call(row: &sqlite::Row) -> Result<CallNo, Error>
 fn cause(row: &sqlite::Row) -> Result<Cause, Error>
     ensures word { IfOk result (λ cause. column row.now 7 ≡ value.Text (word_of cause)) }
     ensures status { IfOk result (λ cause. column row.now 8 ≡ number (status_of cause)) }
-    ensures back { (c : TheCause) → 8 < length row.now → status_of c < 2 ^ 16 → column row.now 7 ≡ value.Text (word_of c) → column row.now 8 ≡ number (status_of c) → IfErr result IsOutOfMemory }
+    ensures back { (c : TheCause) → 8 < length row.now → status_of c < 2 ^ 16 → column row.now 7 ≡ value.Text (word_of c) →
+        column row.now 8 ≡ number (status_of c) → IfErr result IsOutOfMemory }
 {
     let word = text(row, 7)?;
     let status: u32 = row.get(8)?;

@@ -125,7 +125,8 @@ inserted_before : (e q : Queued) (qs : List Queued) → number_of e < number_of 
 inserted_before e q [] l = let t : nat_lt e.0.number q.0.number ≡ true = grind (arith, nat_tests) in ap (λ (b : Bool). cond b (e ∷ q ∷ []) (q ∷ e ∷ [])) t
 inserted_before e q (x ∷ xs) l = by_test (inserted_before e q xs l) (nat_lt (number_of e) (number_of x))
   where
-    by_test : inserted_by_arming e (xs ++ q ∷ []) ≡ inserted_by_arming e xs ++ q ∷ [] → (b : Bool) → cond b (e ∷ x ∷ (xs ++ q ∷ [])) (x ∷ inserted_by_arming e (xs ++ q ∷ [])) ≡ cond b (e ∷ x ∷ xs) (x ∷ inserted_by_arming e xs) ++ q ∷ []
+    by_test : inserted_by_arming e (xs ++ q ∷ []) ≡ inserted_by_arming e xs ++ q ∷ [] → (b : Bool) →
+        cond b (e ∷ x ∷ (xs ++ q ∷ [])) (x ∷ inserted_by_arming e (xs ++ q ∷ [])) ≡ cond b (e ∷ x ∷ xs) (x ∷ inserted_by_arming e xs) ++ q ∷ []
     by_test later true = refl
     by_test later false = ap (λ (l : List Queued). x ∷ l) later
 

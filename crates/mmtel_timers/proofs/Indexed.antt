@@ -49,7 +49,8 @@ module _ {E X : Type 0} (item : E → Option X) (R : X → X → Ordering) (o : 
     only = λ y h. let u = i.only y h in (u.0, g.kept u.0 u.1, u.2);
   }
 
-  pub index_out : (old : E) (x : X) (es fs : List E) (xs : List X) (p : ℕ) → IsIndex item R es xs → Loses old es fs → item old ≡ Some x → ((e : E) → Has e es → item e ≡ Some x → e ≡ old) → slice_get xs p ≡ Some x → IsIndex item R fs (remove xs p)
+  pub index_out : (old : E) (x : X) (es fs : List E) (xs : List X) (p : ℕ) → IsIndex item R es xs → Loses old es fs → item old ≡ Some x → ((e : E) → Has e es → item e ≡ Some x → e ≡ old) →
+      slice_get xs p ≡ Some x → IsIndex item R fs (remove xs p)
   index_out old x es fs xs p i l q alone at = record {
     ascends = ascends_out R o p xs i.ascends;
     all = λ e y h s. elim (has_out p xs x y at (i.all e y (l.back e h) s)) [

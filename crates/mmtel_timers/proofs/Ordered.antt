@@ -134,7 +134,8 @@ module _ {X : Type 0} (R : X → X → Ordering) (o : IsTotalOrder R) where
       by_cases Greater q = o.antisymm x y ∙ ap ordering_reverse q
 
   -- what a search finds is the place of an item that is not in the list
-  pub inserted_by_arming : (p : ℕ) (x : X) (xs : List X) → p ≤ length xs → IsPartitionPoint (λ y. comes_before R x y ≡ true) (λ y. comes_before R x y ≡ false) xs p → ((y : X) → Has y xs → R y x ≡ Equal → ⊥) → Place p x xs
+  pub inserted_by_arming : (p : ℕ) (x : X) (xs : List X) → p ≤ length xs → IsPartitionPoint (λ y. comes_before R x y ≡ true) (λ y. comes_before R x y ≡ false) xs p →
+      ((y : X) → Has y xs → R y x ≡ Equal → ⊥) → Place p x xs
   inserted_by_arming zero x [] le h n = tt
   inserted_by_arming zero x (y ∷ ys) le h n = (
     after_is x y (h.1 zero y (omega arith) (omega arith)) (n y (inl refl)),
@@ -159,7 +160,8 @@ module _ {X : Type 0} (R : X → X → Ordering) (o : IsTotalOrder R) where
     pub at_place : (p : ℕ) (xs : List X) (y : X) → IsPartitionPoint (λ x. before x ≡ true) (λ x. before x ≡ false) xs p → slice_get xs p ≡ Some y → before y ≡ false
     at_place p xs y h g = subst (λ (x : X). before x ≡ false) (get_or_from_slice_get xs p y y g) (h.1 p y (omega arith) (slice_get_within xs p y g))
 
-    pub after_place : (p : ℕ) (xs : List X) (x y : X) → Ascends R xs → IsPartitionPoint (λ x. before x ≡ true) (λ x. before x ≡ false) xs p → Has x xs → before x ≡ false → slice_get xs p ≡ Some y → (x ≡ y) ⊎ (R y x ≡ Less)
+    pub after_place : (p : ℕ) (xs : List X) (x y : X) → Ascends R xs → IsPartitionPoint (λ x. before x ≡ true) (λ x. before x ≡ false) xs p → Has x xs → before x ≡ false → slice_get xs p ≡ Some y →
+        (x ≡ y) ⊎ (R y x ≡ Less)
     after_place p [] x y a h g n q = absurd g
     after_place zero (z ∷ zs) x y a h (inl e) n q = inl (e ∙ same_Some z y q)
     after_place zero (z ∷ zs) x y a h (inr g) n q = inr (subst (λ (w : X). R w x ≡ Less) (same_Some z y q) (all_has (λ w. R z w ≡ Less) zs x a.0 g))

@@ -78,7 +78,8 @@ found_number P key turn (q ∷ qs) f all = by_test (is_of key (deadline_of q)) (
     by_test false later g = later g
 
 -- removing the deadlines of the key's turn removes those of the key
-left_out : (key : Key) (turn : QueuePosition) (qs : List Queued) → queue_position_of key qs ≡ Some turn → Rises (λ q. number_of q) qs → IsEachOnce (map (λ q. deadline_of q) qs) → filter (λ q. not (is_position turn q)) qs ≡ others key qs
+left_out : (key : Key) (turn : QueuePosition) (qs : List Queued) → queue_position_of key qs ≡ Some turn → Rises (λ q. number_of q) qs → IsEachOnce (map (λ q. deadline_of q) qs) →
+    filter (λ q. not (is_position turn q)) qs ≡ others key qs
 left_out key turn [] f rises once = refl
 left_out key turn (q ∷ qs) f rises once = by_test (is_of key (deadline_of q)) refl (λ g. left_out key turn qs g rises.1 once.1) f
   where
@@ -220,7 +221,8 @@ module _ (next at : ℕ) (key : Key) (queue : List Queued) (turns : List (Key ×
         ∙ (map-append (λ q. deadline_of q) (others key (by_arming queue)) ((turn, key) ∷ [])
         ∙ ap (λ (l : List Deadline). l ++ (at, key) ∷ []) (seen_others key (by_arming queue)))
 
-    pub kept_armed : (again : List (Key × QueuePosition)) → IsStrictlySortedBy queue_position_cmp (keys_of (queue_without earlier more)) → ArePositionsBut key (Some turn) turns again → IsQueueState (next + 1) (queue_without earlier more) again
+    pub kept_armed : (again : List (Key × QueuePosition)) → IsStrictlySortedBy queue_position_cmp (keys_of (queue_without earlier more)) → ArePositionsBut key (Some turn) turns again →
+        IsQueueState (next + 1) (queue_without earlier more) again
     kept_armed again ordered says = record {
       sorted = ordered;
       below_next = before_armed;
@@ -250,12 +252,14 @@ module _ (next : ℕ) (key : Key) (queue : List Queued) (turns : List (Key × Qu
     where
       by_cases : (o : Option QueuePosition) → AllByRecursion (λ q. number_of q < next) (queue_without o queue)
       by_cases None = are.below_next
-      by_cases (Some t) = subst (λ (l : List Queued). AllByRecursion (λ q. number_of q < next) l) (sym (removed t queue are.sorted)) (all_filter (λ q. number_of q < next) (λ q. not (is_position t q)) queue are.below_next)
+      by_cases (Some t) = subst (λ (l : List Queued). AllByRecursion (λ q. number_of q < next) l) (sym (removed t queue are.sorted))
+          (all_filter (λ q. number_of q < next) (λ q. not (is_position t q)) queue are.below_next)
 
   pub seen_disarmed : queue_view (queue_without turn queue) ≡ without key (queue_view queue)
   seen_disarmed = ap (map (λ q. deadline_of q)) arranged ∙ seen_others key (by_arming queue)
 
-  pub kept_disarmed : (left : List (Key × QueuePosition)) → IsStrictlySortedBy queue_position_cmp (keys_of (queue_without turn queue)) → ArePositionsBut key None turns left → IsQueueState next (queue_without turn queue) left
+  pub kept_disarmed : (left : List (Key × QueuePosition)) → IsStrictlySortedBy queue_position_cmp (keys_of (queue_without turn queue)) → ArePositionsBut key None turns left →
+      IsQueueState next (queue_without turn queue) left
   kept_disarmed left ordered says = record {
     sorted = ordered;
     below_next = before_disarmed;

@@ -105,4 +105,5 @@ module _ (turn : QueuePosition) where
       by_order later Less e = ap (λ (o : Ordering). cond (is_eq o) (q ∷ qs) ((turn, key) ∷ remove_entry (is_at (queue_position_cmp turn)) (q ∷ qs))) (own_position turn)
       by_order later Equal e = absurd (let h = (same_position turn q.0 e).1 in let l = before.0 in omega (arith, h, l))
       by_order later Greater e =
-          ap (λ (o : Ordering). cond (is_eq o) (insert_entry queue_position_cmp qs turn key) (q ∷ remove_entry (is_at (queue_position_cmp turn)) (insert_entry queue_position_cmp qs turn key))) e ∙ ap (λ (l : List Queued). q ∷ l) later
+          ap (λ (o : Ordering). cond (is_eq o) (insert_entry queue_position_cmp qs turn key) (q ∷ remove_entry (is_at (queue_position_cmp turn)) (insert_entry queue_position_cmp qs turn key))) e
+          ∙ ap (λ (l : List Queued). q ∷ l) later

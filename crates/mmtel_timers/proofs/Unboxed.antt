@@ -12,5 +12,6 @@ pub remove_unboxed : {X A : Type 0} (bs : List (Box X A)) (i : ℕ) → unboxed_
 remove_unboxed bs i = remove_mapped (λ b. b.value) bs i
 
 -- the contents of a block that is looked up
-pub read_unboxed : {X A : Type 0} (bs : List (Box X A)) (i : ℕ) (b : Box X A) (x : X) (xs : List X) → i < length (unboxed_items bs) → b ≡ slice_index_or bs i b → x ≡ b.value → unboxed_items bs ≡ xs → x ≡ slice_index_or xs i x
+pub read_unboxed : {X A : Type 0} (bs : List (Box X A)) (i : ℕ) (b : Box X A) (x : X) (xs : List X) → i < length (unboxed_items bs) → b ≡ slice_index_or bs i b → x ≡ b.value →
+    unboxed_items bs ≡ xs → x ≡ slice_index_or xs i x
 read_unboxed bs i b x xs l q is same = read_mapped (λ b. b.value) bs i b x xs l q is same

@@ -19,7 +19,8 @@ use Rattle.mmtel_transaction.specs.declared.words.Heard.TheVariants as heard
 use Rattle.mmtel_transaction.specs.declared.words.TKey.{TKey}
 use Rattle.mmtel_transaction.specs.Heads.{head_of, is_invite, is_provisional, is_refusal}
 use Rattle.mmtel_transaction.specs.Deadlines.{deadline, foremost_in, retransmission_at, state_retransmission_at}
-use Rattle.mmtel_transaction.specs.Changes.{after_any_reply, after_failure_ack, after_final, after_provisional, after_reply, after_response, after_settling, after_timer, after_timer_by, is_ack_of, reliable_response_of, with_kept_ack, with_reliable_if}
+use Rattle.mmtel_transaction.specs.Changes.{after_any_reply, after_failure_ack, after_final, after_provisional, after_reply, after_response}
+use Rattle.mmtel_transaction.specs.Changes.{after_settling, after_timer, after_timer_by, is_ack_of, reliable_response_of, with_kept_ack, with_reliable_if}
 use Rattle.mmtel_transaction.specs.Operations.{TransactionOp, DidBegin, DidHear, DidAsk, DidReply, DidAck, DidFire, DidSettle, change, change_on_receipt, is_live, live, send_count, openings, step_of}
 use Rattle.mmtel_transaction.specs.Results.{bind_entry, by_key, key_of, last_sent, tkey}
 use Rattle.mmtel_transaction.specs.Matching.{is_repeated_final, matched_result, matching_entry, matching_key, response_result}
@@ -123,7 +124,8 @@ module _ (s : ℕ) (e : Entry) where
   acked_change i (DidSettle k own) a = acked_hit k (after_settling own e) (acked_settled own) a
 
 -- what each operation preserves of a transaction holds of it for as long as it is live
-module _ (P : Entry → Type 0) (key : ℕ) (loud : TransactionOp → Bool) (keep : (c : TransactionOp) (f : List TransactionOp) (e : Entry) → loud c ≡ false → e.key ≡ key → P e → P (change (step_of f) (send_count f) c e)) where
+module _ (P : Entry → Type 0) (key : ℕ) (loud : TransactionOp → Bool)
+    (keep : (c : TransactionOp) (f : List TransactionOp) (e : Entry) → loud c ≡ false → e.key ≡ key → P e → P (change (step_of f) (send_count f) c e)) where
   kept_along : (g h : List TransactionOp) → list_any loud g ≡ false → key < length (openings h) → ((e : Entry) → by_key key (live h) ≡ Some e → P e) → (x : Entry) → by_key key (live (g ++ h)) ≡ Some x → P x
   kept_along [] h quiet less first x q = first x q
   kept_along (c ∷ g) h quiet less first x q =
@@ -167,7 +169,8 @@ module _ (s : ℕ) (e : Entry) (client : e.is_server ≡ false) (done : (e.final
   holds_finished : (st now : ℕ) → Holds e (after_final s st now e)
   holds_finished st now =
       holds_if (not (is_invite e.head)) (record e { is_terminated = true }) _ (refl, λ r. r, refl)
-      (subst (λ b. Holds e (cond (not b) (record e { is_refused = e.is_refused || is_refusal st }) (record e { state = Absorbing; start = now; retransmissions = 0; step = s; final_status = st; is_refused = is_refusal st }))) (sym done) (refl, λ r. ap (λ b. b || is_refusal st) r, refl))
+      (subst (λ b. Holds e (cond (not b) (record e { is_refused = e.is_refused || is_refusal st })
+      (record e { state = Absorbing; start = now; retransmissions = 0; step = s; final_status = st; is_refused = is_refusal st }))) (sym done) (refl, λ r. ap (λ b. b || is_refusal st) r, refl))
 
   holds_answered : (st now : ℕ) → Holds e (after_response s st now e)
   holds_answered st now = holds_if (is_provisional st) (after_provisional s now e) (after_final s st now e) (holds_if (e.is_early || not (e.final_status == 0)) e _ as_it_is (refl, λ r. r, refl)) (holds_finished st now)
@@ -225,7 +228,8 @@ keeping_more p text e x k w t = record {
 }
 
 keeps_it : (p : Peer) (text : List ℕ) (key : ℕ) (c : TransactionOp) (f : List TransactionOp) (e : Entry) → is_ack_in key c ≡ false → e.key ≡ key → Keeping p text e → Keeping p text (change (step_of f) (send_count f) c e)
-keeps_it p text key c f e q k t = keeping_more p text e (change (step_of f) (send_count f) c e) (keeps_change (step_of f) (send_count f) c e) (holds_change (step_of f) e t.client t.done (send_count f) c (subst (λ j. is_ack_in j c ≡ false) (sym k) q)) t
+keeps_it p text key c f e q k t = keeping_more p text e (change (step_of f) (send_count f) c e) (keeps_change (step_of f) (send_count f) c e)
+    (holds_change (step_of f) e t.client t.done (send_count f) c (subst (λ j. is_ack_in j c ≡ false) (sym k) q)) t
 
 module _ (h : List TransactionOp) (key : ℕ) (e : Entry) (m : Message Start) (run : IsRun h) (w : ReceivedRefusal key e h) where
   its : Has e (live h) × (e.key ≡ key)

@@ -18,7 +18,8 @@ use Rattle.mmtel_transaction.specs.declared.message_class.MessageClass.{MessageC
 use Rattle.mmtel_transaction.specs.declared.message_class.MessageClass.TheVariants as part
 use Rattle.mmtel_transaction.specs.Heads.{head_of, is_success, is_ack, is_invite, is_provisional, is_refusal, is_same_call}
 use Rattle.mmtel_transaction.specs.Deadlines.{deadline, foremost_in, is_untimed, retransmission_at, state_retransmission_at}
-use Rattle.mmtel_transaction.specs.Changes.{after_ack_2xx, after_any_reply, after_failure_ack, after_final, after_provisional, after_reply, after_response, after_settling, after_timer, after_timer_by, change_of_key, is_ack_of, reliable_response_of, with_kept_ack, with_reliable_if}
+use Rattle.mmtel_transaction.specs.Changes.{after_ack_2xx, after_any_reply, after_failure_ack, after_final, after_provisional, after_reply, after_response}
+use Rattle.mmtel_transaction.specs.Changes.{after_settling, after_timer, after_timer_by, change_of_key, is_ack_of, reliable_response_of, with_kept_ack, with_reliable_if}
 use Rattle.mmtel_transaction.specs.Operations.{TransactionOp, DidBegin, DidHear, DidAsk, DidReply, DidAck, DidFire, DidSettle, change, opened_on_receipt, is_live, live, send_count, openings, opens, step_of}
 use Rattle.mmtel_transaction.specs.Results.{ack_class, after_hear, by_key, class_of, is_client_of, is_full, is_server_of, request_class, response_class}
 use Rattle.mmtel_transaction.specs.Runs.{IsRun}
@@ -52,7 +53,8 @@ acked_response j m (Some e) q = either (is_invite e.head && e.is_refused && is_r
     either true p = cc
     either false p = cc
 
-acked_if : (j : ℕ) (r a full : Bool) (o x : Option Entry) (m : Head) → part.Acked j ≡ cond r (cond a (ack_class o) (request_class full o)) (response_class m x) → (e : Entry) × (o ≡ Some e) × (e.is_refused ≡ true) × (j ≡ e.key)
+acked_if : (j : ℕ) (r a full : Bool) (o x : Option Entry) (m : Head) → part.Acked j ≡ cond r (cond a (ack_class o) (request_class full o)) (response_class m x) →
+    (e : Entry) × (o ≡ Some e) × (e.is_refused ≡ true) × (j ≡ e.key)
 acked_if j true true full o x m q = acked_ack j o q
 acked_if j true false full o x m q = absurd (acked_request j full o q)
 acked_if j false a full o x m q = absurd (acked_response j m x q)

@@ -121,7 +121,8 @@ refused_is (Some x) e q = either x.is_refused refl q
     either true f p = let w = same_Some x e p in (ap Some w, ap (λ (y : Entry). y.is_refused) (sym w) ∙ f)
     either false f p = absurd (none-some e p)
 
-owner_if : (r a : Bool) (m : Head) (es : List Entry) (o : Option Entry) → r ≡ true → a ≡ true → cond (not r) (find (is_client_of m) es) (cond a (if_refused (find (is_server_of m) es)) o) ≡ if_refused (find (is_server_of m) es)
+owner_if : (r a : Bool) (m : Head) (es : List Entry) (o : Option Entry) → r ≡ true → a ≡ true →
+    cond (not r) (find (is_client_of m) es) (cond a (if_refused (find (is_server_of m) es)) o) ≡ if_refused (find (is_server_of m) es)
 owner_if r a m es o p q = rw (p, q) refl
 
 module _ (h : List TransactionOp) (m : Head) (e : Entry) (run : IsRun h) (request : m.is_request ≡ true) (ack : is_ack m ≡ true) where

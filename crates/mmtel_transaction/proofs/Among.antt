@@ -27,7 +27,8 @@ use Rattle.mmtel_transaction.specs.Operations.{TransactionOp, DidBegin, DidHear,
 use Rattle.mmtel_transaction.specs.Results.{DueEntryView, by_key, class_of, due_result, is_client_of, is_full, is_server_of, next_due, tkey}
 use Rattle.mmtel_transaction.specs.Runs.{IsNextOf, IsRun}
 use Rattle.mmtel_transaction.specs.Theorems.{retransmission}
-use Rattle.mmtel_transaction.specs.Retransmissions.{AwaitsFinal, acknowledges, FinalsAwaitTheirAck, FollowsSchedule, RingingDoesNotTimeOut, UnansweredTimeOut, is_response_class, is_ack_to, is_response_to, is_final_to, request_moments, final_results, request_results, times_fired}
+use Rattle.mmtel_transaction.specs.Retransmissions.{AwaitsFinal, acknowledges, FinalsAwaitTheirAck, FollowsSchedule, RingingDoesNotTimeOut, UnansweredTimeOut}
+use Rattle.mmtel_transaction.specs.Retransmissions.{is_response_class, is_ack_to, is_response_to, is_final_to, request_moments, final_results, request_results, times_fired}
 use Rattle.mmtel_transaction.proofs.Lists.{Rising, keeps_change, rising}
 use Rattle.mmtel_timers.specs.Shelves.{Has}
 use Rattle.mmtel_transaction.proofs.Having.{at_key, found_in, has_live, has_more, has_more_back, has_new, of_key, run_before, same_entry}
@@ -114,7 +115,8 @@ by_firing s (DidAck k m) e = e
 by_firing s (DidFire k) e = change_of_key k (after_timer s) e
 by_firing s (DidSettle k own) e = e
 
-module _ (key : ℕ) (b : Entry) (moments : List ℕ) (at : b.key ≡ key) (alive : b.is_terminated ≡ false) (busy : is_untimed b.state ≡ false) (r : (s n : ℕ) → state_retransmission_at (shot b s n) ≡ scheduled_moment b.start moments n) (z : last_deadline b ≡ Some (b.start + 32000)) where
+module _ (key : ℕ) (b : Entry) (moments : List ℕ) (at : b.key ≡ key) (alive : b.is_terminated ≡ false) (busy : is_untimed b.state ≡ false)
+    (r : (s n : ℕ) → state_retransmission_at (shot b s n) ≡ scheduled_moment b.start moments n) (z : last_deadline b ≡ Some (b.start + 32000)) where
   -- it is live, and so many fired; or all of them did, and it is no longer live
   abbrev State : ℕ → List TransactionOp → Type 0
   State n h = ((n ≤ length moments) × ((s : ℕ) × Has (shot b s n) (live h))) ⊎ ((length moments < n) × (by_key key (live h) ≡ None))
@@ -169,7 +171,8 @@ module _ (key : ℕ) (b : Entry) (moments : List ℕ) (at : b.key ≡ key) (aliv
   abbrev Quiet : TransactionOp → List TransactionOp → Type 0
   Quiet c h = (s n : ℕ) → Has (shot b s n) (live h) → change (step_of h) (send_count h) c (shot b s n) ≡ by_firing (step_of h) c (shot b s n)
 
-  other_more : (c : TransactionOp) (h : List TransactionOp) (n : ℕ) → key < length (openings h) → ((s : ℕ) → Has (shot b s n) (live h) → change (step_of h) (send_count h) c (shot b s n) ≡ shot b s n) → State n h → State n (c ∷ h)
+  other_more : (c : TransactionOp) (h : List TransactionOp) (n : ℕ) → key < length (openings h) →
+      ((s : ℕ) → Has (shot b s n) (live h) → change (step_of h) (send_count h) c (shot b s n) ≡ shot b s n) → State n h → State n (c ∷ h)
   other_more c h n less q (inl w) = inl (w.0, (w.1.0, stands c h w.1.0 w.1.0 n n w.1.1 (q w.1.0 w.1.1)))
   other_more c h n less q (inr w) = inr (w.0, still_ended c h key less w.1)
 
@@ -183,7 +186,8 @@ module _ (key : ℕ) (b : Entry) (moments : List ℕ) (at : b.key ≡ key) (aliv
   more (DidFire j) g h less q (inl w) = fire_if (j == key) j (g ++ h) w.1.0 (times_fired key g) refl w.0 w.1.1
   more (DidFire j) g h less q (inr w) = over_if (j == key) j (times_fired key g) (g ++ h) w.0 (still_ended (DidFire j) (g ++ h) key less w.1)
 
-  tracked : (loud : TransactionOp → Bool) → ((c : TransactionOp) (h : List TransactionOp) → IsRun (c ∷ h) → loud c ≡ false → Quiet c h) → (g h : List TransactionOp) → IsRun (g ++ h) → list_any loud g ≡ false → key < length (openings h) → State 0 h → State (times_fired key g) (g ++ h)
+  tracked : (loud : TransactionOp → Bool) → ((c : TransactionOp) (h : List TransactionOp) → IsRun (c ∷ h) → loud c ≡ false → Quiet c h) → (g h : List TransactionOp) → IsRun (g ++ h) →
+      list_any loud g ≡ false → key < length (openings h) → State 0 h → State (times_fired key g) (g ++ h)
   tracked loud f [] h run quiet less w = w
   tracked loud f (c ∷ g) h run quiet less w =
       let v = or_parts (loud c) (list_any loud g) quiet in
@@ -215,8 +219,10 @@ module _ (key : ℕ) (b : Entry) (moments : List ℕ) (at : b.key ≡ key) (aliv
         absurd (none_due now (live h) a.0 (shot b w.1.0 n) q a.1 (omega (arith, l, not_late w.1.0 n a.0 (slice_get moments n) refl a.1)) w.1.1)
     over n h (inr w) now l q = w.1
 
-    module _ (f : ℕ → Due) (last : Due) (again : (s n d : ℕ) → slice_get moments n ≡ Some d → due_result (Some (record { at = b.start + d; entry = shot b s n })) ≡ f d) (ending : (s n : ℕ) → slice_get moments n ≡ None → due_result (Some (record { at = b.start + 32000; entry = shot b s n })) ≡ last) where
-      says_at : (s n : ℕ) (o : Option ℕ) (x : DueEntryView) → slice_get moments n ≡ o → n ≤ length moments → x.entry ≡ shot b s n → deadline x.entry ≡ Some x.at → Some (due_result (Some x)) ≡ slice_get (map f moments ++ last ∷ []) n
+    module _ (f : ℕ → Due) (last : Due) (again : (s n d : ℕ) → slice_get moments n ≡ Some d → due_result (Some (record { at = b.start + d; entry = shot b s n })) ≡ f d)
+        (ending : (s n : ℕ) → slice_get moments n ≡ None → due_result (Some (record { at = b.start + 32000; entry = shot b s n })) ≡ last) where
+      says_at : (s n : ℕ) (o : Option ℕ) (x : DueEntryView) → slice_get moments n ≡ o → n ≤ length moments → x.entry ≡ shot b s n → deadline x.entry ≡ Some x.at →
+          Some (due_result (Some x)) ≡ slice_get (map f moments ++ last ∷ []) n
       says_at s n None x q l e d =
           let a : x.at ≡ b.start + 32000 = same_Some x.at (b.start + 32000) (sym d ∙ (ap deadline e ∙ deadline_key s n None q)) in
           ap (λ y. Some (due_result (Some y))) (next_is x (b.start + 32000) (shot b s n) a e) ∙ (ap (λ y. Some y) (ending s n q) ∙ sym (said_last f last moments n l q))
@@ -224,7 +230,8 @@ module _ (key : ℕ) (b : Entry) (moments : List ℕ) (at : b.key ≡ key) (aliv
           let a : x.at ≡ b.start + v = same_Some x.at (b.start + v) (sym d ∙ (ap deadline e ∙ deadline_key s n (Some v) q)) in
           ap (λ y. Some (due_result (Some y))) (next_is x (b.start + v) (shot b s n) a e) ∙ (ap (λ y. Some y) (again s n v q) ∙ sym (said_at f last moments n v q))
 
-      class_result : (n : ℕ) (h : List TransactionOp) → State n h → (now : ℕ) (x : DueEntryView) → next_due now (live h) ≡ Some x → x.entry.key ≡ key → Some (due_result (Some x)) ≡ slice_get (map f moments ++ last ∷ []) n
+      class_result : (n : ℕ) (h : List TransactionOp) → State n h → (now : ℕ) (x : DueEntryView) → next_due now (live h) ≡ Some x → x.entry.key ≡ key →
+          Some (due_result (Some x)) ≡ slice_get (map f moments ++ last ∷ []) n
       class_result n h (inl w) now x q k =
           let v = is_next now (live h) x q in
           says_at w.1.0 n (slice_get moments n) x refl w.0 (same_entry h x.entry (shot b w.1.0 n) v.stands w.1.1 (k ∙ sym at)) v.moment
@@ -279,7 +286,8 @@ module _ (h : List TransactionOp) (p : Peer) (m : Message Start) (t : ℕ) where
   hit_none : (j : ℕ) (x e : Entry) → (own_key == j) ≡ false → cond (own_key == j) x e ≡ e
   hit_none j x e q = ap (λ b. cond b x e) q
 
-  heard_quiet : (g : List TransactionOp) (q : Peer) (n : Message Start) (now : ℕ) (taken : MessageClass) → taken ≡ class_of (head_of n) (live g) → is_response_class own_key taken ≡ false → (s k : ℕ) → Has (shot first s k) (live g) → change (step_of g) (send_count g) (DidHear q n now taken) (shot first s k) ≡ shot first s k
+  heard_quiet : (g : List TransactionOp) (q : Peer) (n : Message Start) (now : ℕ) (taken : MessageClass) → taken ≡ class_of (head_of n) (live g) → is_response_class own_key taken ≡ false → (s k : ℕ) →
+      Has (shot first s k) (live g) → change (step_of g) (send_count g) (DidHear q n now taken) (shot first s k) ≡ shot first s k
   heard_quiet g q n now part.Fresh r a s k f = refl
   heard_quiet g q n now part.Full r a s k f = refl
   heard_quiet g q n now (part.Repeat j) r a s k f = refl
@@ -289,7 +297,8 @@ module _ (h : List TransactionOp) (p : Peer) (m : Message Start) (t : ℕ) where
   heard_quiet g q n now part.AckOf2xx r a s k f = refl
   heard_quiet g q n now part.Stray r a s k f = refl
 
-  asked_quiet : (c : TransactionOp) (g : List TransactionOp) → IsRun (c ∷ g) → is_response_to own_key c ≡ false → (s k : ℕ) → Has (shot first s k) (live g) → change (step_of g) (send_count g) c (shot first s k) ≡ by_firing (step_of g) c (shot first s k)
+  asked_quiet : (c : TransactionOp) (g : List TransactionOp) → IsRun (c ∷ g) → is_response_to own_key c ≡ false → (s k : ℕ) → Has (shot first s k) (live g) →
+      change (step_of g) (send_count g) c (shot first s k) ≡ by_firing (step_of g) c (shot first s k)
   asked_quiet (DidBegin x) g r a s k f = refl
   asked_quiet (DidHear q n now taken) g r a s k f = heard_quiet g q n now taken r.0 a s k f
   asked_quiet (DidAsk q n now) g r a s k f = refl
@@ -327,9 +336,11 @@ module _ (h : List TransactionOp) (p : Peer) (m : Message Start) (t : ℕ) where
   asked_last : (s n : ℕ) → slice_get its_moments n ≡ None → due_result (Some (record { at = t + 32000; entry = shot first s n })) ≡ due.Silent (tkey own_key) (head_of m).branch (head_of m).method (t + 32000)
   asked_last s n q = says_again (retransmission_at (shot first s n)) None _ _ (its_resend s n ∙ ap (option_map (λ x. t + x)) q) ∙ ends_if (is_invite (head_of m)) own_key (head_of m) (t + 32000)
 
-  asked_goes : (g : List TransactionOp) → IsRun (g ++ DidAsk p m t ∷ h) → list_any (is_response_to own_key) g ≡ false → FollowsSchedule own_key t its_moments (request_results own_key p m t) (times_fired own_key g) (g ++ DidAsk p m t ∷ h)
+  asked_goes : (g : List TransactionOp) → IsRun (g ++ DidAsk p m t ∷ h) → list_any (is_response_to own_key) g ≡ false →
+      FollowsSchedule own_key t its_moments (request_results own_key p m t) (times_fired own_key g) (g ++ DidAsk p m t ∷ h)
   asked_goes g run quiet =
-      goes own_key first its_moments refl refl its_busy its_plan (last_if (is_invite (head_of m)) t t) (below_if (is_invite (head_of m))) (retransmission p m t) (due.Silent (tkey own_key) (head_of m).branch (head_of m).method (t + 32000)) asked_again asked_last
+      goes own_key first its_moments refl refl its_busy its_plan (last_if (is_invite (head_of m)) t t) (below_if (is_invite (head_of m))) (retransmission p m t)
+      (due.Silent (tkey own_key) (head_of m).branch (head_of m).method (t + 32000)) asked_again asked_last
       (times_fired own_key g) (g ++ DidAsk p m t ∷ h) (asked_state g run quiet)
 
 pub unanswered : UnansweredTimeOut
@@ -360,7 +371,9 @@ module _ (h : List TransactionOp) (p : Peer) (m : Message Start) (t at : ℕ) wh
       either true e f = ap (λ b. not (is_provisional n.status) && b) (eq-eqb this_key j (sym (eqb-true j this_key e))) ∙ f
       either false e f = ap (λ b. not (is_provisional n.status) && b) (other_way j this_key e) ∙ f
 
-  rung_heard : (g : List TransactionOp) (q : Peer) (n : Message Start) (now : ℕ) (taken : MessageClass) → taken ≡ class_of (head_of n) (live g) → (not (is_provisional (head_of n).status) && is_response_class this_key taken) ≡ false → (s : ℕ) → Has (rung s) (live g) → change (step_of g) (send_count g) (DidHear q n now taken) (rung s) ≡ rung s
+  rung_heard : (g : List TransactionOp) (q : Peer) (n : Message Start) (now : ℕ) (taken : MessageClass) → taken ≡ class_of (head_of n) (live g) →
+      (not (is_provisional (head_of n).status) && is_response_class this_key taken) ≡ false → (s : ℕ) → Has (rung s) (live g) →
+      change (step_of g) (send_count g) (DidHear q n now taken) (rung s) ≡ rung s
   rung_heard g q n now part.Fresh r a s f = refl
   rung_heard g q n now part.Full r a s f = refl
   rung_heard g q n now (part.Repeat j) r a s f = refl
@@ -394,10 +407,12 @@ module _ (h : List TransactionOp) (p : Peer) (m : Message Start) (t at : ℕ) wh
       let q = rung_quiet c (f ++ g) run v.0 s u in
       subst (λ e. Has e (live (c ∷ f ++ g))) q (has_more c (f ++ g) (rung s) u (ap is_live q))
 
-  rings : (b i : Bool) (s n step : ℕ) (x : Entry) → b ≡ true → i ≡ true → cond b (record (shot (first h p m t) s n) { is_early = true; state = cond i Proceeding SlowProceeding; start = at; retransmissions = 0; step = step }) x ≡ rung step
+  rings : (b i : Bool) (s n step : ℕ) (x : Entry) → b ≡ true → i ≡ true →
+      cond b (record (shot (first h p m t) s n) { is_early = true; state = cond i Proceeding SlowProceeding; start = at; retransmissions = 0; step = step }) x ≡ rung step
   rings b i s n step x q r = rw (q, r) refl
 
-  rung_first : (g : List TransactionOp) (q : Peer) (n : Message Start) (s k : ℕ) → is_invite (head_of m) ≡ true → is_provisional (head_of n).status ≡ true → Has (shot (first h p m t) s k) (live g) → Has (rung (step_of g)) (live (DidHear q n at (part.Answer this_key) ∷ g))
+  rung_first : (g : List TransactionOp) (q : Peer) (n : Message Start) (s k : ℕ) → is_invite (head_of m) ≡ true → is_provisional (head_of n).status ≡ true → Has (shot (first h p m t) s k) (live g) →
+      Has (rung (step_of g)) (live (DidHear q n at (part.Answer this_key) ∷ g))
   rung_first g q n s k i pr f =
       let e : Entry = shot (first h p m t) s k in
       let same : change (step_of g) (send_count g) (DidHear q n at (part.Answer this_key)) e ≡ rung (step_of g) =
@@ -412,7 +427,9 @@ module _ (h : List TransactionOp) (p : Peer) (m : Message Start) (t at : ℕ) wh
       let v = found_in (is_client_of n) w.0 (live g) w.1 in
       none-some w.0 (sym none ∙ subst (λ j. by_key j (live g) ≡ Some w.0) (sym w.2) (at_key g w.0 v.0))
 
-  rings_on : (f g : List TransactionOp) (q : Peer) (n : Message Start) (k : ℕ) → IsRun (f ++ DidHear q n at (part.Answer this_key) ∷ g) → is_invite (head_of m) ≡ true → is_provisional (head_of n).status ≡ true → list_any (is_final_to this_key) f ≡ false → AskedState h p m t k g → option_map deadline (by_key this_key (live (f ++ DidHear q n at (part.Answer this_key) ∷ g))) ≡ Some None
+  rings_on : (f g : List TransactionOp) (q : Peer) (n : Message Start) (k : ℕ) → IsRun (f ++ DidHear q n at (part.Answer this_key) ∷ g) →
+      is_invite (head_of m) ≡ true → is_provisional (head_of n).status ≡ true → list_any (is_final_to this_key) f ≡ false → AskedState h p m t k g →
+      option_map deadline (by_key this_key (live (f ++ DidHear q n at (part.Answer this_key) ∷ g))) ≡ Some None
   rings_on f g q n k run i pr quiet (inr w) = absurd (answered_live g (head_of n) (run_end f (DidHear q n at (part.Answer this_key) ∷ g) run).0 w.1)
   rings_on f g q n k run i pr quiet (inl w) =
       let L : List TransactionOp = f ++ DidHear q n at (part.Answer this_key) ∷ g in
@@ -478,21 +495,25 @@ module _ (h : List TransactionOp) (key : ℕ) (e : Entry) (m : Message Start) (t
   hit_not : (j : ℕ) (x y : Entry) → (key == j) ≡ false → cond (key == j) x y ≡ y
   hit_not j x y q = ap (λ b. cond b x y) q
 
-  server_quiet : (g : List TransactionOp) (q : Peer) (n : Message Start) (now : ℕ) (taken : MessageClass) → taken ≡ class_of (head_of n) (live g) → acknowledges key e.head (head_of m) n taken ≡ false → (s k : ℕ) → Has (shot final s k) (live g) → change (step_of g) (send_count g) (DidHear q n now taken) (shot final s k) ≡ shot final s k
+  server_quiet : (g : List TransactionOp) (q : Peer) (n : Message Start) (now : ℕ) (taken : MessageClass) → taken ≡ class_of (head_of n) (live g) →
+      acknowledges key e.head (head_of m) n taken ≡ false → (s k : ℕ) → Has (shot final s k) (live g) → change (step_of g) (send_count g) (DidHear q n now taken) (shot final s k) ≡ shot final s k
   server_quiet g q n now part.Fresh r a s k f = refl
   server_quiet g q n now part.Full r a s k f = refl
   server_quiet g q n now (part.Repeat j) r a s k f = refl
   server_quiet g q n now (part.RepeatedFinal j) r a s k f = refl
   server_quiet g q n now (part.Answer j) r a s k f = hit_not j _ (shot final s k) (ne_eqb key j (no_response g (head_of n) j (shot final s k) r f refl))
   server_quiet g q n now (part.Acked j) r a s k f = hit_not j _ (shot final s k) (other_way j key a)
-  server_quiet g q n now part.AckOf2xx r a s k f = ap (λ b. cond b (record (shot final s k) { is_acked = true; state = Absorbing; step = step_of g }) (shot final s k)) (ack_if (is_invite e.head) (is_success (head_of m).status) (is_same_call e.head (head_of n)) (bytes_eq (head_of m).to_tag (head_of n).to_tag) w.invite a)
+  server_quiet g q n now part.AckOf2xx r a s k f = ap (λ b. cond b (record (shot final s k) { is_acked = true; state = Absorbing; step = step_of g }) (shot final s k))
+      (ack_if (is_invite e.head) (is_success (head_of m).status) (is_same_call e.head (head_of n)) (bytes_eq (head_of m).to_tag (head_of n).to_tag) w.invite a)
   server_quiet g q n now part.Stray r a s k f = refl
 
-  final_quiet : (c : TransactionOp) (g : List TransactionOp) → IsRun (c ∷ g) → is_ack_to key e.head (head_of m) c ≡ false → (s k : ℕ) → Has (shot final s k) (live g) → change (step_of g) (send_count g) c (shot final s k) ≡ by_firing (step_of g) c (shot final s k)
+  final_quiet : (c : TransactionOp) (g : List TransactionOp) → IsRun (c ∷ g) → is_ack_to key e.head (head_of m) c ≡ false → (s k : ℕ) → Has (shot final s k) (live g) →
+      change (step_of g) (send_count g) c (shot final s k) ≡ by_firing (step_of g) c (shot final s k)
   final_quiet (DidBegin x) g r a s k f = refl
   final_quiet (DidHear q n now taken) g r a s k f = server_quiet g q n now taken r.0 a s k f
   final_quiet (DidAsk q n now) g r a s k f = refl
-  final_quiet (DidReply j n now) g r a s k f = ap (λ x. cond (key == j) x (shot final s k)) (any_reply_done (step_of g) (send_count g) n now (shot final s k) (final_done (head_of m).status pr)) ∙ same_if (key == j) (shot final s k)
+  final_quiet (DidReply j n now) g r a s k f =
+      ap (λ x. cond (key == j) x (shot final s k)) (any_reply_done (step_of g) (send_count g) n now (shot final s k) (final_done (head_of m).status pr)) ∙ same_if (key == j) (shot final s k)
   final_quiet (DidAck j n) g r a s k f = same_if (key == j) (shot final s k)
   final_quiet (DidFire j) g r a s k f = refl
   final_quiet (DidSettle j own) g r a s k f = ap (λ x. cond (key == j) x (shot final s k)) (settled_none own (shot final s k) refl) ∙ same_if (key == j) (shot final s k)
@@ -509,12 +530,14 @@ module _ (h : List TransactionOp) (key : ℕ) (e : Entry) (m : Message Start) (t
   final_less : IsRun h → key < length (openings (DidReply key m t ∷ h))
   final_less run = live_below (DidReply key m t ∷ h) (shot final (step_of h) 0) (final_first run)
 
-  final_goes : (g : List TransactionOp) → IsRun (g ++ DidReply key m t ∷ h) → list_any (is_ack_to key e.head (head_of m)) g ≡ false → FollowsSchedule key t (moments_of schedule.Other) (final_results key e.peer m t) (times_fired key g) (g ++ DidReply key m t ∷ h)
+  final_goes : (g : List TransactionOp) → IsRun (g ++ DidReply key m t ∷ h) → list_any (is_ack_to key e.head (head_of m)) g ≡ false →
+      FollowsSchedule key t (moments_of schedule.Other) (final_results key e.peer m t) (times_fired key g) (g ++ DidReply key m t ∷ h)
   final_goes g run quiet =
       let before : IsRun h = run_end g (DidReply key m t ∷ h) run in
       goes key final (moments_of schedule.Other) refl refl refl final_plan refl others_below (retransmission e.peer m t) (due.Over (tkey key) (t + 32000)) final_again final_last
       (times_fired key g) (g ++ DidReply key m t ∷ h)
-      (tracked key final (moments_of schedule.Other) refl refl refl final_plan refl (is_ack_to key e.head (head_of m)) final_quiet g (DidReply key m t ∷ h) run quiet (final_less before) (inl (omega arith, (step_of h, final_first before))))
+      (tracked key final (moments_of schedule.Other) refl refl refl final_plan refl (is_ack_to key e.head (head_of m)) final_quiet g (DidReply key m t ∷ h) run quiet (final_less before)
+      (inl (omega arith, (step_of h, final_first before))))
 
 pub unacknowledged : FinalsAwaitTheirAck
 unacknowledged h g key e m t w pr run quiet = final_goes h key e m t w pr g run quiet

@@ -16,9 +16,12 @@ use Rattle.mmtel_transaction.specs.declared.entries.ReliableResponse.{ReliableRe
 use Rattle.mmtel_transaction.specs.declared.message_class.MessageClass.{MessageClass}
 use Rattle.mmtel_transaction.specs.declared.message_class.MessageClass.TheVariants as part
 use Rattle.mmtel_transaction.specs.Heads.{head_of, is_invite, is_provisional, is_refusal, reliable_number}
-use Rattle.mmtel_transaction.specs.Deadlines.{deadline, foremost_in, is_untimed, last_deadline, message_due, order_due, reliable_timers, reliable_timers_of, state_retransmission_at, state_timers, step_due, timer_at_state, timer_of}
-use Rattle.mmtel_transaction.specs.Changes.{after_ack_2xx, after_any_reply, after_failure_ack, after_final, after_provisional, after_reply, after_response, after_settling, after_state_timer, after_timer, after_timer_by, is_ack_of, reliable_response_of, with_kept_ack, with_reliable, with_reliable_if, without_rseq}
-use Rattle.mmtel_transaction.specs.Operations.{TransactionOp, DidBegin, DidHear, DidAsk, DidReply, DidAck, DidFire, DidSettle, change, change_on_receipt, opened_on_receipt, is_live, live, send_count, openings, opens, step_of}
+use Rattle.mmtel_transaction.specs.Deadlines.{deadline, foremost_in, is_untimed, last_deadline, message_due, order_due, reliable_timers}
+use Rattle.mmtel_transaction.specs.Deadlines.{reliable_timers_of, state_retransmission_at, state_timers, step_due, timer_at_state, timer_of}
+use Rattle.mmtel_transaction.specs.Changes.{after_ack_2xx, after_any_reply, after_failure_ack, after_final, after_provisional, after_reply, after_response, after_settling}
+use Rattle.mmtel_transaction.specs.Changes.{after_state_timer, after_timer, after_timer_by, is_ack_of, reliable_response_of, with_kept_ack, with_reliable, with_reliable_if, without_rseq}
+use Rattle.mmtel_transaction.specs.Operations.{TransactionOp, DidBegin, DidHear, DidAsk, DidReply, DidAck, DidFire, DidSettle, change}
+use Rattle.mmtel_transaction.specs.Operations.{change_on_receipt, opened_on_receipt, is_live, live, send_count, openings, opens, step_of}
 use Rattle.mmtel_transaction.specs.Results.{by_key}
 use Rattle.mmtel_transaction.specs.Firings.{ArmedInItsStep}
 use Rattle.mmtel_transaction.proofs.Lists.{keeps_change}
@@ -103,7 +106,8 @@ module _ (s : ℕ) (e : Entry) where
   again_armed (suc place) (x ∷ xs) f (suc i) a q = again_armed place xs (λ j b r. f (suc j) b r) i a q
 
   armed_planned : Armed s e (after_state_timer s e)
-  armed_planned = armed_if (is_some (state_retransmission_at e)) (record e { retransmissions = e.retransmissions + 1; step = s }) (record e { is_terminated = true }) (armed_now (record e { retransmissions = e.retransmissions + 1; step = s }) refl refl) (λ l. absurd cc)
+  armed_planned = armed_if (is_some (state_retransmission_at e)) (record e { retransmissions = e.retransmissions + 1; step = s }) (record e { is_terminated = true })
+      (armed_now (record e { retransmissions = e.retransmissions + 1; step = s }) refl refl) (λ l. absurd cc)
 
   armed_fired : Armed s e (after_timer s e)
   armed_fired = either (foremost_in e) refl
@@ -134,9 +138,11 @@ module _ (s : ℕ) (e : Entry) where
   -- a second change, which leaves what the first one left, or arms in this step
   armed_replied : (x : Entry) (i st : ℕ) (t g : List ℕ) (now : ℕ) → Armed s e x → Armed s e (after_reply s i st t g now x)
   armed_replied x i st t g now f =
-      let final : Entry = record x { last = Some t; state = cond (is_invite x.head) Completed Absorbing; start = now; retransmissions = 0; step = s; order = i; final_status = st; to_tag = g; is_refused = is_refusal st; reliable = [] } in
+      let final : Entry =
+      record x { last = Some t; state = cond (is_invite x.head) Completed Absorbing; start = now; retransmissions = 0; step = s; order = i; final_status = st; to_tag = g; is_refused = is_refusal st; reliable = [] } in
       armed_if (not x.is_server || not (x.final_status == 0)) x _ f
-      (armed_if (is_provisional st) (record x { last = Some t }) final f (armed_by final (λ j a q. absurd (none-some a q)) (λ a q. inl (state_timer_is final (option_or (state_retransmission_at final) (last_deadline final)) a q).1)))
+      (armed_if (is_provisional st) (record x { last = Some t }) final f
+      (armed_by final (λ j a q. absurd (none-some a q)) (λ a q. inl (state_timer_is final (option_or (state_retransmission_at final) (last_deadline final)) a q).1)))
 
   armed_offered : (i now : ℕ) (m : Message Start) → Armed s e (after_any_reply s i m now e)
   armed_offered i now m = armed_replied (with_reliable_if (reliable_response_of s i m (message_text m) now) e) i (head_of m).status (message_text m) (head_of m).to_tag now (armed_with i now m)
@@ -155,11 +161,13 @@ module _ (s : ℕ) (e : Entry) where
   armed_settled (Some own) = armed_so (record e { reliable = without_rseq own e.reliable }) (filter_armed (λ (x : ReliableResponse). not (x.rseq == own)) e.reliable answers_stood) refl
 
   armed_rang : (now : ℕ) → Armed s e (after_provisional s now e)
-  armed_rang now = armed_if (e.is_early || not (e.final_status == 0)) e _ as_before (armed_now (record e { is_early = true; state = cond (is_invite e.head) Proceeding SlowProceeding; start = now; retransmissions = 0; step = s }) refl refl)
+  armed_rang now = armed_if (e.is_early || not (e.final_status == 0)) e _ as_before
+      (armed_now (record e { is_early = true; state = cond (is_invite e.head) Proceeding SlowProceeding; start = now; retransmissions = 0; step = s }) refl refl)
 
   armed_finished : (st now : ℕ) → Armed s e (after_final s st now e)
   armed_finished st now = armed_if (not (is_invite e.head)) (record e { is_terminated = true }) _ (λ l. absurd cc)
-      (armed_if (not (e.final_status == 0)) (record e { is_refused = e.is_refused || is_refusal st }) _ as_before (armed_now (record e { state = Absorbing; start = now; retransmissions = 0; step = s; final_status = st; is_refused = is_refusal st }) refl refl))
+      (armed_if (not (e.final_status == 0)) (record e { is_refused = e.is_refused || is_refusal st }) _ as_before
+      (armed_now (record e { state = Absorbing; start = now; retransmissions = 0; step = s; final_status = st; is_refused = is_refusal st }) refl refl))
 
   armed_answered : (st now : ℕ) → Armed s e (after_response s st now e)
   armed_answered st now = armed_if (is_provisional st) (after_provisional s now e) (after_final s st now e) (armed_rang now) (armed_finished st now)

@@ -35,7 +35,8 @@ none_at (suc q) [] e = omega arith
 none_at zero (x ∷ xs) e = absurd (none-some x (sym e))
 none_at (suc q) (x ∷ xs) e = omega (arith, none_at q xs e)
 
-module _ (b s m : List ℕ) (n : ℕ) (ts : List MatchKey) (p : ℕ) (at : IsPlaceOf (call_mark b s m n) ts p) (P : Entry → Bool) (named_so : (x : Entry) → P x ≡ true → (indexed_call x ≡ Some (call_match x)) × (is_same_match (call_mark b s m n) (call_match x) ≡ true)) (es : List Entry) where
+module _ (b s m : List ℕ) (n : ℕ) (ts : List MatchKey) (p : ℕ) (at : IsPlaceOf (call_mark b s m n) ts p) (P : Entry → Bool)
+    (named_so : (x : Entry) → P x ≡ true → (indexed_call x ≡ Some (call_match x)) × (is_same_match (call_mark b s m n) (call_match x) ≡ true)) (es : List Entry) where
   -- at first
   pub stand_first : IsIndex indexed_call match_cmp es ts → StandFrom P es ts p
   stand_first i x h t =
@@ -52,7 +53,8 @@ module _ (b s m : List ℕ) (n : ℕ) (ts : List MatchKey) (p : ℕ) (at : IsPla
       ]
 
   -- so where the key that is sought is not there
-  pub ends_here : (q : ℕ) → Ascends match_cmp ts → p ≤ q → None ≡ lookup_result (is_same_match (call_mark b s m n)) (λ (x : MatchKey). x.key) (slice_get ts q) → StandFrom P es ts q → (x : Entry) → Has x es → P x ≡ true → ⊥
+  pub ends_here : (q : ℕ) → Ascends match_cmp ts → p ≤ q → None ≡ lookup_result (is_same_match (call_mark b s m n)) (λ (x : MatchKey). x.key) (slice_get ts q) → StandFrom P es ts q → (x : Entry) →
+      Has x es → P x ≡ true → ⊥
   ends_here q a l said st x h t = by_item (slice_get ts q) refl said
     where
       by_name : (y : MatchKey) → slice_get ts q ≡ Some y → (v : Bool) → is_same_match (call_mark b s m n) y ≡ v → None ≡ cond v (Some y.key) None → ⊥
@@ -68,7 +70,8 @@ pub none_past : (P : Entry → Bool) (es : List Entry) (ts : List MatchKey) (q :
 none_past P es ts q l st x h t = none_behind q ts (call_match x) l (st x h t)
 
 -- one after the other
-pub stand_next : (P : Entry → Bool) (es : List Entry) (ts : List MatchKey) (q : ℕ) (y : MatchKey) → slice_get ts q ≡ Some y → ((x : Entry) → Has x es → P x ≡ true → x.key ≡ y.key → ⊥) → StandFrom P es ts q → StandFrom P es ts (suc q)
+pub stand_next : (P : Entry → Bool) (es : List Entry) (ts : List MatchKey) (q : ℕ) (y : MatchKey) → slice_get ts q ≡ Some y → ((x : Entry) → Has x es → P x ≡ true → x.key ≡ y.key → ⊥) →
+    StandFrom P es ts q → StandFrom P es ts (suc q)
 stand_next P es ts q y g other st x h t = elim (there_or_behind q ts y (call_match x) g (st x h t)) [
   | inl e ↦ absurd (other x h t (ap (λ (z : MatchKey). z.key) e))
   | inr k ↦ k
@@ -86,7 +89,8 @@ key_there mark k (Some y) q = by_test (is_same_match mark y) refl q
 called_so : (x : Entry) → x.is_server ≡ true → indexed_call x ≡ Some (call_match x)
 called_so x t = ap (λ c. cond c (Some (call_match x)) None) t
 
-same_call : (b s m : List ℕ) (n : ℕ) (x : Entry) → bytes_eq x.head.call_id b ≡ true → bytes_eq x.head.from_tag s ≡ true → (x.head.number == n) ≡ true → bytes_eq x.head.method m ≡ true → is_same_match (call_mark b s m n) (call_match x) ≡ true
+same_call : (b s m : List ℕ) (n : ℕ) (x : Entry) → bytes_eq x.head.call_id b ≡ true → bytes_eq x.head.from_tag s ≡ true → (x.head.number == n) ≡ true → bytes_eq x.head.method m ≡ true →
+    is_same_match (call_mark b s m n) (call_match x) ≡ true
 same_call b s m n x p q r t = and_from _ _ (and_from _ _ (and_from _ _ (and_from _ _ (hash_same x.head.call_id b p) p) q) t) r
 
 -- of the ACK of a 2xx
@@ -149,7 +153,8 @@ module _ (m : Head) where
     all_acked [] n = refl
     all_acked (x ∷ es) n = ap (λ y. y ∷ map (after_ack_2xx step m) es) (not_acked x (n x (inl refl))) ∙ ap (λ ys. x ∷ ys) (all_acked es (λ y h. n y (inr h)))
 
-    pub stand_acked : (es : List Entry) (ts : List MatchKey) (q : ℕ) (y : MatchKey) → slice_get ts q ≡ Some y → StandFrom is_of_ack es ts q → StandFrom is_of_ack (map (change_of_key y.key (after_ack_2xx step m)) es) ts (suc q)
+    pub stand_acked : (es : List Entry) (ts : List MatchKey) (q : ℕ) (y : MatchKey) → slice_get ts q ≡ Some y → StandFrom is_of_ack es ts q →
+        StandFrom is_of_ack (map (change_of_key y.key (after_ack_2xx step m)) es) ts (suc q)
     stand_acked es ts q y g st x h t =
         let w = has_map_back (change_of_key y.key (after_ack_2xx step m)) x es h in
         by_test w.0 w.1 w.2 (w.0.key == y.key) refl
@@ -201,7 +206,8 @@ module _ (e : Entry) where
       by_test false q ih = ih
 
   -- one with the same parts of the match key and another transaction number is merged with it
-  pub twin_there : (es : List Entry) (ts : List MatchKey) (q : ℕ) (y : MatchKey) → IsIndex indexed_call match_cmp es ts → slice_get ts q ≡ Some y → is_same_match (merged_match e) y ≡ true → (y.key ≡ e.key → ⊥) → true ≡ list_any (is_merged_entry e) es
+  pub twin_there : (es : List Entry) (ts : List MatchKey) (q : ℕ) (y : MatchKey) → IsIndex indexed_call match_cmp es ts → slice_get ts q ≡ Some y → is_same_match (merged_match e) y ≡ true →
+      (y.key ≡ e.key → ⊥) → true ≡ list_any (is_merged_entry e) es
   twin_there es ts q y i g t other =
       let u = i.only y (has_at ts q y g) in
       sym (any_has (is_merged_entry e) es u.0 u.1 (by_kind u.0 u.0.is_server refl u.2))
@@ -212,7 +218,9 @@ module _ (e : Entry) where
           let same : call_match x ≡ y = same_Some (call_match x) y s in
           let a = alike e.head.call_id e.head.from_tag e.head.method e.head.number (call_match x) (ap (is_same_match (merged_match e)) same ∙ t) in
           let n : (x.key == e.key) ≡ false = differ (x.key == e.key) refl in
-          and_from _ _ (and_from _ _ (and_from _ _ k (ap not n)) (and_from _ _ (and_from _ _ ((bytes_eq-Decides x.head.call_id e.head.call_id).1 a.id) ((bytes_eq-Decides x.head.from_tag e.head.from_tag).1 a.from)) (eq-eqb x.head.number e.head.number a.number))) ((bytes_eq-Decides x.head.method e.head.method).1 a.method)
+          and_from _ _ (and_from _ _ (and_from _ _ k (ap not n))
+          (and_from _ _ (and_from _ _ ((bytes_eq-Decides x.head.call_id e.head.call_id).1 a.id) ((bytes_eq-Decides x.head.from_tag e.head.from_tag).1 a.from)) (eq-eqb x.head.number e.head.number a.number)))
+          ((bytes_eq-Decides x.head.method e.head.method).1 a.method)
         where
           differ : (w : Bool) → (x.key == e.key) ≡ w → (x.key == e.key) ≡ false
           differ true r = absurd (other (ap (λ (z : MatchKey). z.key) (sym (same_Some (call_match x) y s)) ∙ eqb-true x.key e.key r))

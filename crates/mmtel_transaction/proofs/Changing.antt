@@ -1,5 +1,6 @@
 -- The tables of transactions where one is added, changed or removed.
-use Rattle.std.proofs.Common.{◌≡◌, ℕ, suc, zero, ◌+◌, ◌≤◌, ◌<◌, Bool, true, false, cond, not, List, [], ◌∷◌, ◌++◌, length, get_or, set, map, refl, sym, ap, ◌∙◌, subst, arith, ◌⊎◌, inl, inr, Some, None, Option, insert, remove}
+use Rattle.std.proofs.Common.{◌≡◌, ℕ, suc, zero, ◌+◌, ◌≤◌, ◌<◌, Bool, true, false, cond, not, List, [], ◌∷◌, ◌++◌, length, get_or}
+use Rattle.std.proofs.Common.{set, map, refl, sym, ap, ◌∙◌, subst, arith, ◌⊎◌, inl, inr, Some, None, Option, insert, remove}
 use Rattle.std.specs.Prelude.{◌==◌, nat_lt, slice_get, count_by}
 use Rattle.std.specs.List.{AllByRecursion, position, position_or_len}
 use Rattle.std.specs.Cmp.Lexicographic.{slice_cmp}
@@ -276,7 +277,9 @@ module _ (k : ℕ) (f : Entry → Entry) where
       by_test e x g s false t = inr (subst (λ (y : Entry). Has y (rest k es)) (sym (s ∙ hit_other x t)) (rest_has k x es g t))
 
   -- its deadline key is removed at one position and inserted at another
-  pub due_hit : (old : Entry) (es : List Entry) (ds : List DeadlineKey) (p q : ℕ) → Rises key_of_entry es → IsIndex indexed_deadline deadline_cmp es ds → Has old es → old.key ≡ k → slice_get ds p ≡ Some (deadline_key old) → Place deadline_cmp deadlines_total q (deadline_key (f old)) (remove ds p) → IsIndex indexed_deadline deadline_cmp (map (change_of_key k f) es) (insert (remove ds p) q (deadline_key (f old)))
+  pub due_hit : (old : Entry) (es : List Entry) (ds : List DeadlineKey) (p q : ℕ) → Rises key_of_entry es → IsIndex indexed_deadline deadline_cmp es ds →
+      Has old es → old.key ≡ k → slice_get ds p ≡ Some (deadline_key old) → Place deadline_cmp deadlines_total q (deadline_key (f old)) (remove ds p) →
+      IsIndex indexed_deadline deadline_cmp (map (change_of_key k f) es) (insert (remove ds p) q (deadline_key (f old)))
   due_hit old es ds p q r due h key at place = index_in indexed_deadline deadline_cmp deadlines_total (f old) (deadline_key (f old)) (rest k es) (map (change_of_key k f) es) (remove ds p) q
       (index_out indexed_deadline deadline_cmp deadlines_total old (deadline_key old) es (rest k es) ds p due (loses_rest k old es r h key) refl (of_waits es old r h) at)
       (gains_hit old es r h key) refl place
@@ -294,7 +297,8 @@ module _ (k : ℕ) (f : Entry → Entry) where
       rw (n, settle_over old es r.1 h q o) refl
 
 -- where none has the key, none changes
-absent_if : (k n : ℕ) (f : Entry → Entry) (e : Entry) (es : List Entry) (b : Bool) → suc (length es) ≤ cond (not b) (1 + n) 0 → (length es ≤ n → map (change_of_key k f) es ≡ es) → cond b (f e) e ∷ map (change_of_key k f) es ≡ e ∷ es
+absent_if : (k n : ℕ) (f : Entry → Entry) (e : Entry) (es : List Entry) (b : Bool) → suc (length es) ≤ cond (not b) (1 + n) 0 → (length es ≤ n → map (change_of_key k f) es ≡ es) →
+    cond b (f e) e ∷ map (change_of_key k f) es ≡ e ∷ es
 absent_if k n f e es true l ih = absurd (omega (arith, l))
 absent_if k n f e es false l ih = ap (λ xs. e ∷ xs) (ih (omega (arith, l)))
 
@@ -348,11 +352,13 @@ abbrev is_a_client : Entry → Bool
 is_a_client e = not e.is_server
 
 -- a server transaction ends: its match keys and its deadline key are removed
-pub server_over : (k : ℕ) (old : Entry) (es : List Entry) (ss cs ts : List MatchKey) (ds : List DeadlineKey) (p q o : ℕ) → AreTables es ss cs ts ds → Has old es → old.key ≡ k → old.is_server ≡ true → slice_get ds p ≡ Some (deadline_key old) → slice_get ss q ≡ Some (server_match old) → slice_get ts o ≡ Some (call_match old) → AreTables (rest k es) (remove ss q) cs (remove ts o) (remove ds p)
+pub server_over : (k : ℕ) (old : Entry) (es : List Entry) (ss cs ts : List MatchKey) (ds : List DeadlineKey) (p q o : ℕ) → AreTables es ss cs ts ds → Has old es → old.key ≡ k → old.is_server ≡ true →
+    slice_get ds p ≡ Some (deadline_key old) → slice_get ss q ≡ Some (server_match old) → slice_get ts o ≡ Some (call_match old) → AreTables (rest k es) (remove ss q) cs (remove ts o) (remove ds p)
 server_over k old es ss cs ts ds p q o t h key kind at named called =
     let less : Loses old es (rest k es) = loses_rest k old es t.rises h key in
     let gone : count_by is_a_server (rest k es) + 1 ≡ count_by is_a_server es = subst (λ b. count_by is_a_server (rest k es) + cond b 1 0 ≡ count_by is_a_server es) kind (count_rest is_a_server k old es t.rises h key) in
-    let stay : count_by is_a_client (rest k es) + 0 ≡ count_by is_a_client es = subst (λ b. count_by is_a_client (rest k es) + cond (not b) 1 0 ≡ count_by is_a_client es) kind (count_rest is_a_client k old es t.rises h key) in
+    let stay : count_by is_a_client (rest k es) + 0 ≡ count_by is_a_client es =
+    subst (λ b. count_by is_a_client (rest k es) + cond (not b) 1 0 ≡ count_by is_a_client es) kind (count_rest is_a_client k old es t.rises h key) in
     record {
       rises = rises_rest k es t.rises;
       servers = index_out indexed_server match_cmp matches_total old (server_match old) es (rest k es) ss q t.servers less (ap (λ b. cond b (Some (server_match old)) None) kind) (of_server es old t.rises h) named;
@@ -364,11 +370,13 @@ server_over k old es ss cs ts ds p q o t h key kind at named called =
     }
 
 -- a client transaction ends: its match key and its deadline key are removed
-pub client_over : (k : ℕ) (old : Entry) (es : List Entry) (ss cs ts : List MatchKey) (ds : List DeadlineKey) (p q : ℕ) → AreTables es ss cs ts ds → Has old es → old.key ≡ k → old.is_server ≡ false → slice_get ds p ≡ Some (deadline_key old) → slice_get cs q ≡ Some (client_match old) → AreTables (rest k es) ss (remove cs q) ts (remove ds p)
+pub client_over : (k : ℕ) (old : Entry) (es : List Entry) (ss cs ts : List MatchKey) (ds : List DeadlineKey) (p q : ℕ) → AreTables es ss cs ts ds → Has old es → old.key ≡ k → old.is_server ≡ false →
+    slice_get ds p ≡ Some (deadline_key old) → slice_get cs q ≡ Some (client_match old) → AreTables (rest k es) ss (remove cs q) ts (remove ds p)
 client_over k old es ss cs ts ds p q t h key kind at named =
     let less : Loses old es (rest k es) = loses_rest k old es t.rises h key in
     let stay : count_by is_a_server (rest k es) + 0 ≡ count_by is_a_server es = subst (λ b. count_by is_a_server (rest k es) + cond b 1 0 ≡ count_by is_a_server es) kind (count_rest is_a_server k old es t.rises h key) in
-    let gone : count_by is_a_client (rest k es) + 1 ≡ count_by is_a_client es = subst (λ b. count_by is_a_client (rest k es) + cond (not b) 1 0 ≡ count_by is_a_client es) kind (count_rest is_a_client k old es t.rises h key) in
+    let gone : count_by is_a_client (rest k es) + 1 ≡ count_by is_a_client es =
+    subst (λ b. count_by is_a_client (rest k es) + cond (not b) 1 0 ≡ count_by is_a_client es) kind (count_rest is_a_client k old es t.rises h key) in
     record {
       rises = rises_rest k es t.rises;
       servers = index_without indexed_server match_cmp matches_total old es (rest k es) ss t.servers less (ap (λ b. cond b (Some (server_match old)) None) kind);
@@ -383,16 +391,19 @@ client_over k old es ss cs ts ds p q t h key kind at named =
 below : (e u : Entry) (n y : MatchKey) → n ≡ y → n.key ≡ u.key → u.key < e.key → y.key ≡ e.key → ⊥
 below e u n y is own less same = let key : n.key ≡ y.key = ap (λ (z : MatchKey). z.key) is in omega (arith, key, own, less, same)
 
-pub below_server : (e : Entry) (es : List Entry) (ss : List MatchKey) → IsIndex indexed_server match_cmp es ss → ((x : Entry) → Has x es → x.key < e.key) → (y : MatchKey) → Has y ss → match_cmp y (server_match e) ≡ Equal → ⊥
+pub below_server : (e : Entry) (es : List Entry) (ss : List MatchKey) → IsIndex indexed_server match_cmp es ss → ((x : Entry) → Has x es → x.key < e.key) → (y : MatchKey) → Has y ss →
+    match_cmp y (server_match e) ≡ Equal → ⊥
 below_server e es ss i l y h q = let u = i.only y h in below e u.0 (server_match u.0) y (server_if u.0 (server_match u.0) y u.0.is_server u.2) refl (l u.0 u.1) (name_key y (server_match e) q)
 
-pub below_client : (e : Entry) (es : List Entry) (cs : List MatchKey) → IsIndex indexed_client match_cmp es cs → ((x : Entry) → Has x es → x.key < e.key) → (y : MatchKey) → Has y cs → match_cmp y (client_match e) ≡ Equal → ⊥
+pub below_client : (e : Entry) (es : List Entry) (cs : List MatchKey) → IsIndex indexed_client match_cmp es cs → ((x : Entry) → Has x es → x.key < e.key) → (y : MatchKey) → Has y cs →
+    match_cmp y (client_match e) ≡ Equal → ⊥
 below_client e es cs i l y h q = let u = i.only y h in below e u.0 (client_match u.0) y (client_if u.0 (client_match u.0) y u.0.is_server u.2) refl (l u.0 u.1) (name_key y (client_match e) q)
 
 pub below_call : (e : Entry) (es : List Entry) (ts : List MatchKey) → IsIndex indexed_call match_cmp es ts → ((x : Entry) → Has x es → x.key < e.key) → (y : MatchKey) → Has y ts → match_cmp y (call_match e) ≡ Equal → ⊥
 below_call e es ts i l y h q = let u = i.only y h in below e u.0 (call_match u.0) y (server_if u.0 (call_match u.0) y u.0.is_server u.2) refl (l u.0 u.1) (name_key y (call_match e) q)
 
-pub below_waits : (e : Entry) (es : List Entry) (ds : List DeadlineKey) → IsIndex indexed_deadline deadline_cmp es ds → ((x : Entry) → Has x es → x.key < e.key) → (y : DeadlineKey) → Has y ds → deadline_cmp y (deadline_key e) ≡ Equal → ⊥
+pub below_waits : (e : Entry) (es : List Entry) (ds : List DeadlineKey) → IsIndex indexed_deadline deadline_cmp es ds → ((x : Entry) → Has x es → x.key < e.key) → (y : DeadlineKey) → Has y ds →
+    deadline_cmp y (deadline_key e) ≡ Equal → ⊥
 below_waits e es ds i l y h q =
     let u = i.only y h in
     let key : y.key ≡ u.0.key = ap (λ (z : DeadlineKey). z.key) (sym (same_Some (deadline_key u.0) y u.2)) in
@@ -404,7 +415,8 @@ module _ (e : Entry) (es : List Entry) (ss cs ts : List MatchKey) (ds : List Dea
   scheduled_moment : (p : Entry → Bool) (b : Bool) → p e ≡ b → count_by p (es ++ e ∷ []) ≡ count_by p es + cond b 1 0
   scheduled_moment p b q = count_last p es e ∙ ap (λ c. count_by p es + cond c 1 0) q
 
-  pub server_more : (p q o : ℕ) → e.is_server ≡ true → p ≤ length ss → Place match_cmp matches_total p (server_match e) ss → Place match_cmp matches_total o (call_match e) ts → Place deadline_cmp deadlines_total q (deadline_key e) ds → AreTables (es ++ e ∷ []) (insert ss p (server_match e)) cs (insert ts o (call_match e)) (insert ds q (deadline_key e))
+  pub server_more : (p q o : ℕ) → e.is_server ≡ true → p ≤ length ss → Place match_cmp matches_total p (server_match e) ss → Place match_cmp matches_total o (call_match e) ts →
+      Place deadline_cmp deadlines_total q (deadline_key e) ds → AreTables (es ++ e ∷ []) (insert ss p (server_match e)) cs (insert ts o (call_match e)) (insert ds q (deadline_key e))
   server_more p q o kind le place called due =
       let one : count_by is_a_server (es ++ e ∷ []) ≡ count_by is_a_server es + 1 = scheduled_moment is_a_server true kind in
       let none : count_by is_a_client (es ++ e ∷ []) ≡ count_by is_a_client es + 0 = scheduled_moment is_a_client false (ap not kind) in
@@ -418,7 +430,8 @@ module _ (e : Entry) (es : List Entry) (ss cs ts : List MatchKey) (ds : List Dea
         client_count = omega (arith, t.client_count, none);
       }
 
-  pub client_more : (p q : ℕ) → e.is_server ≡ false → p ≤ length cs → Place match_cmp matches_total p (client_match e) cs → Place deadline_cmp deadlines_total q (deadline_key e) ds → AreTables (es ++ e ∷ []) ss (insert cs p (client_match e)) ts (insert ds q (deadline_key e))
+  pub client_more : (p q : ℕ) → e.is_server ≡ false → p ≤ length cs → Place match_cmp matches_total p (client_match e) cs → Place deadline_cmp deadlines_total q (deadline_key e) ds →
+      AreTables (es ++ e ∷ []) ss (insert cs p (client_match e)) ts (insert ds q (deadline_key e))
   client_more p q kind le place due =
       let none : count_by is_a_server (es ++ e ∷ []) ≡ count_by is_a_server es + 0 = scheduled_moment is_a_server false kind in
       let one : count_by is_a_client (es ++ e ∷ []) ≡ count_by is_a_client es + 1 = scheduled_moment is_a_client true (ap not kind) in

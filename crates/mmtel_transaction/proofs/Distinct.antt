@@ -41,7 +41,8 @@ server_of m e q =
     }
 
 pub of_server : (m : Head) (e : Entry) → IsServerOf m e → is_server_of m e ≡ true
-of_server m e s = and_from _ _ (and_from _ _ (and_from _ _ s.server ((bytes_eq-Decides e.head.branch m.branch).1 s.branch)) ((bytes_eq-Decides e.head.sent_by m.sent_by).1 s.sent_by)) ((bytes_eq-Decides e.head.method (key_method m)).1 s.method)
+of_server m e s = and_from _ _ (and_from _ _ (and_from _ _ s.server ((bytes_eq-Decides e.head.branch m.branch).1 s.branch)) ((bytes_eq-Decides e.head.sent_by m.sent_by).1 s.sent_by))
+    ((bytes_eq-Decides e.head.method (key_method m)).1 s.method)
 
 -- what a new request is
 ack_part : (o : Option Entry) → part.Fresh ≡ ack_class o → ⊥

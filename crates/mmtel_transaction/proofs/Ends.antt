@@ -70,7 +70,9 @@ stays_ended h (c ∷ g) key l n = still_ended c (g ++ h) key (omega (arith, l, m
 last_is : (key : ℕ) (n : DueEntryView) → IsLast key (due_result (Some n)) → (retransmission_at n.entry ≡ None) × (n.entry.key ≡ key)
 last_is key n q = either (retransmission_at n.entry) refl (is_ending n.entry.state) q
   where
-    either : (o : Option ℕ) → retransmission_at n.entry ≡ o → (b : Bool) → IsLast key (cond (is_some o) (due.Again n.entry.peer n.at (retransmitted_text n.entry)) (cond b (due.Over (tkey n.entry.key) n.at) (due.Silent (tkey n.entry.key) n.entry.head.branch n.entry.head.method n.at))) → (retransmission_at n.entry ≡ None) × (n.entry.key ≡ key)
+    either : (o : Option ℕ) → retransmission_at n.entry ≡ o → (b : Bool) →
+        IsLast key (cond (is_some o) (due.Again n.entry.peer n.at (retransmitted_text n.entry)) (cond b (due.Over (tkey n.entry.key) n.at) (due.Silent (tkey n.entry.key) n.entry.head.branch n.entry.head.method n.at))) →
+        (retransmission_at n.entry ≡ None) × (n.entry.key ≡ key)
     either None f true p = (f, p)
     either None f false p = (f, p)
     either (Some a) f b p = absurd p

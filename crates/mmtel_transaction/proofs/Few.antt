@@ -68,7 +68,8 @@ counts_opens s i k (DidSettle j own) = tt
 
 counts_opened : (h : List TransactionOp) → Counts 0 (openings h)
 counts_opened [] = tt
-counts_opened (c ∷ h) = counts_append 0 (openings h) (opens (step_of h) (send_count h) (length (openings h)) c) (counts_opened h) (let e : 0 + length (openings h) ≡ length (openings h) = omega arith in rw e (counts_opens (step_of h) (send_count h) (length (openings h)) c))
+counts_opened (c ∷ h) = counts_append 0 (openings h) (opens (step_of h) (send_count h) (length (openings h)) c) (counts_opened h)
+    (let e : 0 + length (openings h) ≡ length (openings h) = omega arith in rw e (counts_opens (step_of h) (send_count h) (length (openings h)) c))
 
 counted_key : (lo k : ℕ) (es : List Entry) (e : Entry) → Counts lo es → slice_get es k ≡ Some e → e.key ≡ lo + k
 counted_key lo k [] e c q = absurd (none-some e q)

@@ -107,8 +107,10 @@ its_step x a q = (timer_moment x (scheduled_moment x.start (moments_of schedule.
 
 pub retransmitted_later : (s : ℕ) (x : ReliableResponse) (a b : TransactionTimer) → timer_of x ≡ Some a → timer_of (retransmitted s x) ≡ Some b → a.at < b.at
 retransmitted_later s x a b q r =
-    let next : scheduled_moment x.start (moments_of schedule.Invite) (suc x.retransmissions) ≡ Some b.at = ap (scheduled_moment x.start (moments_of schedule.Invite)) (let w : suc x.retransmissions ≡ x.retransmissions + 1 = omega arith in w) ∙ its_moment (retransmitted s x) b r in
-    climbs (moments_of schedule.Invite) x.retransmissions x.start a.at b.at (omega arith, (omega arith, (omega arith, (omega arith, (omega arith, omega arith))))) (its_moment x a q) (ap (λ o. option_or o (Some (x.start + 32000))) next)
+    let next : scheduled_moment x.start (moments_of schedule.Invite) (suc x.retransmissions) ≡ Some b.at =
+    ap (scheduled_moment x.start (moments_of schedule.Invite)) (let w : suc x.retransmissions ≡ x.retransmissions + 1 = omega arith in w) ∙ its_moment (retransmitted s x) b r in
+    climbs (moments_of schedule.Invite) x.retransmissions x.start a.at b.at (omega arith, (omega arith, (omega arith, (omega arith, (omega arith, omega arith))))) (its_moment x a q)
+    (ap (λ o. option_or o (Some (x.start + 32000))) next)
 
 -- the responses once the one at a position was retransmitted
 abbrev pub retransmitted_at : ℕ → ℕ → List ReliableResponse → List ReliableResponse
@@ -133,7 +135,8 @@ left_more : (place : ℕ) (x : ReliableResponse) (xs : List ReliableResponse) (a
 left_more place x xs a i b (inl w) = inl (ap suc w.0, w.1)
 left_more place x xs a i b (inr w) = inr (λ q. w.0 (omega (arith, q)), w.1)
 
-again_left : (s place : ℕ) (xs : List ReliableResponse) (a : TransactionTimer) → timer_there xs place ≡ Some a → (i : ℕ) (b : TransactionTimer) → timer_there (retransmitted_at s place xs) i ≡ Some b → IsLeft place xs a i b
+again_left : (s place : ℕ) (xs : List ReliableResponse) (a : TransactionTimer) → timer_there xs place ≡ Some a → (i : ℕ) (b : TransactionTimer) →
+    timer_there (retransmitted_at s place xs) i ≡ Some b → IsLeft place xs a i b
 again_left s place [] a q i b r = absurd (none-some a q)
 again_left s zero (x ∷ xs) a q zero b r = inl (refl, retransmitted_later s x a b q r)
 again_left s zero (x ∷ xs) a q (suc i) b r = inr (λ p. absurd (omega (arith, p)), r)
@@ -170,11 +173,13 @@ slow_next end at b q = either (nat_lt at end) q
 is_later : (p : State) (start opened k a b : ℕ) → retransmission_by p start opened k ≡ Some a → option_or (retransmission_by p start opened (suc k)) (last_deadline_by p start opened) ≡ Some b → a < b
 is_later Proceeding start opened k a b q r = absurd (none-some a q)
 is_later Calling start opened k a b q r = climbs (moments_of schedule.Invite) k start a b (omega arith, (omega arith, (omega arith, (omega arith, (omega arith, omega arith))))) q r
-is_later Trying start opened k a b q r = climbs (moments_of schedule.Other) k start a b (omega arith, (omega arith, (omega arith, (omega arith, (omega arith, (omega arith, (omega arith, (omega arith, (omega arith, omega arith))))))))) q r
+is_later Trying start opened k a b q r = climbs (moments_of schedule.Other) k start a b
+    (omega arith, (omega arith, (omega arith, (omega arith, (omega arith, (omega arith, (omega arith, (omega arith, (omega arith, omega arith))))))))) q r
 is_later SlowProceeding start opened k a b q r =
     let w = before_end (opened + 32000) (slow_at start k) a q in
     elim (slow_next (opened + 32000) (slow_at start (suc k)) b r) [ inl s ↦ omega (arith, w.0, s) | inr s ↦ omega (arith, w.1, s) ]
-is_later Completed start opened k a b q r = climbs (moments_of schedule.Other) k start a b (omega arith, (omega arith, (omega arith, (omega arith, (omega arith, (omega arith, (omega arith, (omega arith, (omega arith, omega arith))))))))) q r
+is_later Completed start opened k a b q r = climbs (moments_of schedule.Other) k start a b
+    (omega arith, (omega arith, (omega arith, (omega arith, (omega arith, (omega arith, (omega arith, (omega arith, (omega arith, omega arith))))))))) q r
 is_later Absorbing start opened k a b q r = absurd (none-some a q)
 is_later states.Confirmed start opened k a b q r = absurd (none-some a q)
 
@@ -264,7 +269,8 @@ module _ (e : Entry) where
       of_plan o s n d v =
           let w = state_timer_is e (option_or (state_retransmission_at e) (last_deadline e)) b v in
           let same : b.at ≡ a = same_Some b.at a (sym w.0 ∙ d) in
-          subst (λ x. before x b.step b.order a e.step e.order ≡ false) (sym same) (subst (λ x. before a x b.order a e.step e.order ≡ false) (sym w.1) (subst (λ x. before a e.step x a e.step e.order ≡ false) (sym w.2) (itself a e.step e.order)))
+          subst (λ x. before x b.step b.order a e.step e.order ≡ false) (sym same)
+          (subst (λ x. before a x b.order a e.step e.order ≡ false) (sym w.1) (subst (λ x. before a e.step x a e.step e.order ≡ false) (sym w.2) (itself a e.step e.order)))
 
       either : (o : Option (ℕ × TransactionTimer)) → foremost_in e ≡ o → deadline_by o e ≡ Some a → (p : Option ℕ) → timer_in e p ≡ Some b → before b.at b.step b.order a (step_by o e) (order_by o e) ≡ false
       either (Some f) s d None v = absurd (none-some b (sym (no_plan (is_idle_with f s)) ∙ v))
@@ -299,7 +305,8 @@ module _ (e : Entry) where
       by_plan true t d = let w = idle_none e.state e.start e.at e.retransmissions t in absurd (none-some a (sym (ap (λ o. option_or o (last_deadline e)) w.0 ∙ w.1) ∙ d))
       by_plan false t d = (t, d)
 
-      either : (o : Option (ℕ × TransactionTimer)) → foremost_in e ≡ o → deadline_by o e ≡ Some a → ((f : ℕ × TransactionTimer) × (foremost_in e ≡ Some f) × (f.1.at ≡ a)) ⊎ ((is_untimed e.state ≡ false) × (option_or (state_retransmission_at e) (last_deadline e) ≡ Some a))
+      either : (o : Option (ℕ × TransactionTimer)) → foremost_in e ≡ o → deadline_by o e ≡ Some a →
+          ((f : ℕ × TransactionTimer) × (foremost_in e ≡ Some f) × (f.1.at ≡ a)) ⊎ ((is_untimed e.state ≡ false) × (option_or (state_retransmission_at e) (last_deadline e) ≡ Some a))
       either (Some f) s d = inl (f, s, same_Some f.1.at a d)
       either None s d = inr (by_plan (is_untimed e.state) refl d)
 
@@ -307,7 +314,8 @@ module _ (e : Entry) where
   pub resend_none : retransmission_at e ≡ None → (foremost_in e ≡ None) × (state_retransmission_at e ≡ None)
   resend_none q = either (foremost_in e) refl q
     where
-      either : (o : Option (ℕ × TransactionTimer)) → foremost_in e ≡ o → option_or (option_map (λ (f : ℕ × TransactionTimer). f.1.at) o) (state_retransmission_at e) ≡ None → (foremost_in e ≡ None) × (state_retransmission_at e ≡ None)
+      either : (o : Option (ℕ × TransactionTimer)) → foremost_in e ≡ o → option_or (option_map (λ (f : ℕ × TransactionTimer). f.1.at) o) (state_retransmission_at e) ≡ None →
+          (foremost_in e ≡ None) × (state_retransmission_at e ≡ None)
       either (Some f) s d = absurd (none-some f.1.at (sym d))
       either None s d = (s, d)
 
@@ -338,12 +346,15 @@ abbrev pub after_state_timer_by : Option ℕ → ℕ → Entry → Entry
 after_state_timer_by o s e = cond (is_some o) (record e { retransmissions = e.retransmissions + 1; step = s }) (record e { is_terminated = true })
 
 -- a state whose deadline fired and whose transaction is still live waits for a later moment
-pub state_timer_later : (s a b : ℕ) (e : Entry) → option_or (state_retransmission_at e) (last_deadline e) ≡ Some a → is_live (after_state_timer s e) ≡ true → option_or (state_retransmission_at (after_state_timer s e)) (last_deadline (after_state_timer s e)) ≡ Some b → a < b
+pub state_timer_later : (s a b : ℕ) (e : Entry) → option_or (state_retransmission_at e) (last_deadline e) ≡ Some a → is_live (after_state_timer s e) ≡ true →
+    option_or (state_retransmission_at (after_state_timer s e)) (last_deadline (after_state_timer s e)) ≡ Some b → a < b
 state_timer_later s a b e q l r = either (state_retransmission_at e) refl q l r
   where
-    either : (o : Option ℕ) → state_retransmission_at e ≡ o → option_or o (last_deadline e) ≡ Some a → is_live (after_state_timer_by o s e) ≡ true → option_or (state_retransmission_at (after_state_timer_by o s e)) (last_deadline (after_state_timer_by o s e)) ≡ Some b → a < b
+    either : (o : Option ℕ) → state_retransmission_at e ≡ o → option_or o (last_deadline e) ≡ Some a → is_live (after_state_timer_by o s e) ≡ true →
+        option_or (state_retransmission_at (after_state_timer_by o s e)) (last_deadline (after_state_timer_by o s e)) ≡ Some b → a < b
     either None f p m u = absurd cc
-    either (Some x) f p m u = is_later e.state e.start e.at e.retransmissions a b (f ∙ p) (ap (λ k. option_or (retransmission_by e.state e.start e.at k) (last_deadline_by e.state e.start e.at)) (let w : suc e.retransmissions ≡ e.retransmissions + 1 = omega arith in w) ∙ u)
+    either (Some x) f p m u = is_later e.state e.start e.at e.retransmissions a b (f ∙ p)
+        (ap (λ k. option_or (retransmission_by e.state e.start e.at k) (last_deadline_by e.state e.start e.at)) (let w : suc e.retransmissions ≡ e.retransmissions + 1 = omega arith in w) ∙ u)
 
 pub still_busy : (s : ℕ) (e : Entry) → is_untimed e.state ≡ false → is_untimed (after_state_timer s e).state ≡ false
 still_busy s e t = either (state_retransmission_at e)
@@ -357,7 +368,8 @@ abbrev pub IsLeftIn : Entry → ℕ → Option ℕ → TransactionTimer → Type
 IsLeftIn e a p b = ((p ≡ message_due e) × (a < b.at)) ⊎ ((p ≡ message_due e → ⊥) × (timer_in e p ≡ Some b))
 
 module _ (s a : ℕ) (e : Entry) (d : deadline e ≡ Some a) where
-  left_answer : (f : ℕ × TransactionTimer) → foremost_in e ≡ Some f → f.1.at ≡ a → (p : Option ℕ) (b : TransactionTimer) → timer_in (record e { reliable = retransmitted_at s f.0 e.reliable }) p ≡ Some b → IsLeftIn e a p b
+  left_answer : (f : ℕ × TransactionTimer) → foremost_in e ≡ Some f → f.1.at ≡ a → (p : Option ℕ) (b : TransactionTimer) →
+      timer_in (record e { reliable = retransmitted_at s f.0 e.reliable }) p ≡ Some b → IsLeftIn e a p b
   left_answer f q same None b r = absurd (none-some b (sym (no_plan e (is_idle_with e f q)) ∙ r))
   left_answer f q same (Some i) b r =
       let t = is_idle_with e f q in
@@ -368,8 +380,12 @@ module _ (s a : ℕ) (e : Entry) (d : deadline e ≡ Some a) where
         | inr w ↦ inr (λ m. w.0 (same_Some i f.0 (m ∙ message)), answers_in e i t ∙ w.1)
       ]
 
-  left_plan : is_untimed e.state ≡ false → option_or (state_retransmission_at e) (last_deadline e) ≡ Some a → is_live (after_state_timer s e) ≡ true → (p : Option ℕ) (b : TransactionTimer) → timer_in (after_state_timer s e) p ≡ Some b → IsLeftIn e a p b
-  left_plan t q l None b r = inl (ap message_by (sym (when_busy e t)), state_timer_later s a b.at e q l (state_timer_is (after_state_timer s e) (option_or (state_retransmission_at (after_state_timer s e)) (last_deadline (after_state_timer s e))) b r).0)
+  left_plan : is_untimed e.state ≡ false → option_or (state_retransmission_at e) (last_deadline e) ≡ Some a → is_live (after_state_timer s e) ≡ true → (p : Option ℕ) (b : TransactionTimer) →
+      timer_in (after_state_timer s e) p ≡ Some b → IsLeftIn e a p b
+  left_plan t q l None b r = inl (
+    ap message_by (sym (when_busy e t)),
+    state_timer_later s a b.at e q l (state_timer_is (after_state_timer s e) (option_or (state_retransmission_at (after_state_timer s e)) (last_deadline (after_state_timer s e))) b r).0,
+  )
   left_plan t q l (Some i) b r = absurd (none-some b (sym (no_answer_in (after_state_timer s e) i (still_busy s e t)) ∙ r))
 
   pub fired_left : is_live (after_timer s e) ≡ true → (p : Option ℕ) (b : TransactionTimer) → timer_in (after_timer s e) p ≡ Some b → IsLeftIn e a p b

@@ -112,12 +112,14 @@ has_live h e g = (has_filter_back is_live e (map (entry_of h) (openings h)) g).1
 pub has_more : (c : TransactionOp) (h : List TransactionOp) (e : Entry) → Has e (live h) → is_live (change (step_of h) (send_count h) c e) ≡ true → Has (change (step_of h) (send_count h) c e) (live (c ∷ h))
 has_more c h e g l =
     let f = change (step_of h) (send_count h) c in
-    subst (λ es. Has (f e) es) (sym (live_more c h)) (has_left (f e) (filter is_live (map f (live h))) (opens (step_of h) (send_count h) (length (openings h)) c) (has_filter is_live (f e) (map f (live h)) (has_map f e (live h) g) l))
+    subst (λ es. Has (f e) es) (sym (live_more c h))
+    (has_left (f e) (filter is_live (map f (live h))) (opens (step_of h) (send_count h) (length (openings h)) c) (has_filter is_live (f e) (map f (live h)) (has_map f e (live h) g) l))
 
 pub has_new : (c : TransactionOp) (h : List TransactionOp) (e : Entry) → Has e (opens (step_of h) (send_count h) (length (openings h)) c) → Has e (live (c ∷ h))
 has_new c h e g = subst (λ es. Has e es) (sym (live_more c h)) (has_right e (filter is_live (map (change (step_of h) (send_count h) c) (live h))) (opens (step_of h) (send_count h) (length (openings h)) c) g)
 
-pub has_more_back : (c : TransactionOp) (h : List TransactionOp) (e : Entry) → Has e (live (c ∷ h)) → ((x : Entry) × Has x (live h) × (e ≡ change (step_of h) (send_count h) c x)) ⊎ Has e (opens (step_of h) (send_count h) (length (openings h)) c)
+pub has_more_back : (c : TransactionOp) (h : List TransactionOp) (e : Entry) → Has e (live (c ∷ h)) →
+    ((x : Entry) × Has x (live h) × (e ≡ change (step_of h) (send_count h) c x)) ⊎ Has e (opens (step_of h) (send_count h) (length (openings h)) c)
 has_more_back c h e g =
     let f = change (step_of h) (send_count h) c in
     elim (has_append_back e (filter is_live (map f (live h))) (opens (step_of h) (send_count h) (length (openings h)) c) (subst (λ es. Has e es) (live_more c h) g)) [

@@ -25,7 +25,8 @@ head_by start None f t c = head_with start None
 head_by start (Some via) None t c = head_with start None
 head_by start (Some via) (Some f) None c = head_with start None
 head_by start (Some via) (Some f) (Some t) None = head_with start None
-head_by start (Some via) (Some f) (Some t) (Some c) = record { is_request = is_request start; status = code_of start; method = method_of start c.1.method; branch = via.0; sent_by = via.1; from_tag = f; to_tag = t; call_id = c.0; number = c.1.number }
+head_by start (Some via) (Some f) (Some t) (Some c) =
+    record { is_request = is_request start; status = code_of start; method = method_of start c.1.method; branch = via.0; sent_by = via.1; from_tag = f; to_tag = t; call_id = c.0; number = c.1.number }
 
 abbrev both : Option NameAddr → Option NameAddr → Option (NameAddr × NameAddr)
 both f t = f >>= λ a. t >>= λ b. Some (a, b)
@@ -36,7 +37,8 @@ tag_of o = option_map (λ (party : NameAddr). param_text (codes "tag") party.par
 abbrev place_of : Option Via → Option (List ℕ × List ℕ)
 place_of o = option_map (λ (via : Via). (param_text (codes "branch") via.params, via.sent_by)) o
 
-five_by : (start : Start) (v : Option Via) (f t : Option NameAddr) (c : Option (List ℕ × CSeq)) → head_with start (v >>= λ via. both f t >>= λ p. c >>= λ x. Some (record { via = via; from = p.0; to = p.1; call_id = x.0; cseq = x.1 })) ≡ head_by start (place_of v) (tag_of f) (tag_of t) c
+five_by : (start : Start) (v : Option Via) (f t : Option NameAddr) (c : Option (List ℕ × CSeq)) →
+    head_with start (v >>= λ via. both f t >>= λ p. c >>= λ x. Some (record { via = via; from = p.0; to = p.1; call_id = x.0; cseq = x.1 })) ≡ head_by start (place_of v) (tag_of f) (tag_of t) c
 five_by start None f t c = refl
 five_by start (Some via) None t c = refl
 five_by start (Some via) (Some f) None c = refl
@@ -118,7 +120,8 @@ unfolding call_in
 call_is ls = refl
 
 call_alike : (ls ks : Lines) → lines_named (codes "Call-ID") ls ≡ lines_named (codes "Call-ID") ks → lines_named (codes "CSeq") ls ≡ lines_named (codes "CSeq") ks → call_in ls ≡ call_in ks
-call_alike ls ks i c = call_is ls ∙ (ap (λ o. call_by o (only_value (codes "CSeq") ls)) (one_alike (codes "Call-ID") ls ks i) ∙ (ap (call_by (only_value (codes "Call-ID") ks)) (one_alike (codes "CSeq") ls ks c) ∙ sym (call_is ks)))
+call_alike ls ks i c = call_is ls
+    ∙ (ap (λ o. call_by o (only_value (codes "CSeq") ls)) (one_alike (codes "Call-ID") ls ks i) ∙ (ap (call_by (only_value (codes "Call-ID") ks)) (one_alike (codes "CSeq") ls ks c) ∙ sym (call_is ks)))
 
 read_alike : (m n : Message Start) → LinesEquivalent m n → ReadEquivalent m n
 read_alike m n l = record {

@@ -14,8 +14,10 @@ use Rattle.mmtel_transaction.specs.declared.entries.Entry.{Entry}
 use Rattle.mmtel_transaction.specs.declared.entries.State.TheVariants.{Absorbing, Calling, Completed, Trying}
 use Rattle.mmtel_transaction.specs.declared.entries.ReliableResponse.{ReliableResponse}
 use Rattle.mmtel_transaction.specs.Heads.{head_of, is_invite, is_provisional, is_refusal, reliable_number}
-use Rattle.mmtel_transaction.specs.Deadlines.{timer_of, timers, reliable_timers_of, reliable_timers, timer_at_state, deadline, is_untimed, last_deadline, message_due, order_due, state_timers, state_retransmission_at, step_due}
-use Rattle.mmtel_transaction.specs.Changes.{after_any_reply, after_reply, after_settling, after_state_timer, after_timer, new_client_entry, reliable_response_of, with_kept_ack, with_reliable, with_reliable_if, without_rseq}
+use Rattle.mmtel_transaction.specs.Deadlines.{timer_of, timers, reliable_timers_of, reliable_timers, timer_at_state, deadline, is_untimed}
+use Rattle.mmtel_transaction.specs.Deadlines.{last_deadline, message_due, order_due, state_timers, state_retransmission_at, step_due}
+use Rattle.mmtel_transaction.specs.Changes.{after_any_reply, after_reply, after_settling, after_state_timer, after_timer, new_client_entry}
+use Rattle.mmtel_transaction.specs.Changes.{reliable_response_of, with_kept_ack, with_reliable, with_reliable_if, without_rseq}
 use Rattle.mmtel_transaction.specs.Operations.{TransactionOp, DidAck, DidAsk, DidBegin, DidReply, DidSettle, is_live, live, send_count, openings, step_of}
 use Rattle.mmtel_transaction.specs.Results.{DueEntryView, next_due}
 use Rattle.mmtel_transaction.specs.Firings.{BeginsChangeNothing, DueIsCounted, FiringsLeaveFewer, SendsAddNone, due_by, is_not_later}
@@ -79,7 +81,8 @@ idle_weight : (at : ℕ) (e : Entry) → is_untimed e.state ≡ true → weight 
 idle_weight at e t = ap (λ b. count_by (is_not_later at) (cond b (reliable_timers e) (state_timers e))) t ∙ (sym (number_is at (reliable_timers e)) ∙ number_awaited at e.reliable)
 
 busy_weight : (at : ℕ) (e : Entry) → is_untimed e.state ≡ false → weight at e ≡ one at (state_timer e)
-busy_weight at e t = ap (λ b. count_by (is_not_later at) (cond b (reliable_timers e) (state_timers e))) t ∙ (sym (number_is at (state_timers e)) ∙ number_plan at e (option_or (state_retransmission_at e) (last_deadline e)))
+busy_weight at e t = ap (λ b. count_by (is_not_later at) (cond b (reliable_timers e) (state_timers e))) t
+    ∙ (sym (number_is at (state_timers e)) ∙ number_plan at e (option_or (state_retransmission_at e) (last_deadline e)))
 
 awaited_zero : (at : ℕ) (xs : List ReliableResponse) → ((i : ℕ) (b : TransactionTimer) → timer_there xs i ≡ Some b → at < b.at) → awaited at xs ≡ 0
 awaited_zero at [] f = refl
@@ -165,7 +168,8 @@ fired_fewer : (s at : ℕ) (e : Entry) → deadline e ≡ Some at → is_live (a
 fired_fewer s at e q l = elim (which e at q) [
   | inl w ↦
       let t = is_idle_with e w.0 w.1 in
-      let after : weight at (after_timer s e) ≡ awaited at (retransmitted_at s w.0.0 e.reliable) = ap (weight at) (fired_answer e s w.0 w.1) ∙ idle_weight at (record e { reliable = retransmitted_at s w.0.0 e.reliable }) t in
+      let after : weight at (after_timer s e) ≡ awaited at (retransmitted_at s w.0.0 e.reliable) =
+      ap (weight at) (fired_answer e s w.0 w.1) ∙ idle_weight at (record e { reliable = retransmitted_at s w.0.0 e.reliable }) t in
       let before = idle_weight at e t in
       let less = subst (λ m. suc (awaited m (retransmitted_at s w.0.0 e.reliable)) ≤ awaited m e.reliable) w.2 (awaited_again s w.0.0 e.reliable w.0.1 (foremost_there e w.0 w.1)) in
       omega (arith, after, before, less)
@@ -173,7 +177,8 @@ fired_fewer s at e q l = elim (which e at q) [
       let is = busy_fired e s w.0 in
       let x : Entry = after_state_timer s e in
       let after : weight at (after_timer s e) ≡ one at (state_timer x) = ap (weight at) is ∙ busy_weight at x (still_busy s e w.0) in
-      let later : one at (state_timer x) ≡ 0 = one_later at (state_timer x) (λ b r. state_timer_later s at b.at e w.1 (ap is_live (sym is) ∙ l) (state_timer_is x (option_or (state_retransmission_at x) (last_deadline x)) b r).0) in
+      let later : one at (state_timer x) ≡ 0 =
+      one_later at (state_timer x) (λ b r. state_timer_later s at b.at e w.1 (ap is_live (sym is) ∙ l) (state_timer_is x (option_or (state_retransmission_at x) (last_deadline x)) b r).0) in
       omega (arith, after, later, not_past at at e q (omega arith))
 ]
 
@@ -184,7 +189,8 @@ leave_fewer h now n q =
 
 -- ---- other operations
 
-keep_if : (at : ℕ) (l t : Bool) (x y : Entry) (es fs : List Entry) → weight at x ≤ weight at y → total (weight at) fs ≤ total (weight at) es → total (weight at) (cond t (cond l (x ∷ es) es) (y ∷ fs)) ≤ total (weight at) (y ∷ es)
+keep_if : (at : ℕ) (l t : Bool) (x y : Entry) (es fs : List Entry) → weight at x ≤ weight at y → total (weight at) fs ≤ total (weight at) es →
+    total (weight at) (cond t (cond l (x ∷ es) es) (y ∷ fs)) ≤ total (weight at) (y ∷ es)
 keep_if at true true x y es fs f g = omega (arith, f)
 keep_if at false true x y es fs f g = omega arith
 keep_if at l false x y es fs f g = omega (arith, g)
@@ -199,7 +205,8 @@ weighs_if at false x y e f g = g
 
 -- a state that is counted from a moment waits for a later one
 plan_later : (at : ℕ) (e : Entry) (b : ℕ) → is_untimed e.state ≡ false → option_or (state_retransmission_at e) (last_deadline e) ≡ Some b → at < b → weight at e ≡ 0
-plan_later at e b t q l = busy_weight at e t ∙ (ap (λ o. one at (state_timer_at e o)) q ∙ one_later at (Some (record { at = b; step = e.step; order = e.order })) (λ c r. let w = ap (λ (y : TransactionTimer). y.at) (same_Some _ c r) in omega (arith, w, l)))
+plan_later at e b t q l = busy_weight at e t
+    ∙ (ap (λ o. one at (state_timer_at e o)) q ∙ one_later at (Some (record { at = b; step = e.step; order = e.order })) (λ c r. let w = ap (λ (y : TransactionTimer). y.at) (same_Some _ c r) in omega (arith, w, l)))
 
 final_zero : (at : ℕ) (b : Bool) (e : Entry) → weight at (record e { state = cond b Completed Absorbing; start = at; retransmissions = 0 }) ≡ 0
 final_zero at true e = plan_later at (record e { state = Completed; start = at; retransmissions = 0 }) (at + 500) refl refl (omega arith)
@@ -213,7 +220,8 @@ replied_adds_none : (s i st : ℕ) (t g : List ℕ) (at : ℕ) (e : Entry) → w
 replied_adds_none s i st t g at e =
     let final : Entry = record e { last = Some t; step = s; order = i; final_status = st; to_tag = g; is_refused = is_refusal st; reliable = [] } in
     weighs_if at (not e.is_server || not (e.final_status == 0)) e _ e (omega arith)
-    (weighs_if at (is_provisional st) (record e { last = Some t }) (record final { state = cond (is_invite e.head) Completed Absorbing; start = at; retransmissions = 0 }) e (omega arith) (omega (arith, final_zero at (is_invite e.head) final)))
+    (weighs_if at (is_provisional st) (record e { last = Some t }) (record final { state = cond (is_invite e.head) Completed Absorbing; start = at; retransmissions = 0 }) e (omega arith)
+    (omega (arith, final_zero at (is_invite e.head) final)))
 
 -- a reliable response that is sent at a moment is retransmitted later
 more_weight : (at : ℕ) (x : ReliableResponse) (e : Entry) → one at (timer_of x) ≡ 0 → weight at (record e { reliable = e.reliable ++ x ∷ [] }) ≡ weight at e
@@ -264,7 +272,8 @@ pub begins_change_nothing : BeginsChangeNothing
 begins_change_nothing h step = live_new (DidBegin step) h (λ e. refl) ∙ append-nil (live h)
 
 -- an operation that changes one transaction
-hit_adds_none : (c : TransactionOp) (h : List TransactionOp) (at key : ℕ) (f : Entry → Entry) → live (c ∷ h) ≡ table_after_change key f (live h) → ((e : Entry) → weight at (f e) ≤ weight at e) → due_by at (live (c ∷ h)) ≤ due_by at (live h)
+hit_adds_none : (c : TransactionOp) (h : List TransactionOp) (at key : ℕ) (f : Entry → Entry) → live (c ∷ h) ≡ table_after_change key f (live h) → ((e : Entry) → weight at (f e) ≤ weight at e) →
+    due_by at (live (c ∷ h)) ≤ due_by at (live h)
 hit_adds_none c h at key f q l = subst (λ es. due_by at es ≤ due_by at (live h)) (sym q) (as_counted at (table_after_change key f (live h)) (live h) (keeps_all at key f (live h) l))
 
 pub sends_add_none : SendsAddNone
@@ -272,7 +281,8 @@ sends_add_none h = record {
   asks = λ p m at.
       let e : Entry = new_client_entry (step_of h) (send_count h) (length (openings h)) p (head_of m) (message_text m) at in
       subst (λ es. due_by at es ≤ due_by at (live h)) (sym (live_new (DidAsk p m at) h (λ x. refl))) (as_counted at (live h ++ e ∷ []) (live h) (one_more at e (live h) (asked_zero at (is_invite (head_of m)) e)));
-  replies = λ key m at. hit_adds_none (DidReply key m at) h at key (after_any_reply (step_of h) (send_count h) m at) (live_hit (DidReply key m at) h key (after_any_reply (step_of h) (send_count h) m at) (λ e. refl) refl) (offered_adds_none (step_of h) (send_count h) at m);
+  replies = λ key m at. hit_adds_none (DidReply key m at) h at key (after_any_reply (step_of h) (send_count h) m at)
+      (live_hit (DidReply key m at) h key (after_any_reply (step_of h) (send_count h) m at) (λ e. refl) refl) (offered_adds_none (step_of h) (send_count h) at m);
   acks = λ key m at. hit_adds_none (DidAck key m) h at key (with_kept_ack (message_text m)) (live_hit (DidAck key m) h key (with_kept_ack (message_text m)) (λ e. refl) refl) (kept_adds_none (message_text m) at);
   settles = λ key own at. hit_adds_none (DidSettle key own) h at key (after_settling own) (live_hit (DidSettle key own) h key (after_settling own) (λ e. refl) refl) (settled_adds_none own at);
 }

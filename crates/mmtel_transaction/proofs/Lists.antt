@@ -18,8 +18,10 @@ use Rattle.mmtel_transaction.specs.declared.entries.Change.{Change}
 use Rattle.mmtel_transaction.specs.declared.entries.Change.TheVariants as change_kind
 use Rattle.mmtel_transaction.specs.Table.{change_effect, table_after_change}
 use Rattle.mmtel_transaction.specs.Deadlines.{foremost_in, state_retransmission_at}
-use Rattle.mmtel_transaction.specs.Changes.{reliable_response_of, after_timer, after_timer_by, after_any_reply, after_state_timer, after_reply, after_provisional, after_final, after_response, after_failure_ack, after_ack_2xx, with_kept_ack, after_settling, with_reliable_if, change_of_key}
-use Rattle.mmtel_transaction.specs.Operations.{TransactionOp, DidBegin, DidHear, DidAsk, DidReply, DidAck, DidFire, DidSettle, send_count, step_of, opens, opened_on_receipt, openings, entry_of, live, is_live, change, change_on_receipt}
+use Rattle.mmtel_transaction.specs.Changes.{reliable_response_of, after_timer, after_timer_by, after_any_reply, after_state_timer, after_reply, after_provisional}
+use Rattle.mmtel_transaction.specs.Changes.{after_final, after_response, after_failure_ack, after_ack_2xx, with_kept_ack, after_settling, with_reliable_if, change_of_key}
+use Rattle.mmtel_transaction.specs.Operations.{TransactionOp, DidBegin, DidHear, DidAsk, DidReply, DidAck, DidFire, DidSettle, send_count}
+use Rattle.mmtel_transaction.specs.Operations.{step_of, opens, opened_on_receipt, openings, entry_of, live, is_live, change, change_on_receipt}
 
 -- keys rise
 abbrev pub Rising : ℕ → List Entry → ℕ → Type 0
@@ -55,7 +57,8 @@ rising_opens s i k (DidSettle j own) = omega arith
 
 pub rising_opened : (h : List TransactionOp) → Rising 0 (openings h) (length (openings h))
 rising_opened [] = omega arith
-rising_opened (c ∷ h) = subst (Rising 0 (openings (c ∷ h))) (sym (length-append (openings h) (opens (step_of h) (send_count h) (length (openings h)) c))) (rising_append 0 (length (openings h)) _ (openings h) (opens (step_of h) (send_count h) (length (openings h)) c) (rising_opened h) (rising_opens (step_of h) (send_count h) (length (openings h)) c))
+rising_opened (c ∷ h) = subst (Rising 0 (openings (c ∷ h))) (sym (length-append (openings h) (opens (step_of h) (send_count h) (length (openings h)) c)))
+    (rising_append 0 (length (openings h)) _ (openings h) (opens (step_of h) (send_count h) (length (openings h)) c) (rising_opened h) (rising_opens (step_of h) (send_count h) (length (openings h)) c))
 
 -- keys that rise are less than the next one
 rising_top : (lo hi : ℕ) (es : List Entry) → Rising lo es hi → lo ≤ hi
@@ -88,7 +91,8 @@ keeps_then : (e x y : Entry) → Keeps e x → Keeps x y → Keeps e y
 keeps_then e x y a b = record { key = b.key ∙ a.key; server = b.server ∙ a.server; head = b.head ∙ a.head; peer = b.peer ∙ a.peer; over = λ o. b.over (a.over o) }
 
 keeps_planned : (s : ℕ) (e : Entry) → Keeps e (after_state_timer s e)
-keeps_planned s e = keeps_if (is_some (state_retransmission_at e)) e (record e { retransmissions = e.retransmissions + 1; step = s }) (record e { is_terminated = true }) (record { key = refl; server = refl; head = refl; peer = refl; over = λ o. o }) (record { key = refl; server = refl; head = refl; peer = refl; over = λ o. refl })
+keeps_planned s e = keeps_if (is_some (state_retransmission_at e)) e (record e { retransmissions = e.retransmissions + 1; step = s }) (record e { is_terminated = true })
+    (record { key = refl; server = refl; head = refl; peer = refl; over = λ o. o }) (record { key = refl; server = refl; head = refl; peer = refl; over = λ o. refl })
 
 keeps_fired_by : (o : Option (ℕ × TransactionTimer)) (s : ℕ) (e : Entry) → Keeps e (after_timer_by o s e)
 keeps_fired_by (Some first) s e = record { key = refl; server = refl; head = refl; peer = refl; over = λ o. o }
@@ -103,7 +107,8 @@ keeps_settled (Some own) e = record { key = refl; server = refl; head = refl; pe
 
 pub keeps_with : (answer : Option ReliableResponse) (e : Entry) → Keeps e (with_reliable_if answer e)
 keeps_with None e = record { key = refl; server = refl; head = refl; peer = refl; over = λ o. o }
-keeps_with (Some answer) e = keeps_if (not e.is_server || not (e.final_status == 0)) e e _ (record { key = refl; server = refl; head = refl; peer = refl; over = λ o. o }) (record { key = refl; server = refl; head = refl; peer = refl; over = λ o. o })
+keeps_with (Some answer) e = keeps_if (not e.is_server || not (e.final_status == 0)) e e _ (record { key = refl; server = refl; head = refl; peer = refl; over = λ o. o })
+    (record { key = refl; server = refl; head = refl; peer = refl; over = λ o. o })
 
 pub keeps_replied : (s i st : ℕ) (t g : List ℕ) (now : ℕ) (e : Entry) → Keeps e (after_reply s i st t g now e)
 keeps_replied s i st t g now e = keeps_if (not e.is_server || not (e.final_status == 0)) e e _ (record { key = refl; server = refl; head = refl; peer = refl; over = λ o. o })
@@ -115,7 +120,8 @@ keeps_offered s i m now e =
     keeps_then e x (after_any_reply s i m now e) (keeps_with (reliable_response_of s i m (message_text m) now) e) (keeps_replied s i (head_of m).status (message_text m) (head_of m).to_tag now x)
 
 keeps_rang : (s now : ℕ) (e : Entry) → Keeps e (after_provisional s now e)
-keeps_rang s now e = keeps_if (e.is_early || not (e.final_status == 0)) e _ _ (record { key = refl; server = refl; head = refl; peer = refl; over = λ o. o }) (record { key = refl; server = refl; head = refl; peer = refl; over = λ o. o })
+keeps_rang s now e = keeps_if (e.is_early || not (e.final_status == 0)) e _ _ (record { key = refl; server = refl; head = refl; peer = refl; over = λ o. o })
+    (record { key = refl; server = refl; head = refl; peer = refl; over = λ o. o })
 
 keeps_finished : (s st now : ℕ) (e : Entry) → Keeps e (after_final s st now e)
 keeps_finished s st now e = keeps_if (not (is_invite e.head)) e (record e { is_terminated = true }) _ (record { key = refl; server = refl; head = refl; peer = refl; over = λ o. refl })
@@ -131,7 +137,8 @@ pub keeps_acked_2xx : (s : ℕ) (m : Head) (e : Entry) → Keeps e (after_ack_2x
 keeps_acked_2xx s m e = keeps_if _ e _ _ (record { key = refl; server = refl; head = refl; peer = refl; over = λ o. o }) (record { key = refl; server = refl; head = refl; peer = refl; over = λ o. o })
 
 keeps_kept : (t : List ℕ) (e : Entry) → Keeps e (with_kept_ack t e)
-keeps_kept t e = keeps_if (not e.is_server && e.is_refused) e _ _ (record { key = refl; server = refl; head = refl; peer = refl; over = λ o. o }) (record { key = refl; server = refl; head = refl; peer = refl; over = λ o. o })
+keeps_kept t e = keeps_if (not e.is_server && e.is_refused) e _ _ (record { key = refl; server = refl; head = refl; peer = refl; over = λ o. o })
+    (record { key = refl; server = refl; head = refl; peer = refl; over = λ o. o })
 
 pub keeps_made : (c : Change) (e : Entry) → Keeps e (change_effect c e)
 keeps_made (change_kind.Fire step) e = keeps_fired step e
@@ -171,7 +178,8 @@ not_live e x k n = rw (k.over (over_is e.is_terminated n)) refl
     over_is true q = refl
     over_is false q = sym q
 
-drop_if : (b : Bool) (f : Entry → Entry) (e : Entry) (xs ys : List Entry) → is_live e ≡ b → Keeps e (f e) → filter is_live (map f xs) ≡ ys → filter is_live (map f (cond b (e ∷ xs) xs)) ≡ cond (is_live (f e)) (f e ∷ ys) ys
+drop_if : (b : Bool) (f : Entry → Entry) (e : Entry) (xs ys : List Entry) → is_live e ≡ b → Keeps e (f e) → filter is_live (map f xs) ≡ ys →
+    filter is_live (map f (cond b (e ∷ xs) xs)) ≡ cond (is_live (f e)) (f e ∷ ys) ys
 drop_if true f e xs ys q k p = rw p refl
 drop_if false f e xs ys q k p = rw (not_live e (f e) k q) p
 
@@ -191,7 +199,8 @@ not_later : (i : ℕ) → nat_lt i i ≡ false
 not_later i = grind (arith, nat_tests)
 
 -- what is opened is live, and as it was opened
-news_heard : (h : List TransactionOp) (c : TransactionOp) (s : ℕ) (p : Peer) (now : ℕ) (m : Message Start) (t : MessageClass) → filter is_live (map (entry_of (c ∷ h)) (opened_on_receipt s (length (openings h)) p m now t)) ≡ opened_on_receipt s (length (openings h)) p m now t
+news_heard : (h : List TransactionOp) (c : TransactionOp) (s : ℕ) (p : Peer) (now : ℕ) (m : Message Start) (t : MessageClass) →
+    filter is_live (map (entry_of (c ∷ h)) (opened_on_receipt s (length (openings h)) p m now t)) ≡ opened_on_receipt s (length (openings h)) p m now t
 news_heard h c s p now m part.Fresh = rw (not_later (length (openings h))) refl
 news_heard h c s p now m part.Full = refl
 news_heard h c s p now m (part.Repeat j) = refl
@@ -262,7 +271,8 @@ no_hit k lo f (e ∷ es) hi l r a =
     let n : (e.key == k) ≡ false = grind (arith, nat_tests, r.0) in
     rw (n, a.0, no_hit k (suc e.key) f es hi (omega (arith, r.0)) r.1 a.1) refl
 
-settled_if : (k : ℕ) (f : Entry → Entry) (e : Entry) (es fs gs : List Entry) (b : Bool) → is_live e ≡ true → (b ≡ true → fs ≡ es) → (b ≡ false → fs ≡ gs) → cond (is_live (cond b (f e) e)) (cond b (f e) e ∷ fs) fs ≡ cond b (cond (is_live (f e)) (f e ∷ es) es) (e ∷ gs)
+settled_if : (k : ℕ) (f : Entry → Entry) (e : Entry) (es fs gs : List Entry) (b : Bool) → is_live e ≡ true → (b ≡ true → fs ≡ es) → (b ≡ false → fs ≡ gs) →
+    cond (is_live (cond b (f e) e)) (cond b (f e) e ∷ fs) fs ≡ cond b (cond (is_live (f e)) (f e ∷ es) es) (e ∷ gs)
 settled_if k f e es fs gs true l p q = rw (p refl) refl
 settled_if k f e es fs gs false l p q = rw (l, q refl) refl
 
@@ -282,11 +292,13 @@ none_of k lo f (e ∷ es) hi l r =
     let n : (e.key == k) ≡ false = grind (arith, nat_tests, r.0) in
     rw (n, none_of k (suc e.key) f es hi (omega (arith, l, r.0)) r.1) refl
 
-pub settled_twice : (k lo : ℕ) (f g : Entry → Entry) (es : List Entry) (hi : ℕ) → ((e : Entry) → (f e).key ≡ e.key) → Rising lo es hi → table_after_change k g (map (change_of_key k f) es) ≡ table_after_change k (λ e. g (f e)) es
+pub settled_twice : (k lo : ℕ) (f g : Entry → Entry) (es : List Entry) (hi : ℕ) → ((e : Entry) → (f e).key ≡ e.key) → Rising lo es hi →
+    table_after_change k g (map (change_of_key k f) es) ≡ table_after_change k (λ e. g (f e)) es
 settled_twice k lo f g [] hi keeps r = refl
 settled_twice k lo f g (e ∷ es) hi keeps r = by_test (e.key == k) refl (settled_twice k (suc e.key) f g es hi keeps r.1)
   where
-    by_test : (b : Bool) → (e.key == k) ≡ b → table_after_change k g (map (change_of_key k f) es) ≡ table_after_change k (λ x. g (f x)) es → table_after_change k g (cond b (f e) e ∷ map (change_of_key k f) es) ≡ cond b (cond (is_live (g (f e))) (g (f e) ∷ es) es) (e ∷ table_after_change k (λ x. g (f x)) es)
+    by_test : (b : Bool) → (e.key == k) ≡ b → table_after_change k g (map (change_of_key k f) es) ≡ table_after_change k (λ x. g (f x)) es →
+        table_after_change k g (cond b (f e) e ∷ map (change_of_key k f) es) ≡ cond b (cond (is_live (g (f e))) (g (f e) ∷ es) es) (e ∷ table_after_change k (λ x. g (f x)) es)
     by_test true t ih =
         let own : e.key ≡ k = same_key e k t in
         let kept : ((f e).key == k) ≡ true = ap (λ n. n == k) (keeps e) ∙ t in

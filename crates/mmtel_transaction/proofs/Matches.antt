@@ -61,13 +61,16 @@ module _ (h : List TransactionOp) (p : Peer) (m : Message Start) where
       either true = refl
       either false = refl
 
-  fresh_as : (full c : Bool) → is_cancel (head_of m) ≡ c → said (cond full part.Full part.Fresh) ≡ cond c (cond full None (Some (heard.Cancel next (option_map key_of invited) m))) (cond full None (Some (heard.Fresh next m)))
+  fresh_as : (full c : Bool) → is_cancel (head_of m) ≡ c →
+      said (cond full part.Full part.Fresh) ≡ cond c (cond full None (Some (heard.Cancel next (option_map key_of invited) m))) (cond full None (Some (heard.Fresh next m)))
   fresh_as true true q = refl
   fresh_as true false q = refl
   fresh_as false true q = ap (λ b. Some (opening_result b (length (openings h)) (option_map key_of invited) m)) q
   fresh_as false false q = ap (λ b. Some (opening_result b (length (openings h)) (option_map key_of invited) m)) q
 
-  request_as : (c : Bool) (o : Option Entry) → is_cancel (head_of m) ≡ c → said (request_class (is_full (live h)) o) ≡ cond c (request_result (live h) p (option_map key_of o) (heard.Cancel next (option_map key_of (cond c invited o)) m)) (request_result (live h) p (option_map key_of (cond c invited o)) (heard.Fresh next m))
+  request_as : (c : Bool) (o : Option Entry) → is_cancel (head_of m) ≡ c →
+      said (request_class (is_full (live h)) o) ≡ cond c (request_result (live h) p (option_map key_of o) (heard.Cancel next (option_map key_of (cond c invited o)) m))
+      (request_result (live h) p (option_map key_of (cond c invited o)) (heard.Fresh next m))
   request_as true None q = fresh_as (is_full (live h)) true q
   request_as false None q = fresh_as (is_full (live h)) false q
   request_as true (Some e) q = refl
@@ -84,7 +87,8 @@ module _ (h : List TransactionOp) (p : Peer) (m : Message Start) where
   said_as true false c o x q f = request_as c o q
 
 pub hears_by_matching : HearsByMatching
-hears_by_matching h p m = said_as h p m (head_of m).is_request (is_ack (head_of m)) (is_cancel (head_of m)) (find (is_server_of (head_of m)) (live h)) (find (is_client_of (head_of m)) (live h)) refl (live_found h (is_client_of (head_of m)))
+hears_by_matching h p m = said_as h p m (head_of m).is_request (is_ack (head_of m)) (is_cancel (head_of m)) (find (is_server_of (head_of m)) (live h)) (find (is_client_of (head_of m)) (live h)) refl
+    (live_found h (is_client_of (head_of m)))
 
 pub owners_are_live : OwnersAreLive
 owners_are_live h m =

@@ -24,13 +24,15 @@ use Rattle.mmtel_transaction.specs.Indexes.{client_match, deadline_cmp, indexed_
 use Rattle.mmtel_transaction.specs.Hashes.{hash_of}
 
 said_total : IsTotalOrder text_cmp
-said_total = then_total (on_total (λ (x : MatchKey). x.id) nat_list_cmp_total) (then_total (on_total (λ (x : MatchKey). x.from) nat_list_cmp_total) (then_total (on_total (λ (x : MatchKey). x.method) nat_list_cmp_total) (then_total (on_total (λ (x : MatchKey). x.number) nat_cmp_total) (on_total (λ (x : MatchKey). x.key) nat_cmp_total))))
+said_total = then_total (on_total (λ (x : MatchKey). x.id) nat_list_cmp_total) (then_total (on_total (λ (x : MatchKey). x.from) nat_list_cmp_total)
+    (then_total (on_total (λ (x : MatchKey). x.method) nat_list_cmp_total) (then_total (on_total (λ (x : MatchKey). x.number) nat_cmp_total) (on_total (λ (x : MatchKey). x.key) nat_cmp_total))))
 
 pub matches_total : IsTotalOrder match_cmp
 matches_total = then_total (on_total (λ (x : MatchKey). x.hash) nat_cmp_total) said_total
 
 pub deadlines_total : IsTotalOrder deadline_cmp
-deadlines_total = then_total (on_total (λ (x : DeadlineKey). x.at) nat_cmp_total) (then_total (on_total (λ (x : DeadlineKey). x.step) nat_cmp_total) (then_total (on_total (λ (x : DeadlineKey). x.order) nat_cmp_total) (on_total (λ (x : DeadlineKey). x.key) nat_cmp_total)))
+deadlines_total = then_total (on_total (λ (x : DeadlineKey). x.at) nat_cmp_total)
+    (then_total (on_total (λ (x : DeadlineKey). x.step) nat_cmp_total) (then_total (on_total (λ (x : DeadlineKey). x.order) nat_cmp_total) (on_total (λ (x : DeadlineKey). x.key) nat_cmp_total)))
 
 -- lists that are equal in order are equal
 same_first : (x y : ℕ) (xs ys : List ℕ) (r : Ordering) → r ≡ nat_cmp x y → ordering_then r (slice_cmp nat_cmp xs ys) ≡ Equal → (slice_cmp nat_cmp xs ys ≡ Equal → xs ≡ ys) → x ∷ xs ≡ y ∷ ys
@@ -45,7 +47,8 @@ same_list (x ∷ xs) [] q = absurd cc
 same_list (x ∷ xs) (y ∷ ys) q = same_first x y xs ys (nat_cmp x y) refl q (same_list xs ys)
 
 -- of a search key and a later match key: what does not come before the search key, and comes before the match key, has the same parts
-decided : (t a b c d k z : Ordering) → ordering_then t (ordering_then a (ordering_then b (ordering_then c (ordering_then d k)))) ≡ Less → is_lt (ordering_then t (ordering_then a (ordering_then b (ordering_then c (ordering_then d z))))) ≡ false → (t ≡ Equal) × (a ≡ Equal) × (b ≡ Equal) × (c ≡ Equal) × (d ≡ Equal) × (k ≡ Less)
+decided : (t a b c d k z : Ordering) → ordering_then t (ordering_then a (ordering_then b (ordering_then c (ordering_then d k)))) ≡ Less →
+    is_lt (ordering_then t (ordering_then a (ordering_then b (ordering_then c (ordering_then d z))))) ≡ false → (t ≡ Equal) × (a ≡ Equal) × (b ≡ Equal) × (c ≡ Equal) × (d ≡ Equal) × (k ≡ Less)
 decided Less a b c d k z l n = absurd cc
 decided Greater a b c d k z l n = absurd cc
 decided Equal Less b c d k z l n = absurd cc
@@ -109,7 +112,9 @@ module _ (b s m : List ℕ) (n : ℕ) where
       }
 
   pub hits : (x : MatchKey) → x.hash ≡ hash_of b → x.id ≡ b → x.from ≡ s → x.method ≡ m → x.number ≡ n → is_same_match bound x ≡ true
-  hits x u p q r t = and_from _ _ (and_from _ _ (and_from _ _ (and_from _ _ (eq-eqb x.hash (hash_of b) u) ((bytes_eq-Decides x.id b).1 p)) ((bytes_eq-Decides x.from s).1 q)) ((bytes_eq-Decides x.method m).1 r)) (eq-eqb x.number n t)
+  hits x u p q r t =
+      and_from _ _ (and_from _ _ (and_from _ _ (and_from _ _ (eq-eqb x.hash (hash_of b) u) ((bytes_eq-Decides x.id b).1 p)) ((bytes_eq-Decides x.from s).1 q)) ((bytes_eq-Decides x.method m).1 r))
+      (eq-eqb x.number n t)
 
   not_less : (k : ℕ) → is_lt (nat_cmp k 0) ≡ false
   not_less k = let w : nat_lt k 0 ≡ false = grind (arith, nat_tests) in rw w (either (nat_eq k 0))
@@ -118,7 +123,8 @@ module _ (b s m : List ℕ) (n : ℕ) where
       either true = refl
       either false = refl
 
-  same_parts : (o a c d e k : Ordering) → o ≡ Equal → a ≡ Equal → c ≡ Equal → d ≡ Equal → e ≡ Equal → is_lt k ≡ false → is_lt (ordering_then o (ordering_then a (ordering_then c (ordering_then d (ordering_then e k))))) ≡ false
+  same_parts : (o a c d e k : Ordering) → o ≡ Equal → a ≡ Equal → c ≡ Equal → d ≡ Equal → e ≡ Equal → is_lt k ≡ false →
+      is_lt (ordering_then o (ordering_then a (ordering_then c (ordering_then d (ordering_then e k))))) ≡ false
   same_parts o a c d e k u p q r t l = rw (u, p, q, r, t) l
 
   pub not_before : (x : MatchKey) → is_same_match bound x ≡ true → comes_before match_cmp bound x ≡ false
@@ -133,18 +139,25 @@ module _ (b s m : List ℕ) (n : ℕ) where
       (not_less x.key)
 
   -- for one with the same parts the bound says the same
-  as_bound : (x y : MatchKey) → Equivalent x → match_cmp y x ≡ Less → ordering_then (nat_cmp y.hash (hash_of b)) (ordering_then (slice_cmp nat_cmp y.id b) (ordering_then (slice_cmp nat_cmp y.from s) (ordering_then (slice_cmp nat_cmp y.method m) (ordering_then (nat_cmp y.number n) (nat_cmp y.key x.key))))) ≡ Less
+  as_bound : (x y : MatchKey) → Equivalent x → match_cmp y x ≡ Less → ordering_then (nat_cmp y.hash (hash_of b))
+      (ordering_then (slice_cmp nat_cmp y.id b) (ordering_then (slice_cmp nat_cmp y.from s) (ordering_then (slice_cmp nat_cmp y.method m) (ordering_then (nat_cmp y.number n) (nat_cmp y.key x.key))))) ≡ Less
   as_bound x y a l =
-      ap (λ z. ordering_then (nat_cmp y.hash z) (ordering_then (slice_cmp nat_cmp y.id b) (ordering_then (slice_cmp nat_cmp y.from s) (ordering_then (slice_cmp nat_cmp y.method m) (ordering_then (nat_cmp y.number n) (nat_cmp y.key x.key)))))) (sym a.hash)
-      ∙ (ap (λ z. ordering_then (nat_cmp y.hash x.hash) (ordering_then (slice_cmp nat_cmp y.id z) (ordering_then (slice_cmp nat_cmp y.from s) (ordering_then (slice_cmp nat_cmp y.method m) (ordering_then (nat_cmp y.number n) (nat_cmp y.key x.key)))))) (sym a.id)
-      ∙ (ap (λ z. ordering_then (nat_cmp y.hash x.hash) (ordering_then (slice_cmp nat_cmp y.id x.id) (ordering_then (slice_cmp nat_cmp y.from z) (ordering_then (slice_cmp nat_cmp y.method m) (ordering_then (nat_cmp y.number n) (nat_cmp y.key x.key)))))) (sym a.from)
-      ∙ (ap (λ z. ordering_then (nat_cmp y.hash x.hash) (ordering_then (slice_cmp nat_cmp y.id x.id) (ordering_then (slice_cmp nat_cmp y.from x.from) (ordering_then (slice_cmp nat_cmp y.method z) (ordering_then (nat_cmp y.number n) (nat_cmp y.key x.key)))))) (sym a.method)
-      ∙ (ap (λ z. ordering_then (nat_cmp y.hash x.hash) (ordering_then (slice_cmp nat_cmp y.id x.id) (ordering_then (slice_cmp nat_cmp y.from x.from) (ordering_then (slice_cmp nat_cmp y.method x.method) (ordering_then (nat_cmp y.number z) (nat_cmp y.key x.key)))))) (sym a.number) ∙ l))))
+      ap (λ z. ordering_then (nat_cmp y.hash z)
+      (ordering_then (slice_cmp nat_cmp y.id b) (ordering_then (slice_cmp nat_cmp y.from s) (ordering_then (slice_cmp nat_cmp y.method m) (ordering_then (nat_cmp y.number n) (nat_cmp y.key x.key)))))) (sym a.hash)
+      ∙ (ap (λ z. ordering_then (nat_cmp y.hash x.hash)
+      (ordering_then (slice_cmp nat_cmp y.id z) (ordering_then (slice_cmp nat_cmp y.from s) (ordering_then (slice_cmp nat_cmp y.method m) (ordering_then (nat_cmp y.number n) (nat_cmp y.key x.key)))))) (sym a.id)
+      ∙ (ap (λ z. ordering_then (nat_cmp y.hash x.hash)
+      (ordering_then (slice_cmp nat_cmp y.id x.id) (ordering_then (slice_cmp nat_cmp y.from z) (ordering_then (slice_cmp nat_cmp y.method m) (ordering_then (nat_cmp y.number n) (nat_cmp y.key x.key)))))) (sym a.from)
+      ∙ (ap (λ z. ordering_then (nat_cmp y.hash x.hash) (ordering_then (slice_cmp nat_cmp y.id x.id)
+      (ordering_then (slice_cmp nat_cmp y.from x.from) (ordering_then (slice_cmp nat_cmp y.method z) (ordering_then (nat_cmp y.number n) (nat_cmp y.key x.key)))))) (sym a.method)
+      ∙ (ap (λ z. ordering_then (nat_cmp y.hash x.hash) (ordering_then (slice_cmp nat_cmp y.id x.id)
+      (ordering_then (slice_cmp nat_cmp y.from x.from) (ordering_then (slice_cmp nat_cmp y.method x.method) (ordering_then (nat_cmp y.number z) (nat_cmp y.key x.key)))))) (sym a.number) ∙ l))))
 
   pub between : (y x : MatchKey) → comes_before match_cmp bound y ≡ false → is_same_match bound x ≡ true → match_cmp y x ≡ Less → (is_same_match bound y ≡ true) × (y.key < x.key)
   between y x t h l =
       let a = alike x h in
-      let l : ordering_then (nat_cmp y.hash (hash_of b)) (ordering_then (slice_cmp nat_cmp y.id b) (ordering_then (slice_cmp nat_cmp y.from s) (ordering_then (slice_cmp nat_cmp y.method m) (ordering_then (nat_cmp y.number n) (nat_cmp y.key x.key))))) ≡ Less = as_bound x y a l in
+      let l : ordering_then (nat_cmp y.hash (hash_of b)) (ordering_then (slice_cmp nat_cmp y.id b)
+      (ordering_then (slice_cmp nat_cmp y.from s) (ordering_then (slice_cmp nat_cmp y.method m) (ordering_then (nat_cmp y.number n) (nat_cmp y.key x.key))))) ≡ Less = as_bound x y a l in
       let d = decided (nat_cmp y.hash (hash_of b)) (slice_cmp nat_cmp y.id b) (slice_cmp nat_cmp y.from s) (slice_cmp nat_cmp y.method m) (nat_cmp y.number n) (nat_cmp y.key x.key) (nat_cmp y.key 0) l t in
       (hits y (ranked y.hash (hash_of b) Equal (sym d.0)) (same_list y.id b d.1) (same_list y.from s d.2) (same_list y.method m d.3) (ranked y.number n Equal (sym d.4)), ranked y.key x.key Less (sym d.5))
 
@@ -174,8 +187,11 @@ module _ (b s m : List ℕ) where
   server_number : (e : Entry) (x : MatchKey) → indexed_server e ≡ Some x → x.key ≡ e.key
   server_number e x q = ap (λ (y : MatchKey). y.key) (sym (server_if e x e.is_server refl q).1)
 
-  pub server_looked : (es : List Entry) (xs : List MatchKey) (p : ℕ) → IsIndex indexed_server match_cmp es xs → Rises (λ (e : Entry). e.key) es → IsPartitionPoint (λ x. comes_before match_cmp (match_key b s m 0 0) x ≡ true) (λ x. comes_before match_cmp (match_key b s m 0 0) x ≡ false) xs p → lookup_result (is_same_match (match_key b s m 0 0)) (λ (x : MatchKey). x.key) (slice_get xs p) ≡ option_map (λ (e : Entry). e.key) (find (is_server_with b s m) es)
-  server_looked = looked indexed_server match_cmp matches_total (is_server_with b s m) (comes_before match_cmp (match_key b s m 0 0)) (is_same_match (match_key b s m 0 0)) (λ (e : Entry). e.key) (λ (x : MatchKey). x.key) server_item server_is_of server_number (not_before b s m 0) (between b s m 0)
+  pub server_looked : (es : List Entry) (xs : List MatchKey) (p : ℕ) → IsIndex indexed_server match_cmp es xs → Rises (λ (e : Entry). e.key) es →
+      IsPartitionPoint (λ x. comes_before match_cmp (match_key b s m 0 0) x ≡ true) (λ x. comes_before match_cmp (match_key b s m 0 0) x ≡ false) xs p →
+      lookup_result (is_same_match (match_key b s m 0 0)) (λ (x : MatchKey). x.key) (slice_get xs p) ≡ option_map (λ (e : Entry). e.key) (find (is_server_with b s m) es)
+  server_looked = looked indexed_server match_cmp matches_total (is_server_with b s m) (comes_before match_cmp (match_key b s m 0 0)) (is_same_match (match_key b s m 0 0)) (λ (e : Entry). e.key)
+      (λ (x : MatchKey). x.key) server_item server_is_of server_number (not_before b s m 0) (between b s m 0)
 
 -- of clients
 module _ (b m : List ℕ) where
@@ -202,5 +218,8 @@ module _ (b m : List ℕ) where
   client_number : (e : Entry) (x : MatchKey) → indexed_client e ≡ Some x → x.key ≡ e.key
   client_number e x q = ap (λ (y : MatchKey). y.key) (sym (client_if e x e.is_server refl q).1)
 
-  pub client_looked : (es : List Entry) (xs : List MatchKey) (p : ℕ) → IsIndex indexed_client match_cmp es xs → Rises (λ (e : Entry). e.key) es → IsPartitionPoint (λ x. comes_before match_cmp (match_key b [] m 0 0) x ≡ true) (λ x. comes_before match_cmp (match_key b [] m 0 0) x ≡ false) xs p → lookup_result (is_same_match (match_key b [] m 0 0)) (λ (x : MatchKey). x.key) (slice_get xs p) ≡ option_map (λ (e : Entry). e.key) (find (is_client_with b m) es)
-  client_looked = looked indexed_client match_cmp matches_total (is_client_with b m) (comes_before match_cmp (match_key b [] m 0 0)) (is_same_match (match_key b [] m 0 0)) (λ (e : Entry). e.key) (λ (x : MatchKey). x.key) client_item client_is_of client_number (not_before b [] m 0) (between b [] m 0)
+  pub client_looked : (es : List Entry) (xs : List MatchKey) (p : ℕ) → IsIndex indexed_client match_cmp es xs → Rises (λ (e : Entry). e.key) es →
+      IsPartitionPoint (λ x. comes_before match_cmp (match_key b [] m 0 0) x ≡ true) (λ x. comes_before match_cmp (match_key b [] m 0 0) x ≡ false) xs p →
+      lookup_result (is_same_match (match_key b [] m 0 0)) (λ (x : MatchKey). x.key) (slice_get xs p) ≡ option_map (λ (e : Entry). e.key) (find (is_client_with b m) es)
+  client_looked = looked indexed_client match_cmp matches_total (is_client_with b m) (comes_before match_cmp (match_key b [] m 0 0)) (is_same_match (match_key b [] m 0 0)) (λ (e : Entry). e.key)
+      (λ (x : MatchKey). x.key) client_item client_is_of client_number (not_before b [] m 0) (between b [] m 0)

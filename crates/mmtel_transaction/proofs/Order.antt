@@ -24,16 +24,21 @@ NotBefore a e n = is_before a e n.at n.entry ≡ false
 sooner_none : (o : Option DueEntryView) (n : DueEntryView) → sooner None o ≡ Some n → o ≡ Some n
 sooner_none o n q = q
 
-sooner_some : (x : DueEntryView) (o : Option DueEntryView) (n : DueEntryView) → sooner (Some x) o ≡ Some n → NotBefore x.at x.entry n × ((y : DueEntryView) → o ≡ Some y → NotBefore y.at y.entry n) × ((x ≡ n) ⊎ (o ≡ Some n))
+sooner_some : (x : DueEntryView) (o : Option DueEntryView) (n : DueEntryView) → sooner (Some x) o ≡ Some n →
+    NotBefore x.at x.entry n × ((y : DueEntryView) → o ≡ Some y → NotBefore y.at y.entry n) × ((x ≡ n) ⊎ (o ≡ Some n))
 sooner_some x None n q =
     let w = same_Some x n q in
     (subst (λ z. NotBefore x.at x.entry z) w (itself x.at (step_due x.entry) (order_due x.entry)), λ y p. absurd (none-some y p), inl w)
 sooner_some x (Some y) n q = either (is_before y.at y.entry x.at x.entry) refl q
   where
-    either : (t : Bool) → is_before y.at y.entry x.at x.entry ≡ t → Some (cond t y x) ≡ Some n → NotBefore x.at x.entry n × ((z : DueEntryView) → ◌≡◌ {A = Option DueEntryView} (Some y) (Some z) → NotBefore z.at z.entry n) × ((x ≡ n) ⊎ (◌≡◌ {A = Option DueEntryView} (Some y) (Some n)))
+    either : (t : Bool) → is_before y.at y.entry x.at x.entry ≡ t → Some (cond t y x) ≡ Some n →
+        NotBefore x.at x.entry n × ((z : DueEntryView) → ◌≡◌ {A = Option DueEntryView} (Some y) (Some z) → NotBefore z.at z.entry n) × ((x ≡ n) ⊎ (◌≡◌ {A = Option DueEntryView} (Some y) (Some n)))
     either true e p =
-        let w = same_Some y n p in
-        (subst (λ z. NotBefore x.at x.entry z) w (other_way y.at (step_due y.entry) (order_due y.entry) x.at (step_due x.entry) (order_due x.entry) e), λ z f. subst (λ z. NotBefore z.at z.entry n) (same_Some y z f) (subst (λ z. NotBefore y.at y.entry z) w (itself y.at (step_due y.entry) (order_due y.entry))), inr p)
+        let w = same_Some y n p in (
+          subst (λ z. NotBefore x.at x.entry z) w (other_way y.at (step_due y.entry) (order_due y.entry) x.at (step_due x.entry) (order_due x.entry) e),
+          λ z f. subst (λ z. NotBefore z.at z.entry n) (same_Some y z f) (subst (λ z. NotBefore y.at y.entry z) w (itself y.at (step_due y.entry) (order_due y.entry))),
+          inr p,
+        )
     either false e p =
         let w = same_Some x n p in
         (subst (λ z. NotBefore x.at x.entry z) w (itself x.at (step_due x.entry) (order_due x.entry)), λ z f. subst (λ z. NotBefore z.at z.entry n) (same_Some y z f) (subst (λ z. NotBefore y.at y.entry z) w e), inl w)
@@ -68,7 +73,8 @@ sooner_there : (x : DueEntryView) (o : Option DueEntryView) → sooner (Some x) 
 sooner_there x None p = none-some x (sym p)
 sooner_there x (Some y) p = none-some (cond (is_before y.at y.entry x.at x.entry) y x) (sym p)
 
-none_more : (now : ℕ) (x : Entry) (es : List Entry) (a : ℕ) (e : Entry) (o : Option DueEntryView) → due_one now x (deadline x) ≡ o → sooner o (next_due now es) ≡ None → (next_due now es ≡ None → Has e es → ⊥) → deadline e ≡ Some a → a ≤ now → Has e (x ∷ es) → ⊥
+none_more : (now : ℕ) (x : Entry) (es : List Entry) (a : ℕ) (e : Entry) (o : Option DueEntryView) → due_one now x (deadline x) ≡ o → sooner o (next_due now es) ≡ None →
+    (next_due now es ≡ None → Has e es → ⊥) → deadline e ≡ Some a → a ≤ now → Has e (x ∷ es) → ⊥
 none_more now x es a e None f p ih d l (inl g) = none-some (record { at = a; entry = e }) (sym f ∙ (ap (λ y. due_one now y (deadline y)) (sym g) ∙ due_some now a e d l))
 none_more now x es a e None f p ih d l (inr g) = ih (sooner_rest (next_due now es) p) g
 none_more now x es a e (Some y) f p ih d l g = sooner_there y (next_due now es) p
@@ -141,7 +147,8 @@ first_due h now n q =
     }
 
 -- no deadline of a transaction comes before what fires
-first_of_alarms : (h : List TransactionOp) (now : ℕ) (n : DueEntryView) → next_due now (live h) ≡ Some n → (e : Entry) (p : Option ℕ) (b : TransactionTimer) → Has e (live h) → timer_in e p ≡ Some b → before b.at b.step b.order n.at (step_due n.entry) (order_due n.entry) ≡ false
+first_of_alarms : (h : List TransactionOp) (now : ℕ) (n : DueEntryView) → next_due now (live h) ≡ Some n → (e : Entry) (p : Option ℕ) (b : TransactionTimer) → Has e (live h) → timer_in e p ≡ Some b →
+    before b.at b.step b.order n.at (step_due n.entry) (order_due n.entry) ≡ false
 first_of_alarms h now n q e p b g r = either (deadline e) refl
   where
     either : (o : Option ℕ) → deadline e ≡ o → before b.at b.step b.order n.at (step_due n.entry) (order_due n.entry) ≡ false
@@ -171,7 +178,8 @@ module _ (h : List TransactionOp) (now : ℕ) (n : DueEntryView) (q : next_due n
     key : entry.key ≡ e.key
     other : e.key ≡ n.entry.key → p ≡ message_due n.entry → ⊥
 
-  after_one : (e x : Entry) (p : Option ℕ) (b : TransactionTimer) (t : Bool) → (x.key == n.entry.key) ≡ t → e ≡ cond t (after_timer (step_of h) x) x → e.key ≡ x.key → Has x (live h) → is_live e ≡ true → timer_in e p ≡ Some b → StoodSo e p b ⊎ (n.at < b.at)
+  after_one : (e x : Entry) (p : Option ℕ) (b : TransactionTimer) (t : Bool) → (x.key == n.entry.key) ≡ t → e ≡ cond t (after_timer (step_of h) x) x → e.key ≡ x.key → Has x (live h) →
+      is_live e ≡ true → timer_in e p ≡ Some b → StoodSo e p b ⊎ (n.at < b.at)
   after_one e x p b true f s k g l r =
       let w = is_next now (live h) n q in
       let same : x ≡ n.entry = same_entry h x n.entry g w.stands (eqb-true x.key n.entry.key f) in
@@ -206,7 +214,8 @@ module _ (h : List TransactionOp) (now : ℕ) (n : DueEntryView) (q : next_due n
     | inr l ↦ later_fires x e p b (let m = not_less n.at (step_due n.entry) (order_due n.entry) x.at (step_due x.entry) (order_due x.entry) (next_after x bd).order in omega (arith, m, l))
   ]
 
-each_if : (m now : ℕ) (h : List TransactionOp) (x : DueEntryView) (o : Option DueEntryView) → next_due now (live h) ≡ o → Bound x (live h) → ((g : List TransactionOp) → Bound x (live g) → AllByRecursion (FiresAfter x) (firings m now g)) → AllByRecursion (FiresAfter x) (firing_and_rest o (firings m now (after_firing h o)))
+each_if : (m now : ℕ) (h : List TransactionOp) (x : DueEntryView) (o : Option DueEntryView) → next_due now (live h) ≡ o → Bound x (live h) →
+    ((g : List TransactionOp) → Bound x (live g) → AllByRecursion (FiresAfter x) (firings m now g)) → AllByRecursion (FiresAfter x) (firing_and_rest o (firings m now (after_firing h o)))
 each_if m now h x None q bd ih = tt
 each_if m now h x (Some n) q bd ih = (next_after h now n q x bd, ih (DidFire n.entry.key ∷ h) (bound_kept h now n q x bd))
 
@@ -215,7 +224,8 @@ unfolding firings
 each_after zero now h x bd = tt
 each_after (suc m) now h x bd = each_if m now h x (next_due now (live h)) refl bd (λ g. each_after m now g x)
 
-order_if : (m now : ℕ) (h : List TransactionOp) (o : Option DueEntryView) → next_due now (live h) ≡ o → ((g : List TransactionOp) → AreInOrder (firings m now g)) → AreInOrder (firing_and_rest o (firings m now (after_firing h o)))
+order_if : (m now : ℕ) (h : List TransactionOp) (o : Option DueEntryView) → next_due now (live h) ≡ o → ((g : List TransactionOp) → AreInOrder (firings m now g)) →
+    AreInOrder (firing_and_rest o (firings m now (after_firing h o)))
 order_if m now h None q ih = tt
 order_if m now h (Some n) q ih = (each_after m now (DidFire n.entry.key ∷ h) n (bound_new h now n q), ih (DidFire n.entry.key ∷ h))
 

@@ -1,5 +1,6 @@
 -- The position of the transaction of a key among transactions whose keys rise.
-use Rattle.std.proofs.Common.{◌≡◌, ℕ, zero, suc, ◌+◌, ◌-◌, ◌≤◌, ◌<◌, Bool, true, false, cond, not, List, [], ◌∷◌, length, get_or, set, remove, ◌++◌, refl, sym, ap, ◌∙◌, subst, arith, inl, inr, Some, None, Option, Result, Ok, Err, IfOk, IfErr}
+use Rattle.std.proofs.Common.{◌≡◌, ℕ, zero, suc, ◌+◌, ◌-◌, ◌≤◌, ◌<◌, Bool, true, false, cond, not, List, [], ◌∷◌, length, get_or, set}
+use Rattle.std.proofs.Common.{remove, ◌++◌, refl, sym, ap, ◌∙◌, subst, arith, inl, inr, Some, None, Option, Result, Ok, Err, IfOk, IfErr}
 use Rattle.std.specs.Prelude.{◌==◌, nat_lt, slice_get, option_map, Box}
 use Rattle.std.specs.List.{AllByRecursion, find, position, position_or_len}
 use Rattle.std.specs.List.Sorted.{IsSearchInRange, IsBinarySearchResult}
@@ -70,7 +71,8 @@ module _ {E : Type 0} (key : E → ℕ) where
       let p : position_or_len (is k) es ≡ i = pos_at k es i e rises inside (ap key (sym at) ∙ same) in
       ap (λ n. cond (nat_lt n (length es)) (Some n) None) p ∙ ap (λ b. cond b (Some i) None) (at_len i (length es) inside)
 
-  pub searched : (k : ℕ) (es : List E) (r : Result ℕ ℕ) → Rises key es → IsSearchInRange r (length es) → IsBinarySearchResult (λ (e : E). nat_cmp (key e) k) es r → record { found : IfOk r (λ i. position (is k) es ≡ Some i); absent : IfErr r (λ i. position (is k) es ≡ None) }
+  pub searched : (k : ℕ) (es : List E) (r : Result ℕ ℕ) → Rises key es → IsSearchInRange r (length es) → IsBinarySearchResult (λ (e : E). nat_cmp (key e) k) es r →
+      record { found : IfOk r (λ i. position (is k) es ≡ Some i); absent : IfErr r (λ i. position (is k) es ≡ None) }
   searched k es (Ok i) rises range equal = record { found = found_at k es i rises range equal; absent = tt }
   searched k es (Err i) rises range parted =
       let parts = parted (λ i j d le lt. index_rises (key (get_or es i d)) (key (get_or es j d)) k (never_falls es i j d rises le lt)) in
@@ -97,9 +99,12 @@ pos_unboxed k [] = refl
 pos_unboxed k (b ∷ bs) = ap (λ n. cond (not (b.value.key == k)) (1 + n) 0) (pos_unboxed k bs)
 
 position_unboxed : {A : Type 0} (k : ℕ) (bs : List (Box Entry A)) → position (is_of k) (unboxed_items bs) ≡ position (λ (b : Box Entry A). b.value.key == k) bs
-position_unboxed k bs = ap (λ n. cond (nat_lt n (length (unboxed_items bs))) (Some n) None) (pos_unboxed k bs) ∙ ap (λ m. cond (nat_lt (position_or_len (λ b. b.value.key == k) bs) m) (Some (position_or_len (λ b. b.value.key == k) bs)) None) (length_unboxed bs)
+position_unboxed k bs = ap (λ n. cond (nat_lt n (length (unboxed_items bs))) (Some n) None) (pos_unboxed k bs)
+    ∙ ap (λ m. cond (nat_lt (position_or_len (λ b. b.value.key == k) bs) m) (Some (position_or_len (λ b. b.value.key == k) bs)) None) (length_unboxed bs)
 
-pub searched_boxes : {A : Type 0} (k : ℕ) (bs : List (Box Entry A)) (r : Result ℕ ℕ) → Rises (λ (e : Entry). e.key) (unboxed_items bs) → IsSearchInRange r (length bs) → IsBinarySearchResult (λ (b : Box Entry A). nat_cmp b.value.key k) bs r → record { found : IfOk r (λ i. position (is_of k) (unboxed_items bs) ≡ Some i); absent : IfErr r (λ i. position (is_of k) (unboxed_items bs) ≡ None) }
+pub searched_boxes : {A : Type 0} (k : ℕ) (bs : List (Box Entry A)) (r : Result ℕ ℕ) → Rises (λ (e : Entry). e.key) (unboxed_items bs) →
+    IsSearchInRange r (length bs) → IsBinarySearchResult (λ (b : Box Entry A). nat_cmp b.value.key k) bs r →
+    record { found : IfOk r (λ i. position (is_of k) (unboxed_items bs) ≡ Some i); absent : IfErr r (λ i. position (is_of k) (unboxed_items bs) ≡ None) }
 searched_boxes k bs (Ok i) rises range said =
     let w = searched (λ (b : Box Entry _). b.value.key) k bs (Ok i) (boxes_rise bs rises) range said in
     record { found = position_unboxed k bs ∙ w.found; absent = tt }
@@ -108,7 +113,8 @@ searched_boxes k bs (Err i) rises range said =
     record { found = tt; absent = position_unboxed k bs ∙ w.absent }
 
 -- a box of the key, at its position
-pub placed_box : {A : Type 0} (k : ℕ) (bs : List (Box Entry A)) (i : ℕ) (b : Box Entry A) → Rises (λ (e : Entry). e.key) (unboxed_items bs) → i < length bs → b ≡ get_or bs i b → b.value.key ≡ k → position (is_of k) (unboxed_items bs) ≡ Some i
+pub placed_box : {A : Type 0} (k : ℕ) (bs : List (Box Entry A)) (i : ℕ) (b : Box Entry A) → Rises (λ (e : Entry). e.key) (unboxed_items bs) → i < length bs → b ≡ get_or bs i b → b.value.key ≡ k →
+    position (is_of k) (unboxed_items bs) ≡ Some i
 placed_box k bs i b rises inside at same = position_unboxed k bs ∙ placed (λ (c : Box Entry _). c.value.key) k bs i b (boxes_rise bs rises) inside at same
 
 pub set_unboxed : {X A : Type 0} (bs : List (Box X A)) (i : ℕ) (b : Box X A) → unboxed_items (set bs i b) ≡ set (unboxed_items bs) i b.value

@@ -25,11 +25,13 @@ use Rattle.mmtel_transaction.specs.declared.message_class.MessageClass.TheVarian
 use Rattle.mmtel_transaction.specs.declared.words.Due.TheVariants as due
 use Rattle.mmtel_transaction.specs.Heads.{code_of, head_of, head_with, is_invite, is_provisional, is_refusal, reliable_number}
 use Rattle.mmtel_transaction.specs.Deadlines.{timer_of, scheduled_moment, deadline, is_ending, foremost_in, is_untimed, last_deadline, message_due, state_retransmission_at, retransmission_at, step_due, order_due}
-use Rattle.mmtel_transaction.specs.Changes.{after_failure_ack, after_ack_2xx, reliable_response_of, after_response, after_timer, after_timer_by, after_final, is_ack_of, with_kept_ack, after_any_reply, after_provisional, after_reply, after_retransmission, after_settling, with_reliable_if, without_rseq}
+use Rattle.mmtel_transaction.specs.Changes.{after_failure_ack, after_ack_2xx, reliable_response_of, after_response, after_timer, after_timer_by, after_final, is_ack_of}
+use Rattle.mmtel_transaction.specs.Changes.{with_kept_ack, after_any_reply, after_provisional, after_reply, after_retransmission, after_settling, with_reliable_if, without_rseq}
 use Rattle.mmtel_transaction.specs.Operations.{TransactionOp, DidBegin, DidHear, DidAsk, DidReply, DidAck, DidFire, DidSettle, change, opened_on_receipt, is_live, live, send_count, openings, opens, step_of}
 use Rattle.mmtel_transaction.specs.Results.{DueEntryView, by_key, class_of, due_result, next_due, retransmitted_text, text_by, tkey}
 use Rattle.mmtel_transaction.specs.Runs.{IsNextOf, IsRun}
-use Rattle.mmtel_transaction.specs.Pracks.{FinalsEndReliable, IsRetransmitted, IsUnanswered, ReliableAreRetransmitted, ReliableGoOn, SentReliableWait, SettledAreGone, WaitsAt, ends_reliable, fires_reliable, is_place, retransmitted_if, settles}
+use Rattle.mmtel_transaction.specs.Pracks.{FinalsEndReliable, IsRetransmitted, IsUnanswered, ReliableAreRetransmitted, ReliableGoOn, SentReliableWait}
+use Rattle.mmtel_transaction.specs.Pracks.{SettledAreGone, WaitsAt, ends_reliable, fires_reliable, is_place, retransmitted_if, settles}
 use Rattle.mmtel_transaction.proofs.Acks.{final_done, of_2xx, sound}
 use Rattle.mmtel_transaction.proofs.Among.{not_acked}
 use Rattle.mmtel_transaction.proofs.Before.{not_less}
@@ -184,7 +186,8 @@ module _ (h : List TransactionOp) (run : IsRun h) (e : Entry) (g : Has e (live h
   open_heard p m now part.Full q = o
   open_heard p m now (part.Repeat j) q = o
   open_heard p m now (part.RepeatedFinal j) q = o
-  open_heard p m now (part.Answer j) q = open_answer (head_of m) j (after_response (step_of h) (head_of m).status now e) q (keeps_answered (step_of h) (head_of m).status now e).server (answered_same (step_of h) (head_of m).status now e)
+  open_heard p m now (part.Answer j) q = open_answer (head_of m) j (after_response (step_of h) (head_of m).status now e) q (keeps_answered (step_of h) (head_of m).status now e).server
+      (answered_same (step_of h) (head_of m).status now e)
   open_heard p m now (part.Acked j) q = open_acked (head_of m) j (step_of h) now q
   open_heard p m now part.AckOf2xx q = open_if (is_ack_of (head_of m) e) _ e (λ a. open_busy e o _ (of_2xx e (sound h run e g) (head_of m) a) refl refl refl) (λ a. o)
   open_heard p m now part.Stray q = o
@@ -256,7 +259,8 @@ is_early m own q = ap (λ n. nat_lt n 200) (status_is m) ∙ number_code m own q
 -- ---- from operation to operation
 
 -- the transaction that an operation leaves so
-module _ (c : TransactionOp) (h : List TransactionOp) (key : ℕ) (e x : Entry) (u : IsUnanswered key h e) (same : change (step_of h) (send_count h) c e ≡ x) (alive : is_live x ≡ true) (server : x.is_server ≡ e.is_server) (undone : x.final_status ≡ e.final_status) where
+module _ (c : TransactionOp) (h : List TransactionOp) (key : ℕ) (e x : Entry) (u : IsUnanswered key h e) (same : change (step_of h) (send_count h) c e ≡ x) (alive : is_live x ≡ true)
+    (server : x.is_server ≡ e.is_server) (undone : x.final_status ≡ e.final_status) where
   left_live : by_key key (live (c ∷ h)) ≡ Some x
   left_live =
       let g = of_key h key e u.live in
@@ -299,7 +303,10 @@ sent_reliable_wait h key e m t own u n =
     let x : Entry = record e { last = Some (message_text m); reliable = e.reliable ++ a ∷ [] } in
     let same : change (step_of h) (send_count h) (DidReply key m t) e ≡ x =
     reply_is h key e u key m t (its_key h key e u) (is_early m own n)
-    ∙ ap (λ (o : Option ℕ). (let r : Entry = record e { last = Some (message_text m); reliable = more_answers (option_map (λ y. record { rseq = y; text = message_text m; start = t; retransmissions = 0; step = step_of h; order = send_count h }) o) e.reliable } in r)) n in
+    ∙ ap (λ (o : Option ℕ). (let r : Entry = record e {
+      last = Some (message_text m);
+      reliable = more_answers (option_map (λ y. record { rseq = y; text = message_text m; start = t; retransmissions = 0; step = step_of h; order = send_count h }) o) e.reliable;
+    } in r)) n in
     left_so (DidReply key m t) h key e x u same (alive h key e u) refl refl (length e.reliable) a (get_last e.reliable a)
 
 module _ (h : List TransactionOp) (key : ℕ) (e : Entry) (place : ℕ) (a : ReliableResponse) (w : WaitsAt key h e place a) where
@@ -413,7 +420,8 @@ module _ (h : List TransactionOp) (key : ℕ) (e : Entry) (place : ℕ) (a : Rel
           let x : Entry = record e { reliable = retransmitted_at (step_of h) f.0 e.reliable } in
           let same : change (step_of h) (send_count h) (DidFire j) e ≡ x = ap (λ b. cond b (after_timer (step_of h) e) e) (turned j ∙ k) ∙ fired_answer e (step_of h) f v.1 in
           let message : is_place place (message_due e) ≡ (f.0 == place) = ap (λ (o : Option (ℕ × TransactionTimer)). is_place place (option_map (λ (y : ℕ × TransactionTimer). y.0) o)) v.1 in
-          let there : slice_get x.reliable place ≡ Some (retransmitted_if (is_place place (message_due e)) (step_of h) a) = again_get (step_of h) f.0 e.reliable place a w.there ∙ ap (λ t. Some (retransmitted_if t (step_of h) a)) (sym message) in
+          let there : slice_get x.reliable place ≡ Some (retransmitted_if (is_place place (message_due e)) (step_of h) a) =
+          again_get (step_of h) f.0 e.reliable place a w.there ∙ ap (λ t. Some (retransmitted_if t (step_of h) a)) (sym message) in
           left_so (DidFire j) h key e x u same (alive h key e u) refl refl place (retransmitted_if (is_place place (message_due e)) (step_of h) a) there
 
   goes_on : (c : TransactionOp) → IsRun (c ∷ h) → ends_reliable key a.rseq c ≡ false → GoesOn c (retransmitted_if (fires_reliable key place e c) (step_of h) a)
@@ -440,14 +448,16 @@ module _ (h : List TransactionOp) (key : ℕ) (e : Entry) (place : ℕ) (a : Rel
           ∙ ap (λ (o : Option ℕ). option_map (λ x. (let r : TransactionTimer = record { at = x; step = a.step; order = a.order } in r)) o) q)
 
       late : (d : ℕ) → deadline e ≡ Some d → at ≤ now → ⊥
-      late d p l = none_due now (live h) d e n p (let m = not_less at a.step a.order d (step_due e) (order_due e) (none_before e d p (Some place) (record { at = at; step = a.step; order = a.order }) in_it) in omega (arith, l, m)) stands
+      late d p l = none_due now (live h) d e n p
+          (let m = not_less at a.step a.order d (step_due e) (order_due e) (none_before e d p (Some place) (record { at = at; step = a.step; order = a.order }) in_it) in omega (arith, l, m)) stands
 
       either : (o : Option ℕ) → deadline e ≡ o → now < at
       either None p = absurd (none-some (record { at = at; step = a.step; order = a.order }) (sym (no_alarm e p (Some place)) ∙ in_it))
       either (Some d) p = elim (cases_lt now at) [ inl l ↦ l | inr l ↦ absurd (late d p l) ]
 
   -- the response that is first is this one
-  foremost_it : (n : DueEntryView) (now : ℕ) → next_due now (live h) ≡ Some n → n.entry.key ≡ key → message_due n.entry ≡ Some place → (n.entry ≡ e) × ((f : ℕ × TransactionTimer) × (foremost_in e ≡ Some f) × (f.0 ≡ place) × (f.1.at ≡ n.at))
+  foremost_it : (n : DueEntryView) (now : ℕ) → next_due now (live h) ≡ Some n → n.entry.key ≡ key → message_due n.entry ≡ Some place →
+      (n.entry ≡ e) × ((f : ℕ × TransactionTimer) × (foremost_in e ≡ Some f) × (f.0 ≡ place) × (f.1.at ≡ n.at))
   foremost_it n now q k m = (same, either (foremost_in e) refl (ap message_due (sym same) ∙ m))
     where
       v : (n.entry ≡ e) × (deadline e ≡ Some n.at)
@@ -459,9 +469,15 @@ module _ (h : List TransactionOp) (key : ℕ) (e : Entry) (place : ℕ) (a : Rel
       same : n.entry ≡ e
       same = v.0
 
-      either : (o : Option (ℕ × TransactionTimer)) → foremost_in e ≡ o → option_map (λ (f : ℕ × TransactionTimer). f.0) o ≡ Some place → (f : ℕ × TransactionTimer) × (foremost_in e ≡ Some f) × (f.0 ≡ place) × (f.1.at ≡ n.at)
+      either : (o : Option (ℕ × TransactionTimer)) → foremost_in e ≡ o → option_map (λ (f : ℕ × TransactionTimer). f.0) o ≡ Some place →
+          (f : ℕ × TransactionTimer) × (foremost_in e ≡ Some f) × (f.0 ≡ place) × (f.1.at ≡ n.at)
       either None p r = absurd (none-some place r)
-      either (Some f) p r = (f, p, same_Some f.0 place r, same_Some f.1.at n.at (ap (λ (o : Option (ℕ × TransactionTimer)). option_or (option_or (option_map (λ (y : ℕ × TransactionTimer). y.1.at) o) (state_retransmission_at e)) (last_deadline e)) (sym p) ∙ v.1))
+      either (Some f) p r = (
+        f,
+        p,
+        same_Some f.0 place r,
+        same_Some f.1.at n.at (ap (λ (o : Option (ℕ × TransactionTimer)). option_or (option_or (option_map (λ (y : ℕ × TransactionTimer). y.1.at) o) (state_retransmission_at e)) (last_deadline e)) (sym p) ∙ v.1),
+      )
 
   moment : (now : ℕ) (n : DueEntryView) → next_due now (live h) ≡ Some n → n.entry.key ≡ key → message_due n.entry ≡ Some place → scheduled_moment a.start (moments_of schedule.Invite) a.retransmissions ≡ Some n.at
   moment now n q k m =
@@ -475,7 +491,8 @@ module _ (h : List TransactionOp) (key : ℕ) (e : Entry) (place : ℕ) (a : Rel
       let v = (foremost_it n now q k m).1 in
       let f : ℕ × TransactionTimer = v.0 in
       ap (λ (y : Entry). due_result (Some (record { at = n.at; entry = y }))) (foremost_it n now q k m).0
-      ∙ (ap (λ (o : Option (ℕ × TransactionTimer)). cond (is_some (option_or (option_map (λ (y : ℕ × TransactionTimer). y.1.at) o) (state_retransmission_at e))) (due.Again e.peer n.at (text_by (o >>= λ (y : ℕ × TransactionTimer). slice_get e.reliable y.0) e))
+      ∙ (ap (λ (o : Option (ℕ × TransactionTimer)). cond (is_some (option_or (option_map (λ (y : ℕ × TransactionTimer). y.1.at) o) (state_retransmission_at e)))
+      (due.Again e.peer n.at (text_by (o >>= λ (y : ℕ × TransactionTimer). slice_get e.reliable y.0) e))
       (cond (is_ending e.state) (due.Over (tkey e.key) n.at) (due.Silent (tkey e.key) e.head.branch e.head.method n.at))) v.1
       ∙ (ap (λ i. due.Again e.peer n.at (text_by (slice_get e.reliable i) e)) v.2
       ∙ ap (λ (o : Option ReliableResponse). due.Again e.peer n.at (text_by o e)) w.there))

@@ -23,9 +23,11 @@ use Rattle.mmtel_transaction.specs.declared.words.Heard.TheVariants as heard
 use Rattle.mmtel_transaction.specs.declared.words.Due.TheVariants as due
 use Rattle.mmtel_transaction.specs.Heads.{head_of, invite, is_success, is_ack, is_invite, is_provisional, is_refusal}
 use Rattle.mmtel_transaction.specs.Deadlines.{foremost_in, is_ending, last_deadline_by, retransmission_at, state_retransmission_at}
-use Rattle.mmtel_transaction.specs.Changes.{after_any_reply, after_failure_ack, after_reply, after_response, after_settling, after_timer, after_timer_by, is_ack_of, new_server_entry, reliable_response_of, with_kept_ack, with_reliable_if}
+use Rattle.mmtel_transaction.specs.Changes.{after_any_reply, after_failure_ack, after_reply, after_response, after_settling, after_timer}
+use Rattle.mmtel_transaction.specs.Changes.{after_timer_by, is_ack_of, new_server_entry, reliable_response_of, with_kept_ack, with_reliable_if}
 use Rattle.mmtel_transaction.specs.Operations.{TransactionOp, DidBegin, DidHear, DidAsk, DidReply, DidAck, DidFire, DidSettle, change, is_live, live, send_count, openings, step_of}
-use Rattle.mmtel_transaction.specs.Results.{DueEntryView, ack_class, after_firing, bind_entry, by_key, class_of, class_result, due_result, hear_result, is_client_of, is_full, is_server_of, key_method, last_sent, request_class, response_class, retransmission_for, tkey}
+use Rattle.mmtel_transaction.specs.Results.{DueEntryView, ack_class, after_firing, bind_entry, by_key, class_of, class_result, due_result, hear_result}
+use Rattle.mmtel_transaction.specs.Results.{is_client_of, is_full, is_server_of, key_method, last_sent, request_class, response_class, retransmission_for, tkey}
 use Rattle.mmtel_transaction.specs.Runs.{IsNextOf, IsRun}
 use Rattle.mmtel_transaction.specs.Theorems.{EndWasReported, IsRetransmissionOf, OpensNothing, ReportsEnd}
 use Rattle.mmtel_transaction.proofs.Lists.{Keeps, keeps_change}
@@ -62,7 +64,8 @@ serving_with None e s = s
 serving_with (Some answer) e s = serving_if (not e.is_server || not (e.final_status == 0)) e _ s (record { live = s.live; state = s.state })
 
 serving_replied : (e : Entry) → IsServing e → (step i st : ℕ) (t g : List ℕ) (now : ℕ) → IsServing (after_reply step i st t g now e)
-serving_replied e s step i st t g now = serving_if (not e.is_server || not (e.final_status == 0)) e _ s (serving_if (is_provisional st) _ _ (record { live = s.live; state = s.state }) (record { live = s.live; state = final_state (is_invite e.head) }))
+serving_replied e s step i st t g now = serving_if (not e.is_server || not (e.final_status == 0)) e _ s
+    (serving_if (is_provisional st) _ _ (record { live = s.live; state = s.state }) (record { live = s.live; state = final_state (is_invite e.head) }))
 
 serving_offered : (e : Entry) → IsServing e → (step i : ℕ) (m : Message Start) (now : ℕ) → IsServing (after_any_reply step i m now e)
 serving_offered e s step i m now =
@@ -74,9 +77,11 @@ serving_settled None e s = record { live = s.live; state = s.state }
 serving_settled (Some own) e s = record { live = s.live; state = s.state }
 
 -- for as long as a message of it is retransmitted
-serving_fired : (o : Option (ℕ × TransactionTimer)) (step a : ℕ) (e : Entry) → IsServing e → option_or (option_map (λ (f : ℕ × TransactionTimer). f.1.at) o) (state_retransmission_at e) ≡ Some a → IsServing (after_timer_by o step e)
+serving_fired : (o : Option (ℕ × TransactionTimer)) (step a : ℕ) (e : Entry) → IsServing e → option_or (option_map (λ (f : ℕ × TransactionTimer). f.1.at) o) (state_retransmission_at e) ≡ Some a →
+    IsServing (after_timer_by o step e)
 serving_fired (Some f) step a e s q = record { live = s.live; state = s.state }
-serving_fired None step a e s q = subst (λ o. IsServing (cond (is_some o) (record e { retransmissions = e.retransmissions + 1; step = step }) (record e { is_terminated = true }))) (sym q) (record { live = s.live; state = s.state })
+serving_fired None step a e s q = subst (λ o. IsServing (cond (is_some o) (record e { retransmissions = e.retransmissions + 1; step = step }) (record e { is_terminated = true }))) (sym q)
+    (record { live = s.live; state = s.state })
 
 -- a response is classified as one to a client transaction
 ack_no_answer : (j : ℕ) (o : Option Entry) → part.Answer j ≡ ack_class o → ⊥
@@ -193,12 +198,17 @@ tracked k p m [] h e r f t = inr (e, f, t)
 tracked k p m (c ∷ g) h e r f t = elim (tracked k p m g h e (run_before c (g ++ h) r) f t) [
   | inl w ↦ inl (inr w)
   | inr w ↦ elim (serving_more (g ++ h) w.0 w.1 w.2.server w.2.serving c r) [
-    | inl s ↦ inr (change (step_of (g ++ h)) (send_count (g ++ h)) c w.0, has_more c (g ++ h) w.0 w.1 s.live, tracks_more k p m w.0 (change (step_of (g ++ h)) (send_count (g ++ h)) c w.0) (keeps_change (step_of (g ++ h)) (send_count (g ++ h)) c w.0) s w.2)
+    | inl s ↦ inr (
+      change (step_of (g ++ h)) (send_count (g ++ h)) c w.0,
+      has_more c (g ++ h) w.0 w.1 s.live,
+      tracks_more k p m w.0 (change (step_of (g ++ h)) (send_count (g ++ h)) c w.0) (keeps_change (step_of (g ++ h)) (send_count (g ++ h)) c w.0) s w.2,
+    )
     | inr s ↦ inl (inl (subst (λ j. ReportsEnd j c (g ++ h)) w.2.key s))
   ]
 ]
 
-tracked_since : (h g : List TransactionOp) (p : Peer) (m : Message Start) (t : ℕ) → IsRun (g ++ DidHear p m t part.Fresh ∷ h) → EndWasReported (length (openings h)) g (DidHear p m t part.Fresh ∷ h) ⊎ ((x : Entry) × Has x (live (g ++ DidHear p m t part.Fresh ∷ h)) × Tracks (length (openings h)) p (head_of m) x)
+tracked_since : (h g : List TransactionOp) (p : Peer) (m : Message Start) (t : ℕ) → IsRun (g ++ DidHear p m t part.Fresh ∷ h) →
+    EndWasReported (length (openings h)) g (DidHear p m t part.Fresh ∷ h) ⊎ ((x : Entry) × Has x (live (g ++ DidHear p m t part.Fresh ∷ h)) × Tracks (length (openings h)) p (head_of m) x)
 tracked_since h g p m t r =
     let e : Entry = new_server_entry (step_of h) (length (openings h)) p (head_of m) t in
     tracked (length (openings h)) p (head_of m) g (DidHear p m t part.Fresh ∷ h) e r
@@ -230,7 +240,8 @@ module _ (h : List TransactionOp) (r : IsRun h) (k : ℕ) (p q : Peer) (m n : Me
       w.1 ∙ ap Some (apart h r x e v.0 g (record { first = a.server; second = b.server; branch = a.branch ∙ sym b.branch; sent_by = a.sent_by ∙ sym b.sent_by; method = a.method ∙ sym b.method }))
 
   taken_again : class_of (head_of n) (live h) ≡ part.Repeat k
-  taken_again = repeat_if (head_of n).is_request (is_ack (head_of n)) (is_full (live h)) (find (is_server_of (head_of n)) (live h)) (response_class (head_of n) (find (is_client_of (head_of n)) (live h))) e i.request i.other finds_it ∙ ap part.Repeat t.key
+  taken_again = repeat_if (head_of n).is_request (is_ack (head_of n)) (is_full (live h)) (find (is_server_of (head_of n)) (live h))
+      (response_class (head_of n) (find (is_client_of (head_of n)) (live h))) e i.request i.other finds_it ∙ ap part.Repeat t.key
 
   opens_nothing : OpensNothing k h q n
   opens_nothing = record {
@@ -248,13 +259,15 @@ module _ (h : List TransactionOp) (r : IsRun h) (k : ℕ) (p q : Peer) (m n : Me
       let none : retransmission_for q e ≡ None = none_if (q.0 == e.peer.0) (not e.is_acked) (not (is_invite e.head && is_success e.final_status)) (last_sent e) other in
       ap (class_result (length (openings h)) (live h) q n) taken_again ∙ ap (λ x. Some (heard.Repeat x)) (ap (bind_entry (retransmission_for q)) at ∙ none)
 
-pub retransmissions : (h g : List TransactionOp) (p q : Peer) (m n : Message Start) (t : ℕ) → IsRun (g ++ DidHear p m t part.Fresh ∷ h) → IsRetransmissionOf (head_of m) (head_of n) → EndWasReported (length (openings h)) g (DidHear p m t part.Fresh ∷ h) ⊎ OpensNothing (length (openings h)) (g ++ DidHear p m t part.Fresh ∷ h) q n
+pub retransmissions : (h g : List TransactionOp) (p q : Peer) (m n : Message Start) (t : ℕ) → IsRun (g ++ DidHear p m t part.Fresh ∷ h) → IsRetransmissionOf (head_of m) (head_of n) →
+    EndWasReported (length (openings h)) g (DidHear p m t part.Fresh ∷ h) ⊎ OpensNothing (length (openings h)) (g ++ DidHear p m t part.Fresh ∷ h) q n
 retransmissions h g p q m n t r i = elim (tracked_since h g p m t r) [
   | inl w ↦ inl w
   | inr w ↦ inr (opens_nothing (g ++ DidHear p m t part.Fresh ∷ h) r (length (openings h)) p q m n i w.0 w.1 w.2)
 ]
 
-pub strangers : (h g : List TransactionOp) (p q : Peer) (m n : Message Start) (t : ℕ) → IsRun (g ++ DidHear p m t part.Fresh ∷ h) → IsRetransmissionOf (head_of m) (head_of n) → (q.0 ≡ p.0 → ⊥) → EndWasReported (length (openings h)) g (DidHear p m t part.Fresh ∷ h) ⊎ (hear_result (g ++ DidHear p m t part.Fresh ∷ h) q n ≡ Some (heard.Repeat None))
+pub strangers : (h g : List TransactionOp) (p q : Peer) (m n : Message Start) (t : ℕ) → IsRun (g ++ DidHear p m t part.Fresh ∷ h) → IsRetransmissionOf (head_of m) (head_of n) → (q.0 ≡ p.0 → ⊥) →
+    EndWasReported (length (openings h)) g (DidHear p m t part.Fresh ∷ h) ⊎ (hear_result (g ++ DidHear p m t part.Fresh ∷ h) q n ≡ Some (heard.Repeat None))
 strangers h g p q m n t r i d = elim (tracked_since h g p m t r) [
   | inl w ↦ inl w
   | inr w ↦ inr (stranger (g ++ DidHear p m t part.Fresh ∷ h) r (length (openings h)) p q m n i w.0 w.1 w.2 d)

@@ -21,7 +21,8 @@ use Rattle.mmtel_transaction.specs.Firings.{FiringsEnd, FiringsUseUp, MoreChange
 use Rattle.mmtel_transaction.specs.Table.{table_after_change}
 use Rattle.mmtel_timers.specs.Shelves.{Has}
 use Rattle.mmtel_transaction.proofs.Before.{counted_at, not_less, not_same}
-use Rattle.mmtel_transaction.proofs.Foremost.{after_state_timer_by, before_end, busy_fired, fired_answer, foremost_there, is_idle_with, its_moment, retransmitted, retransmitted_at, retransmitted_later, state_timer_later, still_busy, timer_there, which}
+use Rattle.mmtel_transaction.proofs.Foremost.{after_state_timer_by, before_end, busy_fired, fired_answer, foremost_there, is_idle_with, its_moment}
+use Rattle.mmtel_transaction.proofs.Foremost.{retransmitted, retransmitted_at, retransmitted_later, state_timer_later, still_busy, timer_there, which}
 use Rattle.mmtel_transaction.proofs.Having.{at_key, of_key, same_entry}
 use Rattle.mmtel_transaction.proofs.Order.{first_of_all, is_next, none_due}
 use Rattle.mmtel_transaction.proofs.Representation.{live_hit}
@@ -48,7 +49,8 @@ upcoming_is_least h now at step q =
       is_live = (n.entry, at_key h n.entry v.stands, v.moment ∙ ap (λ (x : ℕ). Some x) w.2, w.3);
       least = λ k a e f d.
           let b = first_of_all h now n w.1 a e (of_key h k e f).0 d in
-          least_if at step n a e w.2 w.3 (not_less a (step_due e) (order_due e) n.at (step_due n.entry) (order_due n.entry) b) (λ s. (not_same a (step_due e) (order_due e) n.at (step_due n.entry) (order_due n.entry) b (sym s)).0);
+          least_if at step n a e w.2 w.3 (not_less a (step_due e) (order_due e) n.at (step_due n.entry) (order_due n.entry) b)
+          (λ s. (not_same a (step_due e) (order_due e) n.at (step_due n.entry) (order_due n.entry) b (sym s)).0);
     }
 
 no_next : (o : Option DueEntryView) → upcoming_of o ≡ None → o ≡ None
@@ -114,7 +116,9 @@ plan_less s a e q l = either (state_retransmission_at e) refl
         let same : b ≡ a = same_Some b a (ap (λ x. option_or x (last_deadline e)) (sym f) ∙ q) in
         let same_last : last_deadline (after_state_timer s e) ≡ Some w.0 = ap (λ x. last_deadline (after_state_timer_by x s e)) f ∙ w.1 in
         let less = less_if a w.0 (option_or (state_retransmission_at (after_state_timer s e)) (last_deadline (after_state_timer s e))) (omega (arith, same, w.2)) (λ c r. state_timer_later s a c e q l r) in
-        subst (λ x. suc (remaining_by (option_or (state_retransmission_at (after_state_timer s e)) (last_deadline (after_state_timer s e))) x) ≤ state_remaining e) (sym same_last) (subst (λ x. suc (remaining_by (option_or (state_retransmission_at (after_state_timer s e)) (last_deadline (after_state_timer s e))) (Some w.0)) ≤ remaining_by x (last_deadline e)) (sym q) (subst (λ x. suc (remaining_by (option_or (state_retransmission_at (after_state_timer s e)) (last_deadline (after_state_timer s e))) (Some w.0)) ≤ remaining_by (Some a) x) (sym w.1) less))
+        subst (λ x. suc (remaining_by (option_or (state_retransmission_at (after_state_timer s e)) (last_deadline (after_state_timer s e))) x) ≤ state_remaining e) (sym same_last)
+        (subst (λ x. suc (remaining_by (option_or (state_retransmission_at (after_state_timer s e)) (last_deadline (after_state_timer s e))) (Some w.0)) ≤ remaining_by x (last_deadline e)) (sym q)
+        (subst (λ x. suc (remaining_by (option_or (state_retransmission_at (after_state_timer s e)) (last_deadline (after_state_timer s e))) (Some w.0)) ≤ remaining_by (Some a) x) (sym w.1) less))
 
 -- so has a response that is retransmitted
 moment_some : (o : Option TransactionTimer) (b : ℕ) → option_map (λ (a : TransactionTimer). a.at) o ≡ Some b → (c : TransactionTimer) × (o ≡ Some c) × (c.at ≡ b)
@@ -155,7 +159,8 @@ answers_less s (suc place) (x ∷ xs) a q = let l = answers_less s place xs a q 
 answers_some : (place : ℕ) (xs : List ReliableResponse) (a : TransactionTimer) → timer_there xs place ≡ Some a → 1 ≤ answers_left xs
 answers_some place [] a q = absurd (none-some a q)
 answers_some zero (x ∷ xs) a q =
-    let l : 1 ≤ reliable_remaining x = subst (λ (o : Option TransactionTimer). 1 ≤ remaining_by (option_map (λ (c : TransactionTimer). c.at) o) (Some (x.start + 31500))) (sym q) (some_left a.at (Some (x.start + 31500))) in
+    let l : 1 ≤ reliable_remaining x =
+    subst (λ (o : Option TransactionTimer). 1 ≤ remaining_by (option_map (λ (c : TransactionTimer). c.at) o) (Some (x.start + 31500))) (sym q) (some_left a.at (Some (x.start + 31500))) in
     omega (arith, l)
 answers_some (suc place) (x ∷ xs) a q = let l = answers_some place xs a q in omega (arith, l)
 
@@ -171,7 +176,8 @@ fired_less : (s a : ℕ) (e : Entry) → deadline e ≡ Some a → is_live (afte
 fired_less s a e q l = elim (which e a q) [
   | inl w ↦
       let t = is_idle_with e w.0 w.1 in
-      let same : time_remaining (after_timer s e) ≡ answers_left (retransmitted_at s w.0.0 e.reliable) = ap time_remaining (fired_answer e s w.0 w.1) ∙ idle_left (record e { reliable = retransmitted_at s w.0.0 e.reliable }) t in
+      let same : time_remaining (after_timer s e) ≡ answers_left (retransmitted_at s w.0.0 e.reliable) =
+      ap time_remaining (fired_answer e s w.0 w.1) ∙ idle_left (record e { reliable = retransmitted_at s w.0.0 e.reliable }) t in
       let before = idle_left e t in
       let less = answers_less s w.0.0 e.reliable w.0.1 (foremost_there e w.0 w.1) in
       omega (arith, same, before, less)
@@ -204,12 +210,14 @@ pub is_total : (W : Entry → ℕ) (es : List Entry) → total W es ≡ sum_by W
 is_total W es = is_sum_by (total W) W refl (λ x xs. refl) es
 
 module _ (W : Entry → ℕ) where
-  settle_if : (l t : Bool) (x y : Entry) (es fs : List Entry) → (t ≡ true → l ≡ true → suc (W x) ≤ W y) → (t ≡ true → 1 ≤ W y) → (t ≡ false → suc (total W fs) ≤ total W es) → suc (total W (cond t (cond l (x ∷ es) es) (y ∷ fs))) ≤ total W (y ∷ es)
+  settle_if : (l t : Bool) (x y : Entry) (es fs : List Entry) → (t ≡ true → l ≡ true → suc (W x) ≤ W y) → (t ≡ true → 1 ≤ W y) → (t ≡ false → suc (total W fs) ≤ total W es) →
+      suc (total W (cond t (cond l (x ∷ es) es) (y ∷ fs))) ≤ total W (y ∷ es)
   settle_if true true x y es fs f g k = omega (arith, f refl refl)
   settle_if false true x y es fs f g k = omega (arith, g refl)
   settle_if l false x y es fs f g k = omega (arith, k refl)
 
-  settle_less : (key : ℕ) (f : Entry → Entry) (es : List Entry) (e : Entry) → ((x : Entry) → Has x es → x.key ≡ key → x ≡ e) → Has e es → e.key ≡ key → (is_live (f e) ≡ true → suc (W (f e)) ≤ W e) → 1 ≤ W e → suc (total W (table_after_change key f es)) ≤ total W es
+  settle_less : (key : ℕ) (f : Entry → Entry) (es : List Entry) (e : Entry) → ((x : Entry) → Has x es → x.key ≡ key → x ≡ e) → Has e es → e.key ≡ key → (is_live (f e) ≡ true → suc (W (f e)) ≤ W e) →
+      1 ≤ W e → suc (total W (table_after_change key f es)) ≤ total W es
   settle_less key f [] e one g k less some = absurd g
   settle_less key f (y ∷ es) e one g k less some = settle_if (is_live (f y)) (y.key == key) (f y) y es (table_after_change key f es)
       (λ t. let same : y ≡ e = one y (inl refl) (eqb-true y.key key t) in subst (λ x. is_live (f x) ≡ true → suc (W (f x)) ≤ W x) (sym same) less)
@@ -221,7 +229,8 @@ module _ (W : Entry → ℕ) where
       later t (inr h) = h
 
   -- once the next deadline fires
-  pub fires_less : (h : List TransactionOp) (now : ℕ) (n : DueEntryView) → next_due now (live h) ≡ Some n → (is_live (after_timer (step_of h) n.entry) ≡ true → suc (W (after_timer (step_of h) n.entry)) ≤ W n.entry) → 1 ≤ W n.entry → suc (sum_by W (live (DidFire n.entry.key ∷ h))) ≤ sum_by W (live h)
+  pub fires_less : (h : List TransactionOp) (now : ℕ) (n : DueEntryView) → next_due now (live h) ≡ Some n →
+      (is_live (after_timer (step_of h) n.entry) ≡ true → suc (W (after_timer (step_of h) n.entry)) ≤ W n.entry) → 1 ≤ W n.entry → suc (sum_by W (live (DidFire n.entry.key ∷ h))) ≤ sum_by W (live h)
   fires_less h now n q less some =
       let w = is_next now (live h) n q in
       let s = settle_less n.entry.key (after_timer (step_of h)) (live h) n.entry (λ x g k. same_entry h x n.entry g w.stands k) w.stands refl less some in
@@ -238,7 +247,8 @@ unfolding after_firings
 stays_none zero now h q = refl
 stays_none (suc fuel) now h q = ap (λ o. after_firings fuel now (after_firing h o)) q ∙ stays_none fuel now h q
 
-end_if : (now fuel : ℕ) (h : List TransactionOp) (o : Option DueEntryView) → next_due now (live h) ≡ o → total_remaining (live h) ≤ suc fuel → ((g : List TransactionOp) → total_remaining (live g) ≤ fuel → next_due now (live (after_firings fuel now g)) ≡ None) → next_due now (live (after_firings fuel now (after_firing h o))) ≡ None
+end_if : (now fuel : ℕ) (h : List TransactionOp) (o : Option DueEntryView) → next_due now (live h) ≡ o → total_remaining (live h) ≤ suc fuel →
+    ((g : List TransactionOp) → total_remaining (live g) ≤ fuel → next_due now (live (after_firings fuel now g)) ≡ None) → next_due now (live (after_firings fuel now (after_firing h o))) ≡ None
 end_if now fuel h None q l ih = ap (λ g. next_due now (live g)) (stays_none fuel now h q) ∙ q
 end_if now fuel h (Some n) q l ih = ih (DidFire n.entry.key ∷ h) (omega (arith, l, firings_use_up h now n q))
 
@@ -254,4 +264,5 @@ firings_end h now (suc fuel) l = end_if now fuel h (next_due now (live h)) refl 
 pub more_changes_nothing : MoreChangesNothing
 unfolding after_firings
 more_changes_nothing h now zero more q = ap (λ n. after_firings n now h) (let a : 0 + more ≡ more = omega arith in a) ∙ stays_none more now h q
-more_changes_nothing h now (suc fuel) more q = ap (λ n. after_firings n now h) (let a : suc fuel + more ≡ suc (fuel + more) = omega arith in a) ∙ more_changes_nothing (after_firing h (next_due now (live h))) now fuel more q
+more_changes_nothing h now (suc fuel) more q =
+    ap (λ n. after_firings n now h) (let a : suc fuel + more ≡ suc (fuel + more) = omega arith in a) ∙ more_changes_nothing (after_firing h (next_due now (live h))) now fuel more q

@@ -26,7 +26,8 @@ has_get [] i x l q = absurd (omega (arith, l))
 has_get (e ∷ es) zero x l q = inl q
 has_get (e ∷ es) (suc i) x l q = inr (has_get es i x (omega (arith, l)) q)
 
-module _ (k : ℕ) (f : Entry → Entry) (keeps : (e : Entry) → Keeps e (f e)) (es : List Entry) (ds : List DeadlineKey) (rises : Rises (λ (e : Entry). e.key) es) (due : IsIndex indexed_deadline deadline_cmp es ds) (i : ℕ) (at : position (is_of k) es ≡ Some i) (old : Entry) (is : old ≡ get_or es i old) where
+module _ (k : ℕ) (f : Entry → Entry) (keeps : (e : Entry) → Keeps e (f e)) (es : List Entry) (ds : List DeadlineKey) (rises : Rises (λ (e : Entry). e.key) es)
+    (due : IsIndex indexed_deadline deadline_cmp es ds) (i : ℕ) (at : position (is_of k) es ≡ Some i) (old : Entry) (is : old ≡ get_or es i old) where
   within : i < length es
   within = (position-Some (is_of k) es i old at).0
 
@@ -61,8 +62,10 @@ module _ (k : ℕ) (f : Entry → Entry) (keeps : (e : Entry) → Keeps e (f e))
       let moved : insert (remove ds m.from) m.to (deadline_key (f old)) ≡ fs = ap (λ (y : Entry). insert (remove ds m.from) m.to (deadline_key y)) (sym q) ∙ sym m.moved in
       subst (λ ys. IsIndex indexed_deadline deadline_cmp (map (change_of_key k f) es) ys) moved tables
 
-module _ (k : ℕ) (f : Entry → Entry) (keeps : (e : Entry) → Keeps e (f e)) (es : List Entry) (ss cs ts : List MatchKey) (ds : List DeadlineKey) (t : AreTables es ss cs ts ds) (i : ℕ) (at : position (is_of k) es ≡ Some i) (old : Entry) (is : old ≡ get_or es i old) where
-  pub changed_live : (x : Entry) (fs : List DeadlineKey) → x ≡ f old → x.is_terminated ≡ false → Moves deadline_cmp (deadline_key old) (deadline_key x) ds fs → AreTables (set es i x) ss cs ts fs × (set es i x ≡ table_after_change k f es)
+module _ (k : ℕ) (f : Entry → Entry) (keeps : (e : Entry) → Keeps e (f e)) (es : List Entry) (ss cs ts : List MatchKey) (ds : List DeadlineKey) (t : AreTables es ss cs ts ds) (i : ℕ)
+    (at : position (is_of k) es ≡ Some i) (old : Entry) (is : old ≡ get_or es i old) where
+  pub changed_live : (x : Entry) (fs : List DeadlineKey) → x ≡ f old → x.is_terminated ≡ false → Moves deadline_cmp (deadline_key old) (deadline_key x) ds fs →
+      AreTables (set es i x) ss cs ts fs × (set es i x ≡ table_after_change k f es)
   changed_live x fs q o m =
       let tables = tables_mapped (change_of_key k f) (λ e. keeps_hit k f e (keeps e)) es ss cs ts ds fs t (due_moved k f keeps es ds t.rises t.due i at old is x fs q m) in
       (subst (λ xs. AreTables xs ss cs ts fs) (sym (was_set k f keeps es ds t.rises t.due i at old is x q)) tables, stays_in k f es i old x (sym at) (q ∙ ap f is) o)
@@ -97,14 +100,21 @@ module _ (k : ℕ) (f : Entry → Entry) (keeps : (e : Entry) → Keeps e (f e))
   over_rest : (x : Entry) → x ≡ f old → x.is_terminated ≡ true → (remove (set es i x) i ≡ table_after_change k f es) × (table_after_change k f es ≡ rest k es)
   over_rest x q o = (left_out k f es i old x (sym at) (q ∙ ap f is) o, settle_over k f old es t.rises there key (ap is_live (sym q) ∙ ap not o))
 
-  pub changed_server : (x : Entry) (fs : List DeadlineKey) (gs hs : List MatchKey) → x ≡ f old → x.is_terminated ≡ true → x.is_server ≡ true → Removes (deadline_key old) ds fs → Removes (server_match x) ss gs → Removes (call_match x) ts hs → AreTables (remove (set es i x) i) gs cs hs fs × (remove (set es i x) i ≡ table_after_change k f es)
+  pub changed_server : (x : Entry) (fs : List DeadlineKey) (gs hs : List MatchKey) → x ≡ f old → x.is_terminated ≡ true → x.is_server ≡ true → Removes (deadline_key old) ds fs →
+      Removes (server_match x) ss gs → Removes (call_match x) ts hs → AreTables (remove (set es i x) i) gs cs hs fs × (remove (set es i x) i ≡ table_after_change k f es)
   changed_server x fs gs hs q o s m n c =
       let w = over_rest x q o in
-      let tables = server_over k old es ss cs ts ds m.from n.from c.from t there key (kind_kept x true q s) m.at (n.at ∙ ap Some (server_kept x q)) (c.at ∙ ap Some (call_kept x q)) in
-      (subst (λ xs. AreTables xs gs cs hs fs) (sym (w.0 ∙ w.1)) (subst (λ ys. AreTables (rest k es) gs cs hs ys) (sym m.removed) (subst (λ ys. AreTables (rest k es) ys cs hs (remove ds m.from)) (sym n.removed) (subst (λ ys. AreTables (rest k es) (remove ss n.from) cs ys (remove ds m.from)) (sym c.removed) tables))), w.0)
+      let tables = server_over k old es ss cs ts ds m.from n.from c.from t there key (kind_kept x true q s) m.at (n.at ∙ ap Some (server_kept x q)) (c.at ∙ ap Some (call_kept x q)) in (
+        subst (λ xs. AreTables xs gs cs hs fs) (sym (w.0 ∙ w.1)) (subst (λ ys. AreTables (rest k es) gs cs hs ys) (sym m.removed)
+            (subst (λ ys. AreTables (rest k es) ys cs hs (remove ds m.from)) (sym n.removed) (subst (λ ys. AreTables (rest k es) (remove ss n.from) cs ys (remove ds m.from)) (sym c.removed) tables))),
+        w.0,
+      )
 
-  pub changed_client : (x : Entry) (fs : List DeadlineKey) (gs : List MatchKey) → x ≡ f old → x.is_terminated ≡ true → x.is_server ≡ false → Removes (deadline_key old) ds fs → Removes (client_match x) cs gs → AreTables (remove (set es i x) i) ss gs ts fs × (remove (set es i x) i ≡ table_after_change k f es)
+  pub changed_client : (x : Entry) (fs : List DeadlineKey) (gs : List MatchKey) → x ≡ f old → x.is_terminated ≡ true → x.is_server ≡ false → Removes (deadline_key old) ds fs →
+      Removes (client_match x) cs gs → AreTables (remove (set es i x) i) ss gs ts fs × (remove (set es i x) i ≡ table_after_change k f es)
   changed_client x fs gs q o s m n =
       let w = over_rest x q o in
-      let tables = client_over k old es ss cs ts ds m.from n.from t there key (kind_kept x false q s) m.at (n.at ∙ ap Some (client_kept x q)) in
-      (subst (λ xs. AreTables xs ss gs ts fs) (sym (w.0 ∙ w.1)) (subst (λ ys. AreTables (rest k es) ss gs ts ys) (sym m.removed) (subst (λ ys. AreTables (rest k es) ss ys ts (remove ds m.from)) (sym n.removed) tables)), w.0)
+      let tables = client_over k old es ss cs ts ds m.from n.from t there key (kind_kept x false q s) m.at (n.at ∙ ap Some (client_kept x q)) in (
+        subst (λ xs. AreTables xs ss gs ts fs) (sym (w.0 ∙ w.1)) (subst (λ ys. AreTables (rest k es) ss gs ts ys) (sym m.removed) (subst (λ ys. AreTables (rest k es) ss ys ts (remove ds m.from)) (sym n.removed) tables)),
+        w.0,
+      )

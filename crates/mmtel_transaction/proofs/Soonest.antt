@@ -37,7 +37,8 @@ mid_false s t i j k Equal e q =
     rw (a, b) (last_false i j k (nat_cmp i j) refl q)
 mid_false s t i j k Greater e q = absurd cc
 
-pub top_false : (a b s t i j : ℕ) (k r : Ordering) → r ≡ nat_cmp a b → ordering_then r (ordering_then (nat_cmp s t) (ordering_then (nat_cmp i j) k)) ≡ Less → (nat_lt b a || ((b == a) && (nat_lt t s || ((t == s) && nat_lt j i)))) ≡ false
+pub top_false : (a b s t i j : ℕ) (k r : Ordering) → r ≡ nat_cmp a b → ordering_then r (ordering_then (nat_cmp s t) (ordering_then (nat_cmp i j) k)) ≡ Less →
+    (nat_lt b a || ((b == a) && (nat_lt t s || ((t == s) && nat_lt j i)))) ≡ false
 top_false a b s t i j k Less e q =
     let l : a < b = ranked a b Less e in
     let f : nat_lt b a ≡ false = grind (arith, nat_tests) in
@@ -68,7 +69,8 @@ mid_true s t i j k l Equal e q m =
     rw (a, b) (last_true i j k l (nat_cmp i j) refl q m)
 mid_true s t i j k l Greater e q m = absurd cc
 
-pub top_true : (a b s t i j k l : ℕ) (r : Ordering) → r ≡ nat_cmp a b → ordering_then r (ordering_then (nat_cmp s t) (ordering_then (nat_cmp i j) (nat_cmp k l))) ≡ Less → l < k → (nat_lt a b || ((a == b) && (nat_lt s t || ((s == t) && nat_lt i j)))) ≡ true
+pub top_true : (a b s t i j k l : ℕ) (r : Ordering) → r ≡ nat_cmp a b → ordering_then r (ordering_then (nat_cmp s t) (ordering_then (nat_cmp i j) (nat_cmp k l))) ≡ Less → l < k →
+    (nat_lt a b || ((a == b) && (nat_lt s t || ((s == t) && nat_lt i j)))) ≡ true
 top_true a b s t i j k l Less e q m =
     let n : a < b = ranked a b Less e in
     let f : nat_lt a b ≡ true = grind (arith, nat_tests) in
@@ -140,7 +142,8 @@ module _ (now a : ℕ) (e : Entry) (d : deadline e ≡ Some a) (soon : a ≤ now
       let u = next_has now es n q in
       elim (m n.entry n.at u.0 u.1) [
         | inl w ↦ let l : e.key < n.entry.key = r n.entry u.0 in absurd (omega (arith, w, l))
-        | inr w ↦ let f : is_before n.at n.entry a e ≡ false = top_false a n.at (step_due e) (step_due n.entry) (order_due e) (order_due n.entry) (nat_cmp e.key n.entry.key) (nat_cmp a n.at) refl w in ap (λ t. Some (cond t n first)) f
+        | inr w ↦ let f : is_before n.at n.entry a e ≡ false = top_false a n.at (step_due e) (step_due n.entry) (order_due e) (order_due n.entry) (nat_cmp e.key n.entry.key) (nat_cmp a n.at) refl w in
+            ap (λ t. Some (cond t n first)) f
       ]
 
   comes : (x : Entry) (es : List Entry) (o : Option ℕ) → deadline x ≡ o → x.key < e.key → IsLeast (x ∷ es) → sooner (due_one now x o) (Some first) ≡ Some first
@@ -188,7 +191,8 @@ module _ (now : ℕ) (few : now < 2 ^ 64) (es : List Entry) (rises : Rises (λ (
         | inr w ↦ let s : x.at ≤ (deadline_key e).at = not_later x.at (deadline_key e).at _ (nat_cmp x.at (deadline_key e).at) refl w in omega (arith, l, s, at)
       ])
 
-  soon_is : (x : DeadlineKey) (xs : List DeadlineKey) → IsIndex indexed_deadline deadline_cmp es (x ∷ xs) → x.at ≤ now → (e : Entry) → Has e es → deadline_key e ≡ x → (o : Option ℕ) → deadline e ≡ o → Some (x.at, x.key) ≡ moment_and_key (next_due now es)
+  soon_is : (x : DeadlineKey) (xs : List DeadlineKey) → IsIndex indexed_deadline deadline_cmp es (x ∷ xs) → x.at ≤ now → (e : Entry) → Has e es → deadline_key e ≡ x → (o : Option ℕ) → deadline e ≡ o →
+      Some (x.at, x.key) ≡ moment_and_key (next_due now es)
   soon_is x xs i l e h q None d =
       let at : (deadline_key e).at ≡ 2 ^ 128 - 1 = ap or_never d in
       let s : (deadline_key e).at ≡ x.at = ap (λ (y : DeadlineKey). y.at) q in
@@ -221,7 +225,8 @@ module _ (now : ℕ) (few : now < 2 ^ 64) (es : List Entry) (rises : Rises (λ (
           ap moment_and_key (sym (later x xs i l))
 
 -- the first that is due, and its transaction
-pub next_is : (now : ℕ) (es : List Entry) → Rises (λ (x : Entry). x.key) es → (at k : ℕ) → Some (at, k) ≡ moment_and_key (next_due now es) → (x : Entry) → Some x ≡ by_key k es → Some (record { at = at; entry = x }) ≡ next_due now es
+pub next_is : (now : ℕ) (es : List Entry) → Rises (λ (x : Entry). x.key) es → (at k : ℕ) → Some (at, k) ≡ moment_and_key (next_due now es) → (x : Entry) → Some x ≡ by_key k es →
+    Some (record { at = at; entry = x }) ≡ next_due now es
 next_is now es r at k q x f = by_cases (next_due now es) refl q
   where
     by_cases : (o : Option DueEntryView) → next_due now es ≡ o → Some (at, k) ≡ moment_and_key o → Some (record { at = at; entry = x }) ≡ next_due now es

@@ -18,9 +18,13 @@ use Rattle.mmtel_transaction.specs.declared.entries.ReliableResponse.{ReliableRe
 use Rattle.mmtel_transaction.specs.declared.message_class.MessageClass.{MessageClass}
 use Rattle.mmtel_transaction.specs.declared.message_class.MessageClass.TheVariants as part
 use Rattle.mmtel_transaction.specs.Deadlines.{at_place, deadline, foremost_from, foremost_in, is_ending, is_untimed, last_deadline, order_due, retransmission_at, sooner_of, state_retransmission_at, step_due, timer_of}
-use Rattle.mmtel_transaction.specs.Changes.{reliable_response_of, after_timer, after_timer_by, after_any_reply, after_reply, after_retransmission, after_provisional, after_final, after_response, after_failure_ack, after_ack_2xx, with_kept_ack, change_of_key, is_ack_of, after_settling, with_reliable_if, without_rseq}
-use Rattle.mmtel_transaction.specs.Operations.{TransactionOp, DidBegin, DidHear, DidAsk, DidReply, DidAck, DidFire, DidSettle, send_count, step_of, opens, opened_on_receipt, openings, live, is_live, change, change_on_receipt}
-use Rattle.mmtel_transaction.specs.Results.{DueEntryView, by_key, is_of, due_one, sooner, is_before, retransmission_for, last_sent, is_full, is_invite_of, is_client_of, is_server_of, merged_with, is_merged_entry, key_of, next_due, class_of, ack_class, request_class, response_class, peer_of, class_result, due_result, fresh_result, servers, retransmitted_text, text_by, state_text, bind_entry, upcoming_of}
+use Rattle.mmtel_transaction.specs.Changes.{reliable_response_of, after_timer, after_timer_by, after_any_reply, after_reply, after_retransmission, after_provisional, after_final}
+use Rattle.mmtel_transaction.specs.Changes.{after_response, after_failure_ack, after_ack_2xx, with_kept_ack, change_of_key, is_ack_of, after_settling, with_reliable_if, without_rseq}
+use Rattle.mmtel_transaction.specs.Operations.{TransactionOp, DidBegin, DidHear, DidAsk, DidReply, DidAck, DidFire, DidSettle, send_count}
+use Rattle.mmtel_transaction.specs.Operations.{step_of, opens, opened_on_receipt, openings, live, is_live, change, change_on_receipt}
+use Rattle.mmtel_transaction.specs.Results.{DueEntryView, by_key, is_of, due_one, sooner, is_before, retransmission_for, last_sent, is_full, is_invite_of, is_client_of}
+use Rattle.mmtel_transaction.specs.Results.{is_server_of, merged_with, is_merged_entry, key_of, next_due, class_of, ack_class, request_class, response_class, peer_of}
+use Rattle.mmtel_transaction.specs.Results.{class_result, due_result, fresh_result, servers, retransmitted_text, text_by, state_text, bind_entry, upcoming_of}
 use Rattle.mmtel_transaction.specs.Table.{table_after_change}
 use Rattle.mmtel_transaction.specs.Matching.{if_refused, matching_entry}
 use Rattle.mmtel_transaction.specs.Equivalence.{AnswerEquivalently, Equivalent, GoOnEquivalently, TextsDecideNothing, blank, blank_due, blank_heard, blank_if, blank_maybe, blank_reliable, blank_sent, next_key}
@@ -66,14 +70,16 @@ twice_at b s place [] = refl
 twice_at b s zero (x ∷ xs) = ap (λ z. z ∷ blanks b (blanks b xs)) (twice_answer b (again_of s x)) ∙ ap (λ ys. blank_reliable b (again_of s x) ∷ ys) (twice_answers b xs)
 twice_at b s (suc place) (x ∷ xs) = ap (λ z. z ∷ blanks b (retransmitted_at s place (blanks b xs))) (twice_answer b x) ∙ ap (λ ys. blank_reliable b x ∷ ys) (twice_at b s place xs)
 
-twice_resent : (b : Bool) (s place : ℕ) (xs : List ReliableResponse) → blanks b (after_retransmission s place (slice_get (blanks b xs) place) (blanks b xs)) ≡ blanks b (after_retransmission s place (slice_get xs place) xs)
+twice_resent : (b : Bool) (s place : ℕ) (xs : List ReliableResponse) →
+    blanks b (after_retransmission s place (slice_get (blanks b xs) place) (blanks b xs)) ≡ blanks b (after_retransmission s place (slice_get xs place) xs)
 twice_resent b s place xs = ap (blanks b) (resent_is s place (blanks b xs)) ∙ (twice_at b s place xs ∙ sym (ap (blanks b) (resent_is s place xs)))
 
 twice_without : (b : Bool) (own : ℕ) (xs : List ReliableResponse) → blanks b (without_rseq own (blanks b xs)) ≡ blanks b (without_rseq own xs)
 twice_without b own [] = refl
 twice_without b own (x ∷ xs) = either (not (x.rseq == own)) (twice_without b own xs)
   where
-    either : (t : Bool) → blanks b (without_rseq own (blanks b xs)) ≡ blanks b (without_rseq own xs) → blanks b (cond t (blank_reliable b x ∷ without_rseq own (blanks b xs)) (without_rseq own (blanks b xs))) ≡ blanks b (cond t (x ∷ without_rseq own xs) (without_rseq own xs))
+    either : (t : Bool) → blanks b (without_rseq own (blanks b xs)) ≡ blanks b (without_rseq own xs) →
+        blanks b (cond t (blank_reliable b x ∷ without_rseq own (blanks b xs)) (without_rseq own (blanks b xs))) ≡ blanks b (cond t (x ∷ without_rseq own xs) (without_rseq own xs))
     either true q = ap (λ z. z ∷ blanks b (without_rseq own (blanks b xs))) (twice_answer b x) ∙ ap (λ ys. blank_reliable b x ∷ ys) q
     either false q = q
 
@@ -115,7 +121,8 @@ module _ (v : Peer → Bool) where
     where
       either : (o : Option (ℕ × TransactionTimer)) → blank v (after_timer_by o s (blank v e)) ≡ blank v (after_timer_by o s e)
       either (Some f) = rw (twice (v e.peer) e.request, twice_maybe (v e.peer) e.last, twice_resent (v e.peer) s f.0 e.reliable) refl
-      either None = blank_both v (is_some (state_retransmission_at e)) _ _ _ _ (rw (twice (v e.peer) e.request, twice_maybe (v e.peer) e.last, twice_answers (v e.peer) e.reliable) refl) (rw (twice (v e.peer) e.request, twice_maybe (v e.peer) e.last, twice_answers (v e.peer) e.reliable) refl)
+      either None = blank_both v (is_some (state_retransmission_at e)) _ _ _ _ (rw (twice (v e.peer) e.request, twice_maybe (v e.peer) e.last, twice_answers (v e.peer) e.reliable) refl)
+          (rw (twice (v e.peer) e.request, twice_maybe (v e.peer) e.last, twice_answers (v e.peer) e.reliable) refl)
 
   absorbs_settled : (own : Option ℕ) → Absorbs (after_settling own)
   absorbs_settled None e = rw (twice (v e.peer) e.request, twice_maybe (v e.peer) e.last) refl
@@ -123,7 +130,8 @@ module _ (v : Peer → Bool) where
 
   absorbs_with : (o : Option ReliableResponse) → Absorbs (with_reliable_if o)
   absorbs_with None e = again e
-  absorbs_with (Some answer) e = blank_both v (not e.is_server || not (e.final_status == 0)) _ _ _ _ (again e) (rw (twice (v e.peer) e.request, twice_maybe (v e.peer) e.last, twice_more (v e.peer) answer e.reliable) refl)
+  absorbs_with (Some answer) e =
+      blank_both v (not e.is_server || not (e.final_status == 0)) _ _ _ _ (again e) (rw (twice (v e.peer) e.request, twice_maybe (v e.peer) e.last, twice_more (v e.peer) answer e.reliable) refl)
 
   absorbs_replied : (s i st : ℕ) (t g : List ℕ) (now : ℕ) → Absorbs (after_reply s i st t g now)
   absorbs_replied s i st t g now e =
@@ -133,7 +141,8 @@ module _ (v : Peer → Bool) where
   absorbs_offered : (s i : ℕ) (m : Message Start) (now : ℕ) → Absorbs (after_any_reply s i m now)
   absorbs_offered s i m now e =
       let o = reliable_response_of s i m (message_text m) now in
-      carried (after_reply s i (head_of m).status (message_text m) (head_of m).to_tag now) (absorbs_replied s i (head_of m).status (message_text m) (head_of m).to_tag now) (with_reliable_if o (blank v e)) (with_reliable_if o e) (absorbs_with o e)
+      carried (after_reply s i (head_of m).status (message_text m) (head_of m).to_tag now) (absorbs_replied s i (head_of m).status (message_text m) (head_of m).to_tag now)
+      (with_reliable_if o (blank v e)) (with_reliable_if o e) (absorbs_with o e)
 
   absorbs_rang : (s now : ℕ) → Absorbs (after_provisional s now)
   absorbs_rang s now e = blank_both v (e.is_early || not (e.final_status == 0)) _ _ _ _ (again e) (rw (twice (v e.peer) e.request, twice_maybe (v e.peer) e.last, twice_answers (v e.peer) e.reliable) refl)
@@ -141,7 +150,8 @@ module _ (v : Peer → Bool) where
   absorbs_finished : (s st now : ℕ) → Absorbs (after_final s st now)
   absorbs_finished s st now e =
       blank_both v (not (is_invite e.head)) _ _ _ _ (rw (twice (v e.peer) e.request, twice_maybe (v e.peer) e.last, twice_answers (v e.peer) e.reliable) refl)
-      (blank_both v (not (e.final_status == 0)) _ _ _ _ (rw (twice (v e.peer) e.request, twice_maybe (v e.peer) e.last, twice_answers (v e.peer) e.reliable) refl) (rw (twice (v e.peer) e.request, twice_maybe (v e.peer) e.last, twice_answers (v e.peer) e.reliable) refl))
+      (blank_both v (not (e.final_status == 0)) _ _ _ _ (rw (twice (v e.peer) e.request, twice_maybe (v e.peer) e.last, twice_answers (v e.peer) e.reliable) refl)
+      (rw (twice (v e.peer) e.request, twice_maybe (v e.peer) e.last, twice_answers (v e.peer) e.reliable) refl))
 
   absorbs_answered : (s st now : ℕ) → Absorbs (after_response s st now)
   absorbs_answered s st now e = blank_both v (is_provisional st) _ _ _ _ (absorbs_rang s now e) (absorbs_finished s st now e)
@@ -176,7 +186,8 @@ module _ (v : Peer → Bool) where
   -- a response with the same head that is reliable or not
   other_answer : (s i now : ℕ) (m n : Message Start) (e : Entry) → reliable_number m ≡ reliable_number n → (v e.peer ≡ false → message_text m ≡ message_text n)
       → blank v (with_reliable_if (reliable_response_of s i m (message_text m) now) e) ≡ blank v (with_reliable_if (reliable_response_of s i n (message_text n) now) e)
-  other_answer s i now m n e r q = ap (λ o. blank v (with_reliable_if (option_map (λ own. record { rseq = own; text = message_text m; start = now; retransmissions = 0; step = s; order = i }) o) e)) r ∙ either (reliable_number n)
+  other_answer s i now m n e r q =
+      ap (λ o. blank v (with_reliable_if (option_map (λ own. record { rseq = own; text = message_text m; start = now; retransmissions = 0; step = s; order = i }) o) e)) r ∙ either (reliable_number n)
     where
       either : (o : Option ℕ) → blank v (with_reliable_if (option_map (λ own. record { rseq = own; text = message_text m; start = now; retransmissions = 0; step = s; order = i }) o) e)
           ≡ blank v (with_reliable_if (option_map (λ own. record { rseq = own; text = message_text n; start = now; retransmissions = 0; step = s; order = i }) o) e)
@@ -187,7 +198,8 @@ module _ (v : Peer → Bool) where
           let same : blank_reliable (v e.peer) x ≡ blank_reliable (v e.peer) y = ap (λ (t : List ℕ). (let r : ReliableResponse = record x { text = t } in r)) (blank_text (v e.peer) (message_text m) (message_text n) q) in
           blank_both v (not e.is_server || not (e.final_status == 0)) _ _ _ _ refl (ap (λ xs. (let r : Entry = record (blank v e) { reliable = xs } in r)) (other_more (v e.peer) x y e.reliable same))
 
-  other_offer : (s i now : ℕ) (m n : Message Start) (e : Entry) → head_of m ≡ head_of n → reliable_number m ≡ reliable_number n → (v e.peer ≡ false → message_text m ≡ message_text n) → blank v (after_any_reply s i m now e) ≡ blank v (after_any_reply s i n now e)
+  other_offer : (s i now : ℕ) (m n : Message Start) (e : Entry) → head_of m ≡ head_of n → reliable_number m ≡ reliable_number n → (v e.peer ≡ false → message_text m ≡ message_text n) →
+      blank v (after_any_reply s i m now e) ≡ blank v (after_any_reply s i n now e)
   other_offer s i now m n e h r q =
       let x : Entry = with_reliable_if (reliable_response_of s i m (message_text m) now) e in
       let y : Entry = with_reliable_if (reliable_response_of s i n (message_text n) now) e in
@@ -260,7 +272,8 @@ module _ (v : Peer → Bool) where
       either true = refl
       either false = refl
 
-  picked : (r a c : Bool) (x o i : Option Entry) → cond r (option_map (blank v) x) (cond a (if_refused (option_map (blank v) o)) (cond c (option_map (blank v) i) (option_map (blank v) o))) ≡ option_map (blank v) (cond r x (cond a (if_refused o) (cond c i o)))
+  picked : (r a c : Bool) (x o i : Option Entry) → cond r (option_map (blank v) x) (cond a (if_refused (option_map (blank v) o)) (cond c (option_map (blank v) i) (option_map (blank v) o)))
+      ≡ option_map (blank v) (cond r x (cond a (if_refused o) (cond c i o)))
   picked true a c x o i = refl
   picked false true c x o i = refused_blank o
   picked false false true x o i = refl
@@ -314,7 +327,9 @@ module _ (v : Peer → Bool) where
 
   next_blank : (now : ℕ) (es : List Entry) → next_due now (map (blank v) es) ≡ option_map blank_next (next_due now es)
   next_blank now [] = refl
-  next_blank now (e ∷ es) = ap (λ d. sooner (due_one now (blank v e) d) (next_due now (map (blank v) es))) (deadline_like e) ∙ (ap (λ (o : Option DueEntryView). sooner (due_one now (blank v e) (deadline e)) o) (next_blank now es) ∙ (ap (λ (o : Option DueEntryView). sooner o (option_map blank_next (next_due now es))) (one_blank now e (deadline e)) ∙ sooner_blank (due_one now e (deadline e)) (next_due now es)))
+  next_blank now (e ∷ es) = ap (λ d. sooner (due_one now (blank v e) d) (next_due now (map (blank v) es))) (deadline_like e)
+      ∙ (ap (λ (o : Option DueEntryView). sooner (due_one now (blank v e) (deadline e)) o) (next_blank now es)
+      ∙ (ap (λ (o : Option DueEntryView). sooner o (option_map blank_next (next_due now es))) (one_blank now e (deadline e)) ∙ sooner_blank (due_one now e (deadline e)) (next_due now es)))
 
   -- ---- what is decided
 
@@ -376,7 +391,8 @@ module _ (v : Peer → Bool) where
       by_text None = planned_text
       by_text (Some x) = twice (v e.peer) x.text
 
-      of_answer : (o : Option (ℕ × TransactionTimer)) → blank_if (v e.peer) (text_by (o >>= λ (f : ℕ × TransactionTimer). slice_get (blanks (v e.peer) e.reliable) f.0) (blank v e)) ≡ blank_if (v e.peer) (text_by (o >>= λ (f : ℕ × TransactionTimer). slice_get e.reliable f.0) e)
+      of_answer : (o : Option (ℕ × TransactionTimer)) → blank_if (v e.peer) (text_by (o >>= λ (f : ℕ × TransactionTimer). slice_get (blanks (v e.peer) e.reliable) f.0) (blank v e))
+          ≡ blank_if (v e.peer) (text_by (o >>= λ (f : ℕ × TransactionTimer). slice_get e.reliable f.0) e)
       of_answer None = planned_text
       of_answer (Some f) = ap (λ o. blank_if (v e.peer) (text_by o (blank v e))) (get_blank (v e.peer) e.reliable f.0) ∙ by_text (slice_get e.reliable f.0)
 
@@ -390,7 +406,8 @@ module _ (v : Peer → Bool) where
   says_blank : (o : Option DueEntryView) → blank_due v (due_result (option_map blank_next o)) ≡ blank_due v (due_result o)
   says_blank None = refl
   says_blank (Some n) =
-      ap (λ o. blank_due v (cond (is_some o) (due.Again n.entry.peer n.at (retransmitted_text (blank v n.entry))) (cond (is_ending n.entry.state) (due.Over (record { 0 = n.entry.key }) n.at) (due.Silent (record { 0 = n.entry.key }) n.entry.head.branch n.entry.head.method n.at)))) (resend_like n.entry)
+      ap (λ o. blank_due v (cond (is_some o) (due.Again n.entry.peer n.at (retransmitted_text (blank v n.entry)))
+      (cond (is_ending n.entry.state) (due.Over (record { 0 = n.entry.key }) n.at) (due.Silent (record { 0 = n.entry.key }) n.entry.head.branch n.entry.head.method n.at)))) (resend_like n.entry)
       ∙ says_if (is_some (retransmission_at n.entry)) (is_ending n.entry.state) n (retransmitted_text (blank v n.entry)) (retransmitted_text n.entry) (again_text n.entry)
 
   module _ (g h : List TransactionOp) (a : Equivalent v g h) where
@@ -406,7 +423,8 @@ module _ (v : Peer → Bool) where
         sym (invite_blank (P (live g))) ∙ (ap (option_map key_of) (sym (find_blank (is_invite_of m) (λ e. refl) (live g)) ∙ (ap P a.live ∙ find_blank (is_invite_of m) (λ e. refl) (live h))) ∙ invite_blank (P (live h)))
 
     owner_like : (m : Head) → option_map key_of (matching_entry m (live g)) ≡ option_map key_of (matching_entry m (live h))
-    owner_like m = sym (invite_blank (matching_entry m (live g))) ∙ (ap (option_map key_of) (sym (owner_blank m (live g)) ∙ (ap (matching_entry m) a.live ∙ owner_blank m (live h))) ∙ invite_blank (matching_entry m (live h)))
+    owner_like m = sym (invite_blank (matching_entry m (live g)))
+        ∙ (ap (option_map key_of) (sym (owner_blank m (live g)) ∙ (ap (matching_entry m) a.live ∙ owner_blank m (live h))) ∙ invite_blank (matching_entry m (live h)))
 
     again_like : (p : Peer) (k : ℕ) → option_map (blank_sent v) (bind_entry (retransmission_for p) (by_key k (live g))) ≡ option_map (blank_sent v) (bind_entry (retransmission_for p) (by_key k (live h)))
     again_like p k = sym (again_blank p (by_key k (live g))) ∙ (ap (λ (o : Option Entry). option_map (blank_sent v) (bind_entry (retransmission_for p) o)) (same_key k) ∙ again_blank p (by_key k (live h)))
@@ -414,7 +432,8 @@ module _ (v : Peer → Bool) where
     same_like : (k : ℕ) → option_map (blank_sent v) (bind_entry last_sent (by_key k (live g))) ≡ option_map (blank_sent v) (bind_entry last_sent (by_key k (live h)))
     same_like k = sym (same_blank (by_key k (live g))) ∙ (ap (λ (o : Option Entry). option_map (blank_sent v) (bind_entry last_sent o)) (same_key k) ∙ same_blank (by_key k (live h)))
 
-    said_like : (p : Peer) (m : Message Start) (t : MessageClass) → option_map (blank_heard v) (class_result (length (openings g)) (live g) p m t) ≡ option_map (blank_heard v) (class_result (length (openings h)) (live h) p m t)
+    said_like : (p : Peer) (m : Message Start) (t : MessageClass) →
+        option_map (blank_heard v) (class_result (length (openings g)) (live g) p m t) ≡ option_map (blank_heard v) (class_result (length (openings h)) (live h) p m t)
     said_like p m part.Fresh = ap (λ (n : ℕ). option_map (blank_heard v) (Some (fresh_result n (option_map key_of (find (is_invite_of (head_of m)) (live g))) m))) a.next
         ∙ ap (λ (o : Option TKey). option_map (blank_heard v) (Some (fresh_result (length (openings h)) o m))) (invite_like (head_of m))
     said_like p m part.Full = refl
@@ -436,13 +455,17 @@ module _ (v : Peer → Bool) where
       peer = λ k.
           sym (peer_blank (by_key k (live g))) ∙ (ap (λ (o : Option Entry). option_map (λ (e : Entry). e.peer) o) (same_key k) ∙ peer_blank (by_key k (live h)));
       merged = λ k.
-          sym (merged_blank (by_key k (live g)) (live g)) ∙ (ap (λ (o : Option Entry). merged_with o (map (blank v) (live g))) (sym (key_blank k (live g))) ∙ (ap (λ (es : List Entry). merged_with (by_key k es) es) a.live ∙ (ap (λ (o : Option Entry). merged_with o (map (blank v) (live h))) (key_blank k (live h)) ∙ merged_blank (by_key k (live h)) (live h))));
+          sym (merged_blank (by_key k (live g)) (live g)) ∙ (ap (λ (o : Option Entry). merged_with o (map (blank v) (live g))) (sym (key_blank k (live g)))
+          ∙ (ap (λ (es : List Entry). merged_with (by_key k es) es) a.live ∙ (ap (λ (o : Option Entry). merged_with o (map (blank v) (live h))) (key_blank k (live h)) ∙ merged_blank (by_key k (live h)) (live h))));
       due = λ now.
-          sym (step_blank (next_due now (live g))) ∙ (ap (λ (o : Option DueEntryView). upcoming_of o) (sym (next_blank now (live g)) ∙ (ap (next_due now) a.live ∙ next_blank now (live h))) ∙ step_blank (next_due now (live h)));
+          sym (step_blank (next_due now (live g)))
+          ∙ (ap (λ (o : Option DueEntryView). upcoming_of o) (sym (next_blank now (live g)) ∙ (ap (next_due now) a.live ∙ next_blank now (live h))) ∙ step_blank (next_due now (live h)));
       fires = λ now.
-          sym (fires_blank (next_due now (live g))) ∙ (ap (λ (o : Option DueEntryView). next_key o) (sym (next_blank now (live g)) ∙ (ap (next_due now) a.live ∙ next_blank now (live h))) ∙ fires_blank (next_due now (live h)));
+          sym (fires_blank (next_due now (live g)))
+          ∙ (ap (λ (o : Option DueEntryView). next_key o) (sym (next_blank now (live g)) ∙ (ap (next_due now) a.live ∙ next_blank now (live h))) ∙ fires_blank (next_due now (live h)));
       due_results = λ now.
-          sym (says_blank (next_due now (live g))) ∙ (ap (λ (o : Option DueEntryView). blank_due v (due_result o)) (sym (next_blank now (live g)) ∙ (ap (next_due now) a.live ∙ next_blank now (live h))) ∙ says_blank (next_due now (live h)));
+          sym (says_blank (next_due now (live g)))
+          ∙ (ap (λ (o : Option DueEntryView). blank_due v (due_result o)) (sym (next_blank now (live g)) ∙ (ap (next_due now) a.live ∙ next_blank now (live h))) ∙ says_blank (next_due now (live h)));
     }
 
   -- ---- one more operation
@@ -467,7 +490,8 @@ module _ (v : Peer → Bool) where
   live_like : (e x : Entry) → blank v e ≡ blank v x → is_live e ≡ is_live x
   live_like e x q = ap (λ (y : Entry). is_live y) q
 
-  filter_like : (f k : Entry → Entry) (es xs : List Entry) → map (blank v) es ≡ map (blank v) xs → ((e x : Entry) → blank v e ≡ blank v x → blank v (f e) ≡ blank v (k x)) → map (blank v) (filter is_live (map f es)) ≡ map (blank v) (filter is_live (map k xs))
+  filter_like : (f k : Entry → Entry) (es xs : List Entry) → map (blank v) es ≡ map (blank v) xs → ((e x : Entry) → blank v e ≡ blank v x → blank v (f e) ≡ blank v (k x)) →
+      map (blank v) (filter is_live (map f es)) ≡ map (blank v) (filter is_live (map k xs))
   filter_like f k [] [] q p = refl
   filter_like f k [] (x ∷ xs) q p = absurd (no_match (blank v x) (map (blank v) xs) q)
   filter_like f k (e ∷ es) [] q p = absurd (no_match (blank v e) (map (blank v) es) (sym q))
@@ -475,7 +499,8 @@ module _ (v : Peer → Bool) where
       let one : blank v (f e) ≡ blank v (k x) = p e x (ap (first_or (blank v e)) q) in
       kept_like (is_live (f e)) (is_live (k x)) (f e) (k x) (filter is_live (map f es)) (filter is_live (map k xs)) (live_like (f e) (k x) one) one (filter_like f k es xs (ap rest q) p)
 
-  settle_like : (key : ℕ) (f k : Entry → Entry) (es xs : List Entry) → map (blank v) es ≡ map (blank v) xs → ((e x : Entry) → by_key key xs ≡ Some x → blank v e ≡ blank v x → blank v (f e) ≡ blank v (k x)) → map (blank v) (table_after_change key f es) ≡ map (blank v) (table_after_change key k xs)
+  settle_like : (key : ℕ) (f k : Entry → Entry) (es xs : List Entry) → map (blank v) es ≡ map (blank v) xs →
+      ((e x : Entry) → by_key key xs ≡ Some x → blank v e ≡ blank v x → blank v (f e) ≡ blank v (k x)) → map (blank v) (table_after_change key f es) ≡ map (blank v) (table_after_change key k xs)
   settle_like key f k [] [] q p = refl
   settle_like key f k [] (x ∷ xs) q p = absurd (no_match (blank v x) (map (blank v) xs) q)
   settle_like key f k (e ∷ es) [] q p = absurd (no_match (blank v e) (map (blank v) es) (sym q))
@@ -501,8 +526,10 @@ module _ (v : Peer → Bool) where
   append_like : (ds bs xs ys : List Entry) → map (blank v) ds ≡ map (blank v) xs → map (blank v) bs ≡ map (blank v) ys → map (blank v) (ds ++ bs) ≡ map (blank v) (xs ++ ys)
   append_like ds bs xs ys p q = rw (map-append (blank v) ds bs, map-append (blank v) xs ys, p, q) refl
 
-  length_like : (s i k : ℕ) (c d : TransactionOp) (g h : List TransactionOp) → length (opens s i k c) ≡ length (opens s i k d) → length (openings g) ≡ length (openings h) → length (openings g ++ opens s i k c) ≡ length (openings h ++ opens s i k d)
-  length_like s i k c d g h q n = length-append (openings g) (opens s i k c) ∙ (ap (λ (x : ℕ). x + length (opens s i k c)) n ∙ (ap (λ (x : ℕ). length (openings h) + x) q ∙ sym (length-append (openings h) (opens s i k d))))
+  length_like : (s i k : ℕ) (c d : TransactionOp) (g h : List TransactionOp) → length (opens s i k c) ≡ length (opens s i k d) → length (openings g) ≡ length (openings h) →
+      length (openings g ++ opens s i k c) ≡ length (openings h ++ opens s i k d)
+  length_like s i k c d g h q n =
+      length-append (openings g) (opens s i k c) ∙ (ap (λ (x : ℕ). x + length (opens s i k c)) n ∙ (ap (λ (x : ℕ). length (openings h) + x) q ∙ sym (length-append (openings h) (opens s i k d))))
 
   module _ (g h : List TransactionOp) (a : Equivalent v g h) where
     opened_like : (c d : TransactionOp) → ((s i k : ℕ) → length (opens s i k c) ≡ length (opens s i k d)) → length (openings (c ∷ g)) ≡ length (openings (d ∷ h))
@@ -512,16 +539,20 @@ module _ (v : Peer → Bool) where
         ∙ ap (λ (n : ℕ). length (openings h ++ opens (step_of g) n (length (openings h)) d)) a.send_count
         ∙ ap (λ (n : ℕ). length (openings h ++ opens n (send_count h) (length (openings h)) d)) a.step
 
-    live_after : (c d : TransactionOp) → ((s i : ℕ) (e x : Entry) → blank v e ≡ blank v x → blank v (change s i c e) ≡ blank v (change s i d x)) → ((s i k : ℕ) → map (blank v) (opens s i k c) ≡ map (blank v) (opens s i k d)) → map (blank v) (live (c ∷ g)) ≡ map (blank v) (live (d ∷ h))
+    live_after : (c d : TransactionOp) → ((s i : ℕ) (e x : Entry) → blank v e ≡ blank v x → blank v (change s i c e) ≡ blank v (change s i d x)) →
+        ((s i k : ℕ) → map (blank v) (opens s i k c) ≡ map (blank v) (opens s i k d)) → map (blank v) (live (c ∷ g)) ≡ map (blank v) (live (d ∷ h))
     live_after c d p q =
         ap (map (blank v)) (live_more c g)
         ∙ (ap (λ (n : ℕ). map (blank v) (remaining_by n (send_count g) (length (openings g)) c (live g))) a.step
         ∙ (ap (λ (n : ℕ). map (blank v) (remaining_by (step_of h) n (length (openings g)) c (live g))) a.send_count
         ∙ (ap (λ (n : ℕ). map (blank v) (remaining_by (step_of h) (send_count h) n c (live g))) a.next
-        ∙ (append_like _ _ _ _ (filter_like (change (step_of h) (send_count h) c) (change (step_of h) (send_count h) d) (live g) (live h) a.live (p (step_of h) (send_count h))) (q (step_of h) (send_count h) (length (openings h)))
+        ∙ (append_like _ _ _ _ (filter_like (change (step_of h) (send_count h) c) (change (step_of h) (send_count h) d) (live g) (live h) a.live (p (step_of h) (send_count h)))
+        (q (step_of h) (send_count h) (length (openings h)))
         ∙ sym (ap (map (blank v)) (live_more d h))))))
 
-    goes_on : (c d : TransactionOp) → step_of (c ∷ g) ≡ step_of (d ∷ h) → send_count (c ∷ g) ≡ send_count (d ∷ h) → ((s i : ℕ) (e x : Entry) → blank v e ≡ blank v x → blank v (change s i c e) ≡ blank v (change s i d x)) → ((s i k : ℕ) → map (blank v) (opens s i k c) ≡ map (blank v) (opens s i k d)) → ((s i k : ℕ) → length (opens s i k c) ≡ length (opens s i k d)) → Equivalent v (c ∷ g) (d ∷ h)
+    goes_on : (c d : TransactionOp) → step_of (c ∷ g) ≡ step_of (d ∷ h) → send_count (c ∷ g) ≡ send_count (d ∷ h) →
+        ((s i : ℕ) (e x : Entry) → blank v e ≡ blank v x → blank v (change s i c e) ≡ blank v (change s i d x)) → ((s i k : ℕ) → map (blank v) (opens s i k c) ≡ map (blank v) (opens s i k d)) →
+        ((s i k : ℕ) → length (opens s i k c) ≡ length (opens s i k d)) → Equivalent v (c ∷ g) (d ∷ h)
     goes_on c d s w p q l = record { step = s; send_count = w; next = opened_like c d l; live = live_after c d p q }
 
     -- an operation that changes one transaction, whose texts may differ
@@ -589,8 +620,10 @@ module _ (v : Peer → Bool) where
           (λ s i e x w same.
           carried (with_kept_ack (message_text m)) (absorbs_kept (message_text m)) e x same
           ∙ other_kept (message_text m) (message_text n) x (strange key x (message_text m) (message_text n) w r));
-      fires = λ key. goes_on (DidFire key) (DidFire key) a.step a.send_count (λ s i e x q. carried (change_of_key key (after_timer s)) (absorbs_hit key (after_timer s) (absorbs_fired s)) e x q) (λ s i k. refl) (λ s i k. refl);
-      settles = λ key own. goes_on (DidSettle key own) (DidSettle key own) a.step a.send_count (λ s i e x q. carried (change_of_key key (after_settling own)) (absorbs_hit key (after_settling own) (absorbs_settled own)) e x q) (λ s i k. refl) (λ s i k. refl);
+      fires = λ key. goes_on (DidFire key) (DidFire key) a.step a.send_count (λ s i e x q. carried (change_of_key key (after_timer s)) (absorbs_hit key (after_timer s) (absorbs_fired s)) e x q)
+          (λ s i k. refl) (λ s i k. refl);
+      settles = λ key own. goes_on (DidSettle key own) (DidSettle key own) a.step a.send_count
+          (λ s i e x q. carried (change_of_key key (after_settling own)) (absorbs_hit key (after_settling own) (absorbs_settled own)) e x q) (λ s i k. refl) (λ s i k. refl);
     }
 
 pub texts_decide_nothing : TextsDecideNothing

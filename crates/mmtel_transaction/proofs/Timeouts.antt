@@ -34,7 +34,8 @@ settle_gone : (e x : Entry) (f : Entry → Entry) → f e ≡ x → is_live x �
 settle_gone e x f q l = rw (eq-eqb e.key e.key refl, q, l) refl
 
 -- one transaction alone, whose deadline is due
-pub dues_one : (n now at : ℕ) (h : List TransactionOp) (e : Entry) → live h ≡ e ∷ [] → deadline e ≡ Some at → nat_le at now ≡ true → results_in_turn (suc n) now h ≡ due_result (Some (record { at = at; entry = e })) ∷ results_in_turn n now (DidFire e.key ∷ h)
+pub dues_one : (n now at : ℕ) (h : List TransactionOp) (e : Entry) → live h ≡ e ∷ [] → deadline e ≡ Some at → nat_le at now ≡ true →
+    results_in_turn (suc n) now h ≡ due_result (Some (record { at = at; entry = e })) ∷ results_in_turn n now (DidFire e.key ∷ h)
 unfolding results_in_turn
 dues_one n now at h e l d p = ap (λ o. due_result o ∷ results_in_turn n now (after_firing h o)) (ap (next_due now) l ∙ only now at e d p)
 
@@ -55,12 +56,14 @@ live_none h e x l q v = fired_live h e l ∙ settle_gone e x (after_timer (step_
 -- the result of a deadline, by whether the message is retransmitted
 says_again : (n : DueEntryView) (x : ℕ) → is_untimed n.entry.state ≡ false → retransmission_at n.entry ≡ Some x → due_result (Some n) ≡ due.Again n.entry.peer n.at (state_text n.entry)
 says_again n x b q =
-    ap (λ o. cond (is_some o) (due.Again n.entry.peer n.at (retransmitted_text n.entry)) (cond (is_ending n.entry.state) (due.Over (tkey n.entry.key) n.at) (due.Silent (tkey n.entry.key) n.entry.head.branch n.entry.head.method n.at))) q
+    ap (λ o. cond (is_some o) (due.Again n.entry.peer n.at (retransmitted_text n.entry))
+    (cond (is_ending n.entry.state) (due.Over (tkey n.entry.key) n.at) (due.Silent (tkey n.entry.key) n.entry.head.branch n.entry.head.method n.at))) q
     ∙ ap (due.Again n.entry.peer n.at) (busy_text n.entry b)
 
 says_silent : (n : DueEntryView) → retransmission_at n.entry ≡ None → is_ending n.entry.state ≡ false → due_result (Some n) ≡ due.Silent (tkey n.entry.key) n.entry.head.branch n.entry.head.method n.at
 says_silent n q e =
-    ap (λ o. cond (is_some o) (due.Again n.entry.peer n.at (retransmitted_text n.entry)) (cond (is_ending n.entry.state) (due.Over (tkey n.entry.key) n.at) (due.Silent (tkey n.entry.key) n.entry.head.branch n.entry.head.method n.at))) q
+    ap (λ o. cond (is_some o) (due.Again n.entry.peer n.at (retransmitted_text n.entry))
+    (cond (is_ending n.entry.state) (due.Over (tkey n.entry.key) n.at) (due.Silent (tkey n.entry.key) n.entry.head.branch n.entry.head.method n.at))) q
     ∙ ap (λ b. cond b (due.Over (tkey n.entry.key) n.at) (due.Silent (tkey n.entry.key) n.entry.head.branch n.entry.head.method n.at)) e
 
 fired_again : (s x : ℕ) (e : Entry) → is_untimed e.state ≡ false → retransmission_at e ≡ Some x → after_timer s e ≡ record e { retransmissions = e.retransmissions + 1; step = s }
@@ -77,7 +80,8 @@ past a b c l m = grind (arith, nat_tests)
 abbrev waiting : ℕ → ℕ → ℕ → Peer → Message Start → ℕ → State → ℕ → Entry
 waiting s i key p m t plan k = record (new_client_entry s i key p (head_of m) (message_text m) t) { state = plan; retransmissions = k }
 
-module _ (step i key : ℕ) (p : Peer) (m : Message Start) (t now : ℕ) (plan : State) (moments : List ℕ) (l : t + 32000 ≤ now) (r : (k : ℕ) → retransmission_by plan t t k ≡ scheduled_moment t moments k) (z : last_deadline_by plan t t ≡ Some (t + 32000)) (g : is_ending plan ≡ false) (busy : is_untimed plan ≡ false) where
+module _ (step i key : ℕ) (p : Peer) (m : Message Start) (t now : ℕ) (plan : State) (moments : List ℕ) (l : t + 32000 ≤ now) (r : (k : ℕ) → retransmission_by plan t t k ≡ scheduled_moment t moments k)
+    (z : last_deadline_by plan t t ≡ Some (t + 32000)) (g : is_ending plan ≡ false) (busy : is_untimed plan ≡ false) where
   resend : (k : ℕ) (o : Option ℕ) → slice_get moments k ≡ o → retransmission_at (waiting step i key p m t plan k) ≡ option_map (λ d. t + d) o
   resend k o q = busy_resend (waiting step i key p m t plan k) busy ∙ (r k ∙ ap (option_map (λ d. t + d)) q)
 
@@ -87,22 +91,26 @@ module _ (step i key : ℕ) (p : Peer) (m : Message Start) (t now : ℕ) (plan :
   first_of : (k : ℕ) (ds : List ℕ) → ((j : ℕ) → slice_get moments (k + j) ≡ slice_get ds j) → slice_get moments k ≡ slice_get ds 0
   first_of k ds q = ap (slice_get moments) (let a : k ≡ k + 0 = omega arith in a) ∙ q 0
 
-  pub rest : (k : ℕ) (ds : List ℕ) (h : List TransactionOp) → step_of h ≡ step → live h ≡ waiting step i key p m t plan k ∷ [] → ((j : ℕ) → slice_get moments (k + j) ≡ slice_get ds j) → AreWithin ds → results_in_turn (length ds + 2) now h ≡ map (retransmission p m t) ds ++ due.Silent (tkey key) (head_of m).branch (head_of m).method (t + 32000) ∷ due.Nothing ∷ []
+  pub rest : (k : ℕ) (ds : List ℕ) (h : List TransactionOp) → step_of h ≡ step → live h ≡ waiting step i key p m t plan k ∷ [] → ((j : ℕ) → slice_get moments (k + j) ≡ slice_get ds j) → AreWithin ds →
+      results_in_turn (length ds + 2) now h ≡ map (retransmission p m t) ds ++ due.Silent (tkey key) (head_of m).branch (head_of m).method (t + 32000) ∷ due.Nothing ∷ []
   rest k [] h s e q w =
       dues_one 1 now (t + 32000) h (waiting step i key p m t plan k) e (due_then k None (first_of k [] q)) (past t 32000 now l (omega arith))
       ∙ (ap (λ x. x ∷ results_in_turn 1 now (DidFire key ∷ h)) (says_silent (record { at = t + 32000; entry = waiting step i key p m t plan k }) (resend k None (first_of k [] q)) g)
-      ∙ ap (λ xs. due.Silent (tkey key) (head_of m).branch (head_of m).method (t + 32000) ∷ xs) (dues_last now (DidFire key ∷ h) (live_none h (waiting step i key p m t plan k) (record (waiting step i key p m t plan k) { is_terminated = true }) e (fired_over (waiting step i key p m t plan k) (step_of h) (resend k None (first_of k [] q))) refl)))
+      ∙ ap (λ xs. due.Silent (tkey key) (head_of m).branch (head_of m).method (t + 32000) ∷ xs) (dues_last now (DidFire key ∷ h) (live_none h (waiting step i key p m t plan k)
+      (record (waiting step i key p m t plan k) { is_terminated = true }) e (fired_over (waiting step i key p m t plan k) (step_of h) (resend k None (first_of k [] q))) refl)))
   rest k (d ∷ ds) h s e q w =
       ap (λ n. results_in_turn n now h) (let a : length (d ∷ ds) + 2 ≡ suc (length ds + 2) = omega arith in a)
       ∙ (dues_one (length ds + 2) now (t + d) h (waiting step i key p m t plan k) e (due_then k (Some d) (first_of k (d ∷ ds) q)) (past t d now l w.0)
       ∙ (ap (λ x. x ∷ results_in_turn (length ds + 2) now (DidFire key ∷ h)) (says_again (record { at = t + d; entry = waiting step i key p m t plan k }) (t + d) busy (resend k (Some d) (first_of k (d ∷ ds) q)))
       ∙ ap (λ xs. retransmission p m t d ∷ xs) (rest (k + 1) ds (DidFire key ∷ h) s
-      (live_one h (waiting step i key p m t plan k) (waiting step i key p m t plan (k + 1)) e (fired_again (step_of h) (t + d) (waiting step i key p m t plan k) busy (resend k (Some d) (first_of k (d ∷ ds) q)) ∙ ap (λ x. let e : Entry = record (waiting step i key p m t plan (k + 1)) { step = x } in e) s) refl)
+      (live_one h (waiting step i key p m t plan k) (waiting step i key p m t plan (k + 1)) e (fired_again (step_of h) (t + d) (waiting step i key p m t plan k) busy
+      (resend k (Some d) (first_of k (d ∷ ds) q)) ∙ ap (λ x. let e : Entry = record (waiting step i key p m t plan (k + 1)) { step = x } in e) s) refl)
       (λ j. ap (slice_get moments) (let a : (k + 1) + j ≡ k + suc j = omega arith in a) ∙ q (suc j))
       w.1)))
 
 -- it is sent where no transaction is live
-asked_alone : (h : List TransactionOp) (p : Peer) (m : Message Start) (t : ℕ) (b : Bool) → live h ≡ [] → is_invite (head_of m) ≡ b → live (DidAsk p m t ∷ h) ≡ waiting (step_of h) (send_count h) (length (openings h)) p m t (cond b Calling Trying) 0 ∷ []
+asked_alone : (h : List TransactionOp) (p : Peer) (m : Message Start) (t : ℕ) (b : Bool) → live h ≡ [] → is_invite (head_of m) ≡ b →
+    live (DidAsk p m t ∷ h) ≡ waiting (step_of h) (send_count h) (length (openings h)) p m t (cond b Calling Trying) 0 ∷ []
 asked_alone h p m t b l q =
     let e : Entry = new_client_entry (step_of h) (send_count h) (length (openings h)) p (head_of m) (message_text m) t in
     live_new (DidAsk p m t) h (λ x. refl) ∙ (ap (λ xs. xs ++ e ∷ []) l ∙ ap (λ b. (let x : Entry = record e { state = cond b Calling Trying } in x) ∷ []) q)

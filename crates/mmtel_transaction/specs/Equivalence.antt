@@ -6,7 +6,8 @@ use Rattle.mmtel_message.specs.Texts.{message_text}
 use Rattle.mmtel_message.specs.declared.messages.Start.{Start}
 use Rattle.mmtel_transaction.specs.Heads.{head_of, reliable_number}
 use Rattle.mmtel_transaction.specs.Operations.{TransactionOp, DidBegin, DidHear, DidAsk, DidReply, DidAck, DidFire, DidSettle, live, send_count, openings, step_of}
-use Rattle.mmtel_transaction.specs.Results.{DueEntryView, by_key, class_of, due_result, hear_result, is_invite_of, is_merged, key_of, last_sent, next_due, peer_of, retransmission_for}
+use Rattle.mmtel_transaction.specs.Results.{DueEntryView, by_key, class_of, due_result, hear_result, is_invite_of}
+use Rattle.mmtel_transaction.specs.Results.{is_merged, key_of, last_sent, next_due, peer_of, retransmission_for}
 use Rattle.mmtel_transaction.specs.Results.{bind_entry, upcoming_of}
 use Rattle.std.specs.List.{find}
 use Rattle.mmtel_transaction.specs.Matching.{matching_entry}
@@ -73,7 +74,8 @@ pub record AnswerEquivalently (trusts : Peer → Bool) (g h : List TransactionOp
   pub invite : (m : Head) → option_map key_of (find (is_invite_of m) (live g)) ≡ option_map key_of (find (is_invite_of m) (live h))
   pub matching : (m : Head) → option_map key_of (matching_entry m (live g)) ≡ option_map key_of (matching_entry m (live h))
   pub retransmission : (p : Peer) (key : ℕ) →
-      option_map (blank_sent trusts) (bind_entry (retransmission_for p) (by_key key (live g))) ≡ option_map (blank_sent trusts) (bind_entry (retransmission_for p) (by_key key (live h)))
+      option_map (blank_sent trusts) (bind_entry (retransmission_for p) (by_key key (live g)))
+      ≡ option_map (blank_sent trusts) (bind_entry (retransmission_for p) (by_key key (live h)))
   pub same : (key : ℕ) → option_map (blank_sent trusts) (bind_entry last_sent (by_key key (live g)))
       ≡ option_map (blank_sent trusts) (bind_entry last_sent (by_key key (live h)))
   pub peer : (key : ℕ) → peer_of key (live g) ≡ peer_of key (live h)

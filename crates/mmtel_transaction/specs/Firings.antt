@@ -35,7 +35,8 @@ pub record ExistedBefore (h : List TransactionOp) (key a : ℕ) (x : Entry) : Ty
 
 -- a deadline is armed in the step of the operation that caused it
 abbrev pub ArmedInItsStep : Type 0
-ArmedInItsStep = (c : TransactionOp) (h : List TransactionOp) (key a : ℕ) (x : Entry) → by_key key (live (c ∷ h)) ≡ Some x → deadline x ≡ Some a → (step_due x ≡ step_of h) ⊎ ExistedBefore h key a x
+ArmedInItsStep = (c : TransactionOp) (h : List TransactionOp) (key a : ℕ) (x : Entry) → by_key key (live (c ∷ h)) ≡ Some x →
+    deadline x ≡ Some a → (step_due x ≡ step_of h) ⊎ ExistedBefore h key a x
 
 -- how long a transaction's deadlines may continue: from the next one to the last one in milliseconds, and one; zero where it has none
 abbrev pub remaining_by : Option ℕ → Option ℕ → ℕ
@@ -59,7 +60,8 @@ total_remaining es = sum_by time_remaining es
 
 -- it falls with each deadline that fires
 abbrev pub FiringsUseUp : Type 0
-FiringsUseUp = (h : List TransactionOp) (now : ℕ) (n : DueEntryView) → next_due now (live h) ≡ Some n → suc (total_remaining (live (after_firing h (Some n)))) ≤ total_remaining (live h)
+FiringsUseUp = (h : List TransactionOp) (now : ℕ) (n : DueEntryView) → next_due now (live h) ≡ Some n →
+    suc (total_remaining (live (after_firing h (Some n)))) ≤ total_remaining (live h)
 
 -- the operations after so many calls of `due`, one after the other
 unfoldable pub after_firings : ℕ → ℕ → List TransactionOp → List TransactionOp
@@ -72,7 +74,8 @@ FiringsEnd = (h : List TransactionOp) (now fuel : ℕ) → total_remaining (live
 
 -- and once nothing is due, more of them change nothing
 abbrev pub MoreChangesNothing : Type 0
-MoreChangesNothing = (h : List TransactionOp) (now fuel more : ℕ) → next_due now (live (after_firings fuel now h)) ≡ None → after_firings (fuel + more) now h ≡ after_firings fuel now h
+MoreChangesNothing = (h : List TransactionOp) (now fuel more : ℕ) → next_due now (live (after_firings fuel now h)) ≡ None →
+    after_firings (fuel + more) now h ≡ after_firings fuel now h
 
 -- where other operations are called between, as the layers above do when a deadline fires: how many deadlines are not later than a moment
 abbrev pub is_not_later : ℕ → TransactionTimer → Bool
@@ -87,7 +90,8 @@ DueIsCounted = (h : List TransactionOp) (at : ℕ) → (next_due at (live h) ≡
 
 -- the first deadline that fires leaves fewer that are not later than it
 abbrev pub FiringsLeaveFewer : Type 0
-FiringsLeaveFewer = (h : List TransactionOp) (now : ℕ) (n : DueEntryView) → next_due now (live h) ≡ Some n → suc (due_by n.at (live (after_firing h (Some n)))) ≤ due_by n.at (live h)
+FiringsLeaveFewer = (h : List TransactionOp) (now : ℕ) (n : DueEntryView) → next_due now (live h) ≡ Some n →
+    suc (due_by n.at (live (after_firing h (Some n)))) ≤ due_by n.at (live h)
 
 -- the beginning of a step changes no transaction
 abbrev pub BeginsChangeNothing : Type 0

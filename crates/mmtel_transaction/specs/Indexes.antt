@@ -83,7 +83,8 @@ indexed_call e = if e.is_server then Some (call_match e) else None
 -- for any transactions whose match keys of calls these are: whether, by the match keys from this position on, another one than that of this key has the same call and CSeq
 abbrev pub FindsMerged : MatchKey → ℕ → List MatchKey → ℕ → Bool → Type 0
 FindsMerged mark key names from told =
-    (e : Entry) (es : List Entry) → mark ≡ merged_match e → key ≡ e.key → IsIndex indexed_call match_cmp es names → IsPlaceOf mark names from → told ≡ list_any (is_merged_entry e) es
+    (e : Entry) (es : List Entry) → mark ≡ merged_match e → key ≡ e.key → IsIndex indexed_call match_cmp es names →
+    IsPlaceOf mark names from → told ≡ list_any (is_merged_entry e) es
 
 -- the moment, or one later than all others
 abbrev pub or_never : Option ℕ → ℕ

@@ -5,7 +5,8 @@ use Rattle.mmtel_message.specs.Message.{Message}
 use Rattle.mmtel_message.specs.Texts.{message_text}
 use Rattle.mmtel_message.specs.declared.messages.Start.{Start}
 use Rattle.mmtel_transaction.specs.Heads.{head_of}
-use Rattle.mmtel_transaction.specs.Changes.{after_timer, after_any_reply, after_response, after_failure_ack, after_ack_2xx, with_kept_ack, after_settling, change_of_key, new_server_entry, new_client_entry}
+use Rattle.mmtel_transaction.specs.Changes.{after_timer, after_any_reply, after_response, after_failure_ack, after_ack_2xx}
+use Rattle.mmtel_transaction.specs.Changes.{with_kept_ack, after_settling, change_of_key, new_server_entry, new_client_entry}
 use Rattle.mmtel_transaction.specs.declared.entries.Entry.{Entry}
 use Rattle.mmtel_transaction.specs.declared.message_class.MessageClass.{MessageClass}
 use Rattle.mmtel_transaction.specs.declared.message_class.MessageClass.TheVariants as part

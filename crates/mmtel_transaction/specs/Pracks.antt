@@ -64,7 +64,8 @@ SentReliableWait =
     (h : List TransactionOp) (key : ℕ) (e : Entry) (m : Message Start) (t own : ℕ)
     → IsUnanswered key h e
     → reliable_number m ≡ Some own
-    → (x : Entry) × (place : ℕ) × WaitsAt key (DidReply key m t ∷ h) x place (record { rseq = own; text = message_text m; start = t; retransmissions = 0; step = step_of h; order = send_count h })
+    → (x : Entry) × (place : ℕ) × WaitsAt key (DidReply key m t ∷ h) x place
+    (record { rseq = own; text = message_text m; start = t; retransmissions = 0; step = step_of h; order = send_count h })
 
 -- and continues to wait whatever is called, changed by nothing but its own deadline, until it is ended
 abbrev pub ReliableGoOn : Type 0
@@ -82,10 +83,12 @@ pub record IsRetransmitted (h : List TransactionOp) (key : ℕ) (e : Entry) (pla
   -- when its deadline fires, at that moment, it is retransmitted to the peer that sent the request
   pub moment : (now : ℕ) (n : DueEntryView) → next_due now (live h) ≡ Some n → n.entry.key ≡ key → message_due n.entry ≡ Some place
       → scheduled_moment answer.start (moments_of schedule.Invite) answer.retransmissions ≡ Some n.at
-  pub reports : (now : ℕ) (n : DueEntryView) → next_due now (live h) ≡ Some n → n.entry.key ≡ key → message_due n.entry ≡ Some place → due_result (Some n) ≡ due.Again e.peer n.at answer.text
+  pub reports : (now : ℕ) (n : DueEntryView) → next_due now (live h) ≡ Some n → n.entry.key ≡ key → message_due n.entry ≡ Some place →
+      due_result (Some n) ≡ due.Again e.peer n.at answer.text
 
 abbrev pub ReliableAreRetransmitted : Type 0
-ReliableAreRetransmitted = (h : List TransactionOp) (key : ℕ) (e : Entry) (place : ℕ) (answer : ReliableResponse) → IsRun h → WaitsAt key h e place answer → IsRetransmitted h key e place answer
+ReliableAreRetransmitted = (h : List TransactionOp) (key : ℕ) (e : Entry) (place : ℕ) (answer : ReliableResponse) → IsRun h →
+    WaitsAt key h e place answer → IsRetransmitted h key e place answer
 
 -- what was settled no longer waits
 abbrev pub SettledAreGone : Type 0

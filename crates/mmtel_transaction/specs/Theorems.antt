@@ -120,12 +120,14 @@ pub record OpensNothing (key : ℕ) (h : List TransactionOp) (p : Peer) (m : Mes
 
 -- a request that opened a server transaction opens nothing when it is received again, from whichever peer, until the end of that transaction was reported
 abbrev pub RetransmissionsOpenNothing : Type 0
-RetransmissionsOpenNothing = (h g : List TransactionOp) (p q : Peer) (m n : Message Start) (t : ℕ) → IsRun (g ++ DidHear p m t part.Fresh ∷ h) → IsRetransmissionOf (head_of m) (head_of n) →
+RetransmissionsOpenNothing = (h g : List TransactionOp) (p q : Peer) (m n : Message Start) (t : ℕ) →
+    IsRun (g ++ DidHear p m t part.Fresh ∷ h) → IsRetransmissionOf (head_of m) (head_of n) →
     EndWasReported (length (openings h)) g (DidHear p m t part.Fresh ∷ h) ⊎ OpensNothing (length (openings h)) (g ++ DidHear p m t part.Fresh ∷ h) q n
 
 -- and from another peer than the one that opened the transaction, it gets nothing
 abbrev pub StrangersGetNothing : Type 0
-StrangersGetNothing = (h g : List TransactionOp) (p q : Peer) (m n : Message Start) (t : ℕ) → IsRun (g ++ DidHear p m t part.Fresh ∷ h) → IsRetransmissionOf (head_of m) (head_of n) →
+StrangersGetNothing = (h g : List TransactionOp) (p q : Peer) (m n : Message Start) (t : ℕ) → IsRun (g ++ DidHear p m t part.Fresh ∷ h) →
+    IsRetransmissionOf (head_of m) (head_of n) →
     (q.0 ≡ p.0 → ⊥) → EndWasReported (length (openings h)) g (DidHear p m t part.Fresh ∷ h) ⊎ (hear_result (g ++ DidHear p m t part.Fresh ∷ h) q n ≡ Some (heard.Repeat None))
 
 -- what an ACK of the non-2xx final of this transaction leaves

@@ -2,7 +2,8 @@
 ghost use Rattle.std.specs.Prelude.{◌≡◌, IfOk, option_copied};
 ghost use Rattle.std.specs.Ordering.{ordering_then};
 ghost use Rattle.mmtel_timers.specs.Shelves.{comes_before, lookup_result};
-ghost use Rattle.mmtel_transaction.specs.Indexes.{call_match, client_match, deadline_cmp, deadline_key, is_same_match, match_cmp, match_key, moment_rank, searched_key, server_match, text_cmp};
+ghost use Rattle.mmtel_transaction.specs.Indexes.{call_match, client_match, deadline_cmp, deadline_key, is_same_match};
+ghost use Rattle.mmtel_transaction.specs.Indexes.{match_cmp, match_key, moment_rank, searched_key, server_match, text_cmp};
 ghost use Rattle.mmtel_transaction.specs.Hashes.{hash_of};
 
 use crate::entries::{Entry, armed_by, deadline_of};

@@ -1,7 +1,8 @@
 //! Removing items from shelves, and inserting others.
 ghost use Rattle.std.specs.Prelude.{◌≡◌, IfOk, OnErr, slice_get};
 ghost use Rattle.mmtel_timers.specs.Shelves.{lookup_result, Ascends, Has};
-ghost use Rattle.mmtel_transaction.specs.Indexes.{ack_match, call_match, client_match, is_same_match, searched_key, Moves, match_cmp, Puts, server_match, Removes, merged_match, deadline_cmp};
+ghost use Rattle.mmtel_transaction.specs.Indexes.{ack_match, call_match, client_match, is_same_match, searched_key, Moves};
+ghost use Rattle.mmtel_transaction.specs.Indexes.{match_cmp, Puts, server_match, Removes, merged_match, deadline_cmp};
 
 use crate::entries::Entry;
 use crate::heads::Head;

@@ -4,7 +4,8 @@ ghost use Rattle.mmtel_transaction.specs.Theorems.{CapacityRemains, OthersTimeOu
 ghost use Rattle.mmtel_transaction.specs.Equivalence.{TextsDecideNothing};
 ghost use Rattle.mmtel_transaction.specs.OnePeer.{KeepsPeers, NewPeers, RequestPeers};
 ghost use Rattle.mmtel_transaction.specs.Matching.{AcksBelong, HearsByMatching, OwnersAreLive};
-ghost use Rattle.mmtel_transaction.specs.Retransmissions.{AckedRetransmitsNothing, AcksOf2xxEndRetransmission, FinalsAwaitTheirAck, KeptAcksAreRetransmitted, RingingDoesNotTimeOut, UnansweredTimeOut};
+ghost use Rattle.mmtel_transaction.specs.Retransmissions.{AckedRetransmitsNothing, AcksOf2xxEndRetransmission, FinalsAwaitTheirAck};
+ghost use Rattle.mmtel_transaction.specs.Retransmissions.{KeptAcksAreRetransmitted, RingingDoesNotTimeOut, UnansweredTimeOut};
 ghost use Rattle.mmtel_transaction.specs.Pracks.{FinalsEndReliable, ReliableAreRetransmitted, ReliableGoOn, SentReliableWait, SettledAreGone};
 ghost use Rattle.mmtel_transaction.specs.Firings.{ArmedInItsStep, BeginsChangeNothing, DueIsCounted, FiringsEnd, FiringsLeaveFewer, FiringsUseUp, MoreChangesNothing};
 ghost use Rattle.mmtel_transaction.specs.Firings.{NoneIsDue, SendsAddNone, UpcomingIsLeast};

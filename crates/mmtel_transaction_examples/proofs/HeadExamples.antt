@@ -64,15 +64,18 @@ unfolding next_separator
 one_via = ap (λ (ps : List (List ℕ)). trim (first_in ps)) (one_part Plain via_value refl)
 
 at_via : via_at (trim via_value) ≡ Some via
-unfolding Classes.in_class Numbers.value_up_to Numbers.number_of Scanning.leading_run Scanning.after_run Scanning.split_once_at Scanning.closing_quote_from Scanning.without_trailing Reading.token_at Reading.text_at Reading.value_at Reading.param_at Reading.params_at Reading.all_params_at Reading.host_at Reading.port_number Reading.port_at Fields.via_at
+unfolding Classes.in_class Numbers.value_up_to Numbers.number_of Scanning.leading_run Scanning.after_run Scanning.split_once_at Scanning.closing_quote_from Scanning.without_trailing Reading.token_at
+    Reading.text_at Reading.value_at Reading.param_at Reading.params_at Reading.all_params_at Reading.host_at Reading.port_number Reading.port_at Fields.via_at
 at_via = refl
 
 call : (uri from : List ℕ) → call_in (invite_from uri from).lines ≡ Some (codes "c", cseq)
-unfolding Classes.in_class Numbers.value_up_to Numbers.number_of Scanning.leading_run Scanning.after_run Scanning.split_once_at Scanning.closing_quote_from Scanning.without_trailing Reading.token_at Fields.call_in Fields.cseq_at
+unfolding Classes.in_class Numbers.value_up_to Numbers.number_of Scanning.leading_run Scanning.after_run Scanning.split_once_at Scanning.closing_quote_from Scanning.without_trailing Reading.token_at
+    Fields.call_in Fields.cseq_at
 call uri from = refl
 
 -- the head of an INVITE by what is read of From and To
-by_fields : (uri from : List ℕ) (f : NameAddr) → parties_in (invite_from uri from).lines ≡ Some (f, to) → head_of (invite_from uri from) ≡ head_with (invite_from uri from).start (Some (record { via = via; from = f; to = to; call_id = codes "c"; cseq = cseq }))
+by_fields : (uri from : List ℕ) (f : NameAddr) → parties_in (invite_from uri from).lines ≡ Some (f, to) →
+    head_of (invite_from uri from) ≡ head_with (invite_from uri from).start (Some (record { via = via; from = f; to = to; call_id = codes "c"; cseq = cseq }))
 unfolding head_of five_at
 by_fields uri from f p =
     let m : Message Start = invite_from uri from in
@@ -81,7 +84,8 @@ by_fields uri from f p =
     ∙ ap (λ (d : Option (List ℕ × CSeq)). head_with m.start (five_by (Some via) (Some (f, to)) d)) (call uri from))
 
 parties_plain : parties_in (invite_from (codes "a:b") (codes "<a:b>;tag=f")).lines ≡ Some (party ([]) (codes "a:b") (codes "f"), to)
-unfolding Classes.in_class Numbers.value_up_to Numbers.number_of Scanning.leading_run Scanning.after_run Scanning.split_once_at Scanning.closing_quote_from Scanning.without_trailing Reading.token_at Reading.text_at Reading.value_at Reading.param_at Reading.params_at Reading.all_params_at Reading.angle_of Reading.bare_of Reading.words_of Reading.quoted_of Reading.name_addr_of Fields.parties_in
+unfolding Classes.in_class Numbers.value_up_to Numbers.number_of Scanning.leading_run Scanning.after_run Scanning.split_once_at Scanning.closing_quote_from Scanning.without_trailing Reading.token_at
+    Reading.text_at Reading.value_at Reading.param_at Reading.params_at Reading.all_params_at Reading.angle_of Reading.bare_of Reading.words_of Reading.quoted_of Reading.name_addr_of Fields.parties_in
 parties_plain = refl
 
 head_plain : head_of (invite_from (codes "a:b") (codes "<a:b>;tag=f")) ≡ request (codes "INVITE") (codes "i") []
@@ -89,7 +93,8 @@ unfolding Classes.in_class Scanning.closing_quote_from
 head_plain = by_fields (codes "a:b") (codes "<a:b>;tag=f") (party ([]) (codes "a:b") (codes "f")) parties_plain
 
 parties_named : parties_in (invite_from (codes "c:d") (codes "\"A\" <c:d>;tag=f")).lines ≡ Some (party (codes "\"A\"") (codes "c:d") (codes "f"), to)
-unfolding Classes.in_class Numbers.value_up_to Numbers.number_of Scanning.leading_run Scanning.after_run Scanning.split_once_at Scanning.closing_quote_from Scanning.without_trailing Reading.token_at Reading.text_at Reading.value_at Reading.param_at Reading.params_at Reading.all_params_at Reading.angle_of Reading.bare_of Reading.words_of Reading.quoted_of Reading.name_addr_of Fields.parties_in
+unfolding Classes.in_class Numbers.value_up_to Numbers.number_of Scanning.leading_run Scanning.after_run Scanning.split_once_at Scanning.closing_quote_from Scanning.without_trailing Reading.token_at
+    Reading.text_at Reading.value_at Reading.param_at Reading.params_at Reading.all_params_at Reading.angle_of Reading.bare_of Reading.words_of Reading.quoted_of Reading.name_addr_of Fields.parties_in
 parties_named = refl
 
 head_named : head_of (invite_from (codes "c:d") (codes "\"A\" <c:d>;tag=f")) ≡ request (codes "INVITE") (codes "i") []
@@ -97,7 +102,8 @@ unfolding Classes.in_class Scanning.closing_quote_from
 head_named = by_fields (codes "c:d") (codes "\"A\" <c:d>;tag=f") (party (codes "\"A\"") (codes "c:d") (codes "f")) parties_named
 
 parties_other : parties_in (invite_from (codes "a:b") (codes "<a:b>;tag=g")).lines ≡ Some (party ([]) (codes "a:b") (codes "g"), to)
-unfolding Classes.in_class Numbers.value_up_to Numbers.number_of Scanning.leading_run Scanning.after_run Scanning.split_once_at Scanning.closing_quote_from Scanning.without_trailing Reading.token_at Reading.text_at Reading.value_at Reading.param_at Reading.params_at Reading.all_params_at Reading.angle_of Reading.bare_of Reading.words_of Reading.quoted_of Reading.name_addr_of Fields.parties_in
+unfolding Classes.in_class Numbers.value_up_to Numbers.number_of Scanning.leading_run Scanning.after_run Scanning.split_once_at Scanning.closing_quote_from Scanning.without_trailing Reading.token_at
+    Reading.text_at Reading.value_at Reading.param_at Reading.params_at Reading.all_params_at Reading.angle_of Reading.bare_of Reading.words_of Reading.quoted_of Reading.name_addr_of Fields.parties_in
 parties_other = refl
 
 head_other : head_of (invite_from (codes "a:b") (codes "<a:b>;tag=g")) ≡ record (request (codes "INVITE") (codes "i") []) { from_tag = codes "g" }

@@ -40,7 +40,18 @@ requests_bye_says : (c : Messages) → hear_result (after_acceptance c) (peer 1)
 requests_bye_says c = rw (plain_success c, c.of_bye, c.of_invite, c.of_success, c.of_bye) refl
 
 pub requests : RequestsMatch
-requests = record { cancel = requests_cancel; cancel_result = requests_cancel_says; lone_cancel = requests_lone_cancel; early_ack = requests_early_ack; ack = requests_ack; ack_result = requests_ack_says; ack_2xx = requests_ack_2xx; ack_2xx_result = requests_ack_2xx_says; bye = requests_bye; bye_result = requests_bye_says }
+requests = record {
+  cancel = requests_cancel;
+  cancel_result = requests_cancel_says;
+  lone_cancel = requests_lone_cancel;
+  early_ack = requests_early_ack;
+  ack = requests_ack;
+  ack_result = requests_ack_says;
+  ack_2xx = requests_ack_2xx;
+  ack_2xx_result = requests_ack_2xx_says;
+  bye = requests_bye;
+  bye_result = requests_bye_says;
+}
 
 responses_answer : (c : Messages) → matching_key (sent_invite c) c.busy ≡ Some (tkey 0)
 responses_answer c = rw (c.of_busy, c.of_invite) refl

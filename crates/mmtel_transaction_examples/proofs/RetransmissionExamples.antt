@@ -13,7 +13,8 @@ use Rattle.mmtel_transaction.specs.declared.message_class.MessageClass.TheVarian
 use Rattle.mmtel_transaction.specs.declared.words.Due.TheVariants as due
 use Rattle.mmtel_transaction.specs.declared.words.Heard.TheVariants as heard
 use Rattle.mmtel_transaction_examples.specs.CallMessages.{Messages, after_acceptance, after_busy, peer, received_invite, request, response, sent_invite}
-use Rattle.mmtel_transaction_examples.specs.RetransmissionExamples.{AcksReceivedAndKept, FinalAwaitsAck, InviteAmongOthers, ReliableAwaitsPrack, after_firings_of_first, after_options_response, after_reliable_ringing, busy_retransmission, first_due, invite_and_options, invite_retransmission, ringing_retransmission}
+use Rattle.mmtel_transaction_examples.specs.RetransmissionExamples.{AcksReceivedAndKept, FinalAwaitsAck, InviteAmongOthers, ReliableAwaitsPrack, after_firings_of_first, after_options_response}
+use Rattle.mmtel_transaction_examples.specs.RetransmissionExamples.{after_reliable_ringing, busy_retransmission, first_due, invite_and_options, invite_retransmission, ringing_retransmission}
 use Rattle.mmtel_transaction_examples.proofs.CallPlain.{plain_busy, plain_success}
 use Rattle.mmtel_transaction_examples.proofs.Stages.{fires_one, front, next, pair, replies, response_gives}
 
@@ -269,7 +270,8 @@ module _ (c : Messages) where
       (replies 0 c.ringing 100 0 0 opening (response 180 (codes "INVITE") (codes "i")) none c.of_ringing))
 
 pub requests : InviteAmongOthers
-requests = record { first = requests_first; other = requests_other; second = requests_second; third = requests_third; last = requests_last; timed_out = requests_given_up; nothing = requests_nothing; rings = requests_rings }
+requests =
+    record { first = requests_first; other = requests_other; second = requests_second; third = requests_third; last = requests_last; timed_out = requests_given_up; nothing = requests_nothing; rings = requests_rings }
 
 pub finals : FinalAwaitsAck
 finals = record { first = finals_first; second = finals_second; last = finals_last; over = finals_over; acked = finals_acked; second_ack = finals_second_ack }

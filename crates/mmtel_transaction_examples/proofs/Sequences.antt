@@ -187,13 +187,15 @@ module _ (c : Worked) where
   opens = fresh [] (peer 1) c.first invite [] refl c.of_first refl
 
   ringing_retransmission : hear_result after_ringing (peer 1) c.first ≡ Some (heard.Repeat (Some (peer 1, message_text c.rings)))
-  ringing_retransmission = retransmission_gives after_ringing (peer 1) c.first invite _ 0 (front after_ringing opening rung (drop 1 (openings after_ringing)) (opened_as (drop 1 (openings after_ringing))) is_rung) c.of_first refl
+  ringing_retransmission = retransmission_gives after_ringing (peer 1) c.first invite _ 0
+      (front after_ringing opening rung (drop 1 (openings after_ringing)) (opened_as (drop 1 (openings after_ringing))) is_rung) c.of_first refl
 
   refused_again : hear_result refused (peer 1) c.first ≡ Some (heard.Repeat (Some (peer 1, message_text c.busy)))
   refused_again = retransmission_gives refused (peer 1) c.first invite _ 0 (front refused opening with_busy (drop 1 (openings refused)) (opened_as (drop 1 (openings refused))) is_busy) c.of_first refl
 
   nothing_again : hear_result after_acknowledging (peer 1) c.first ≡ Some (heard.Repeat None)
-  nothing_again = retransmission_gives after_acknowledging (peer 1) c.first invite _ 0 (front after_acknowledging opening with_ack (drop 1 (openings after_acknowledging)) (opened_as (drop 1 (openings after_acknowledging))) is_acked) c.of_first refl
+  nothing_again = retransmission_gives after_acknowledging (peer 1) c.first invite _ 0
+      (front after_acknowledging opening with_ack (drop 1 (openings after_acknowledging)) (opened_as (drop 1 (openings after_acknowledging))) is_acked) c.of_first refl
 
   -- ---- the caller's side alone
 

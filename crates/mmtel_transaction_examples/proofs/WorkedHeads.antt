@@ -46,11 +46,13 @@ abbrev via_value : List ℕ → List ℕ
 via_value branch = codes "SIP/2.0/UDP a;branch=" ++ branch
 
 via_a : via_at (trim (via_value (codes "a"))) ≡ Some (via (codes "a"))
-unfolding Classes.in_class Numbers.value_up_to Numbers.number_of Scanning.leading_run Scanning.after_run Scanning.split_once_at Scanning.closing_quote_from Scanning.without_trailing Reading.token_at Reading.text_at Reading.value_at Reading.param_at Reading.params_at Reading.all_params_at Reading.host_at Reading.port_number Reading.port_at Fields.via_at
+unfolding Classes.in_class Numbers.value_up_to Numbers.number_of Scanning.leading_run Scanning.after_run Scanning.split_once_at Scanning.closing_quote_from Scanning.without_trailing Reading.token_at
+    Reading.text_at Reading.value_at Reading.param_at Reading.params_at Reading.all_params_at Reading.host_at Reading.port_number Reading.port_at Fields.via_at
 via_a = refl
 
 via_b : via_at (trim (via_value (codes "b"))) ≡ Some (via (codes "b"))
-unfolding Classes.in_class Numbers.value_up_to Numbers.number_of Scanning.leading_run Scanning.after_run Scanning.split_once_at Scanning.closing_quote_from Scanning.without_trailing Reading.token_at Reading.text_at Reading.value_at Reading.param_at Reading.params_at Reading.all_params_at Reading.host_at Reading.port_number Reading.port_at Fields.via_at
+unfolding Classes.in_class Numbers.value_up_to Numbers.number_of Scanning.leading_run Scanning.after_run Scanning.split_once_at Scanning.closing_quote_from Scanning.without_trailing Reading.token_at
+    Reading.text_at Reading.value_at Reading.param_at Reading.params_at Reading.all_params_at Reading.host_at Reading.port_number Reading.port_at Fields.via_at
 via_b = refl
 
 none_a : next_separator Plain (via_value (codes "a")) ≡ None
@@ -62,11 +64,13 @@ unfolding next_separator
 none_b = refl
 
 parties : parties_in first_invite.lines ≡ Some (party (codes "sip:a@h") (codes "a"), party (codes "sip:b@h") (codes "b"))
-unfolding Classes.in_class Numbers.value_up_to Numbers.number_of Scanning.leading_run Scanning.after_run Scanning.split_once_at Scanning.closing_quote_from Scanning.without_trailing Reading.token_at Reading.text_at Reading.value_at Reading.param_at Reading.params_at Reading.all_params_at Reading.angle_of Reading.bare_of Reading.words_of Reading.quoted_of Reading.name_addr_of Fields.parties_in
+unfolding Classes.in_class Numbers.value_up_to Numbers.number_of Scanning.leading_run Scanning.after_run Scanning.split_once_at Scanning.closing_quote_from Scanning.without_trailing Reading.token_at
+    Reading.text_at Reading.value_at Reading.param_at Reading.params_at Reading.all_params_at Reading.angle_of Reading.bare_of Reading.words_of Reading.quoted_of Reading.name_addr_of Fields.parties_in
 parties = refl
 
 call : (branch : List ℕ) → call_in (message_with (Status 0 []) branch (codes "INVITE")).lines ≡ Some (codes "c", cseq)
-unfolding Classes.in_class Numbers.value_up_to Numbers.number_of Scanning.leading_run Scanning.after_run Scanning.split_once_at Scanning.closing_quote_from Scanning.without_trailing Reading.token_at Fields.call_in Fields.cseq_at
+unfolding Classes.in_class Numbers.value_up_to Numbers.number_of Scanning.leading_run Scanning.after_run Scanning.split_once_at Scanning.closing_quote_from Scanning.without_trailing Reading.token_at
+    Fields.call_in Fields.cseq_at
 call branch = refl
 
 five_a : five_at first_invite.lines ≡ Some (five (codes "a"))

@@ -45,7 +45,8 @@ Timeout = results_in_turn 8 40000 (DidAsk (peer 1) first_invite 0 ∷ []) ≡ re
 
 -- and another one that is sent to peer 2 then
 abbrev pub SecondTimeout : Type 0
-SecondTimeout = results_in_turn 5 40000 (DidAsk (peer 2) second_invite 32000 ∷ []) ≡ retransmission (peer 2) second_invite 32000 500 ∷ retransmission (peer 2) second_invite 32000 1500
+SecondTimeout = results_in_turn 5 40000 (DidAsk (peer 2) second_invite 32000 ∷ [])
+    ≡ retransmission (peer 2) second_invite 32000 500 ∷ retransmission (peer 2) second_invite 32000 1500
     ∷ retransmission (peer 2) second_invite 32000 3500 ∷ retransmission (peer 2) second_invite 32000 7500 ∷ due.Nothing ∷ []
 
 -- a retransmitted INVITE and its final: the INVITE of peer 1, which is relayed to peer 2

@@ -99,7 +99,8 @@ changed_if true p name f l xs k e = rw (kind_like l.0 name e, k l.1, e) refl
 changed_if false p name f l xs k e = rw (none_left name l.0 (masked_value p (kind_of l.0) l.1) e) refl
 
 -- they stay in number and order
-pub named-changed : (p : PrivateFields) (name : List ℕ) (f : List ℕ → List ℕ) → ((v : List ℕ) → masked_value p (kind_of name) v ≡ Some (f v)) → (ls : List Line) → lines_named name (masked_lines p ls) ≡ map (with_value f) (lines_named name ls)
+pub named-changed : (p : PrivateFields) (name : List ℕ) (f : List ℕ → List ℕ) → ((v : List ℕ) → masked_value p (kind_of name) v ≡ Some (f v)) → (ls : List Line) →
+    lines_named name (masked_lines p ls) ≡ map (with_value f) (lines_named name ls)
 named-changed p name f k [] = refl
 named-changed p name f k (l ∷ ls) =
     filter-append (λ x. is_line name x) (masked_line p l) (masked_lines p ls)
@@ -110,7 +111,8 @@ values_changed : (f : List ℕ → List ℕ) (ls : List Line) → map (λ l. l.1
 values_changed f [] = refl
 values_changed f (l ∷ ls) = ap (λ (vs : List (List ℕ)). f l.1 ∷ vs) (values_changed f ls)
 
-pub texts-changed : (p : PrivateFields) (name : List ℕ) (f : List ℕ → List ℕ) → ((v : List ℕ) → masked_value p (kind_of name) v ≡ Some (f v)) → (ls : List Line) → line_texts name (masked_lines p ls) ≡ map f (line_texts name ls)
+pub texts-changed : (p : PrivateFields) (name : List ℕ) (f : List ℕ → List ℕ) → ((v : List ℕ) → masked_value p (kind_of name) v ≡ Some (f v)) → (ls : List Line) →
+    line_texts name (masked_lines p ls) ≡ map f (line_texts name ls)
 texts-changed p name f k ls = ap (λ (xs : List Line). map (λ l. l.1) xs) (named-changed p name f k ls) ∙ values_changed f (lines_named name ls)
 
 pub texts-masked : (p : PrivateFields) (name : List ℕ) (ls : List Line) → keeps_values p (kind_of name) ≡ true → line_texts name (masked_lines p ls) ≡ line_texts name ls

@@ -15,7 +15,8 @@ use Rattle.mmtel_message.specs.declared.values.Mode.{Mode}
 use Rattle.mmtel_message.specs.declared.values.Mode.TheVariants.{Words, Plain}
 use Rattle.mmtel_trust.specs.Kinds.{kind_of}
 use Rattle.mmtel_trust.specs.Privacy.{words, wants}
-use Rattle.mmtel_trust.specs.PrivateFields.{Entries, NoEntries, MarkedEntries, AllEntries, only_entries, are_public, keeps_values, hidden_value, PrivateFields, hide_if, serve_if, unless_removed, masked_entries, masked_value, with_name, masked_line, masked_lines}
+use Rattle.mmtel_trust.specs.PrivateFields.{Entries, NoEntries, MarkedEntries, AllEntries, only_entries, are_public, keeps_values, hidden_value, PrivateFields}
+use Rattle.mmtel_trust.specs.PrivateFields.{hide_if, serve_if, unless_removed, masked_entries, masked_value, with_name, masked_line, masked_lines}
 use Rattle.mmtel_trust.specs.Asserted.{asserted}
 use Rattle.mmtel_trust.specs.ParsedMessage.{tag_of, origin_account}
 use Rattle.mmtel_trust.specs.HeaderTable.{is_shown, passed_lines, attempt_from}
@@ -94,7 +95,8 @@ first_named name (l ∷ ls) = first_if (is_line name l) name l ls refl (first_na
 pub first-masked : (p : PrivateFields) (name : List ℕ) (ls : List Line) → keeps_values p (kind_of name) ≡ true → first_value name (masked_lines p ls) ≡ first_value name ls
 first-masked p name ls k = first_named name (masked_lines p ls) ∙ (ap head_value (named-masked p name ls k) ∙ sym (first_named name ls))
 
-only_if : {B : Type 0} (b : Bool) (name : List ℕ) (g : Line → List B) (l : Line) (ls : List Line) → is_line name l ≡ b → (b ≡ false → g l ≡ []) → flat_map g ls ≡ flat_map g (lines_named name ls) → flat_map g (l ∷ ls) ≡ flat_map g (lines_named name (l ∷ ls))
+only_if : {B : Type 0} (b : Bool) (name : List ℕ) (g : Line → List B) (l : Line) (ls : List Line) → is_line name l ≡ b → (b ≡ false → g l ≡ []) → flat_map g ls ≡ flat_map g (lines_named name ls) →
+    flat_map g (l ∷ ls) ≡ flat_map g (lines_named name (l ∷ ls))
 only_if true name g l ls e none ih = rw e (ap (λ ys. g l ++ ys) ih)
 only_if false name g l ls e none ih = rw (e, none refl) ih
 
@@ -102,7 +104,8 @@ pub only_named : {B : Type 0} (name : List ℕ) (g : Line → List B) → ((l : 
 only_named name g none [] = refl
 only_named name g none (l ∷ ls) = only_if (is_line name l) name g l ls refl (none l) (only_named name g none ls)
 
-pub each-masked : {B : Type 0} (p : PrivateFields) (name : List ℕ) (g : Line → List B) → ((l : Line) → is_line name l ≡ false → g l ≡ []) → (ls : List Line) → keeps_values p (kind_of name) ≡ true → flat_map g (masked_lines p ls) ≡ flat_map g ls
+pub each-masked : {B : Type 0} (p : PrivateFields) (name : List ℕ) (g : Line → List B) → ((l : Line) → is_line name l ≡ false → g l ≡ []) → (ls : List Line) → keeps_values p (kind_of name) ≡ true →
+    flat_map g (masked_lines p ls) ≡ flat_map g ls
 each-masked p name g none ls k = only_named name g none (masked_lines p ls) ∙ (ap (λ xs. flat_map g xs) (named-masked p name ls k) ∙ sym (only_named name g none ls))
 
 no_values : (m : Mode) (name : List ℕ) (l : Line) → is_line name l ≡ false → line_values m name l ≡ []
@@ -131,12 +134,14 @@ skipped name n None more e = sym (first_named name more)
 skipped name n (Some v) more e = rw e (sym (first_named name more))
 
 -- the first value of a name whose lines stay is changed by masking as a single value is
-changed_if : (b : Bool) (p : PrivateFields) (name : List ℕ) (f : List ℕ → List ℕ) (l : Line) (ls : List Line) → ((v : List ℕ) → masked_value p (kind_of name) v ≡ Some (f v)) → is_line name l ≡ b → first_value name (masked_lines p ls) ≡ option_map f (first_value name ls) → first_value name (masked_lines p (l ∷ ls)) ≡ option_map f (first_value name (l ∷ ls))
+changed_if : (b : Bool) (p : PrivateFields) (name : List ℕ) (f : List ℕ → List ℕ) (l : Line) (ls : List Line) → ((v : List ℕ) → masked_value p (kind_of name) v ≡ Some (f v)) → is_line name l ≡ b →
+    first_value name (masked_lines p ls) ≡ option_map f (first_value name ls) → first_value name (masked_lines p (l ∷ ls)) ≡ option_map f (first_value name (l ∷ ls))
 unfolding masked_line
 changed_if true p name f l ls k e ih = rw (kind_like l.0 name e, k l.1, e) refl
 changed_if false p name f l ls k e ih = rw e (first_named name (with_name l.0 (masked_value p (kind_of l.0) l.1) ++ masked_lines p ls) ∙ (skipped name l.0 (masked_value p (kind_of l.0) l.1) (masked_lines p ls) e ∙ ih))
 
-pub changed : (p : PrivateFields) (name : List ℕ) (f : List ℕ → List ℕ) (ls : List Line) → ((v : List ℕ) → masked_value p (kind_of name) v ≡ Some (f v)) → first_value name (masked_lines p ls) ≡ option_map f (first_value name ls)
+pub changed : (p : PrivateFields) (name : List ℕ) (f : List ℕ → List ℕ) (ls : List Line) → ((v : List ℕ) → masked_value p (kind_of name) v ≡ Some (f v)) →
+    first_value name (masked_lines p ls) ≡ option_map f (first_value name ls)
 changed p name f [] k = refl
 changed p name f (l ∷ ls) k = changed_if (is_line name l) p name f l ls k refl (changed p name f ls k)
 
@@ -177,7 +182,8 @@ served_kept : (es : Entries) → keeps_values (only_entries es) (kind_of (codes 
 unfolding kind_of
 served_kept es = refl
 
-shown_kind : (es : Entries) (f : Facing) (to_trusted : Bool) (k : HeaderKind) (l : Line) → kind_of l.0 ≡ k → filter (is_shown f to_trusted) (with_name l.0 (masked_value (only_entries es) k l.1)) ≡ filter (is_shown f to_trusted) (l ∷ [])
+shown_kind : (es : Entries) (f : Facing) (to_trusted : Bool) (k : HeaderKind) (l : Line) → kind_of l.0 ≡ k →
+    filter (is_shown f to_trusted) (with_name l.0 (masked_value (only_entries es) k l.1)) ≡ filter (is_shown f to_trusted) (l ∷ [])
 unfolding is_shown
 shown_kind es f to_trusted From l e = refl
 shown_kind es f to_trusted To l e = refl
@@ -207,7 +213,8 @@ passed-entries es f to_trusted history ls =
       filtered (masked_line (only_entries es)) (is_shown f to_trusted) (shown_alone es f to_trusted) ls,
     ) refl
 
-pub passed_equal-entries : (es other : Entries) (f : Facing) (to_trusted : Bool) (history ls ms : List Line) → masked_lines (only_entries es) ls ≡ masked_lines (only_entries other) ms → passed_lines f to_trusted history ls ≡ passed_lines f to_trusted history ms
+pub passed_equal-entries : (es other : Entries) (f : Facing) (to_trusted : Bool) (history ls ms : List Line) → masked_lines (only_entries es) ls ≡ masked_lines (only_entries other) ms →
+    passed_lines f to_trusted history ls ≡ passed_lines f to_trusted history ms
 passed_equal-entries es other f to_trusted history ls ms e =
     sym (passed-entries es f to_trusted history ls) ∙ (ap (λ (xs : List Line). passed_lines f to_trusted history xs) e ∙ passed-entries other f to_trusted history ms)
 

@@ -48,8 +48,10 @@ covers_addr ks pairs a i = covered (is_at a) (λ k. addr_hash k.addr) (addr_hash
 pub covers_name : (rs : List Route) (pairs : List (ℕ × ℕ)) (name : List ℕ) → IsIndex (λ r. name_hash r.name) rs pairs → Covers (is_route name) (name_hash name) rs pairs
 covers_name rs pairs name i = covered (is_route name) (λ r. name_hash r.name) (name_hash name) rs pairs i (λ r y. names_share r.name name y)
 
-pub kept_by_name : (t : Peers) (h p : ℕ) (numbers addrs names more : List (ℕ × ℕ)) (bound wider : ℕ) → IsPeerTableState t numbers addrs names bound → HasAlso h p names more → bound ≤ wider → IsPeerTableState t numbers addrs more wider
-kept_by_name t h p numbers addrs names more bound wider i m less = record { sound = i.sound; numbers = i.numbers; addrs = i.addrs; names = index_kept (λ r. name_hash r.name) t.routes h p names more i.names m; within = wider_all bound wider t.routes less i.within }
+pub kept_by_name : (t : Peers) (h p : ℕ) (numbers addrs names more : List (ℕ × ℕ)) (bound wider : ℕ) → IsPeerTableState t numbers addrs names bound → HasAlso h p names more → bound ≤ wider →
+    IsPeerTableState t numbers addrs more wider
+kept_by_name t h p numbers addrs names more bound wider i m less =
+    record { sound = i.sound; numbers = i.numbers; addrs = i.addrs; names = index_kept (λ r. name_hash r.name) t.routes h p names more i.names m; within = wider_all bound wider t.routes less i.within }
 
 pub peer_more : (t : Peers) (p : Peer) (a : Addr) (trusted : Bool) (g h place : ℕ) (numbers more_numbers addrs more_addrs names : List (ℕ × ℕ)) (bound : ℕ) → IsPeerTableState t numbers addrs names bound →
     has_number p t.known ≡ false → has_addr a t.known ≡ false → g ≡ p.0 → h ≡ addr_hash a → place ≡ length t.known → HasAlso g place numbers more_numbers → HasAlso h place addrs more_addrs →

@@ -10,7 +10,8 @@ use Rattle.mmtel_message.specs.declared.values.Mode.{Mode}
 use Rattle.mmtel_trust.specs.HeaderTable.{is_shown, other_lines}
 use Rattle.mmtel_trust.specs.declared.header_table.Facing.{Facing}
 
-pub others_grow : (f : Facing) (to_trusted : Bool) (ls : List Line) (i : ℕ) (x : Line) (before out new : List Line) → take (i + 1) ls ≡ take i ls ++ x ∷ [] → out ≡ before ++ other_lines f to_trusted (take i ls) → new ≡ out ++ other_lines f to_trusted (x ∷ []) → new ≡ before ++ other_lines f to_trusted (take (i + 1) ls)
+pub others_grow : (f : Facing) (to_trusted : Bool) (ls : List Line) (i : ℕ) (x : Line) (before out new : List Line) → take (i + 1) ls ≡ take i ls ++ x ∷ [] →
+    out ≡ before ++ other_lines f to_trusted (take i ls) → new ≡ out ++ other_lines f to_trusted (x ∷ []) → new ≡ before ++ other_lines f to_trusted (take (i + 1) ls)
 others_grow f to_trusted ls i x before out new last so_far made =
     grows (λ (l : List Line). other_lines f to_trusted l) (filter-append (is_shown f to_trusted)) ls i x before out new last so_far made
 

@@ -11,7 +11,8 @@ use Rattle.mmtel_types.specs.declared.numbers.Account.{Account}
 use Rattle.mmtel_trust.specs.Asserted.{asserted}
 use Rattle.mmtel_trust.specs.ParsedMessage.{ParsedMessage, caller_account, has_any_identity, is_caller_identified, origin_account, served_account, terminates}
 use Rattle.mmtel_trust.specs.PrivateFields.{Entries, NoEntries, MarkedEntries, AllEntries, PrivateFields, hidden_entries, joined_fields, joined_entries, masked_lines, only_entries, private_fields_in, redirects}
-use Rattle.mmtel_trust.specs.MaskedMessages.{CallerFacts, DecideTheSame, MaskedMessage, NameSameCaller, Restriction, caller_facts_if, hide, is_private, mask, private_entries, private_fields_of, private_in_opening_if, public_part}
+use Rattle.mmtel_trust.specs.MaskedMessages.{CallerFacts, DecideTheSame, MaskedMessage, NameSameCaller, Restriction, caller_facts_if, hide}
+use Rattle.mmtel_trust.specs.MaskedMessages.{is_private, mask, private_entries, private_fields_of, private_in_opening_if, public_part}
 use Rattle.mmtel_trust.specs.HeaderTable.{attempt_from, passed_lines}
 use Rattle.mmtel_trust.specs.declared.accounts.AccountIdentity.{AccountIdentity}
 use Rattle.mmtel_trust.specs.declared.header_table.Facing.{Facing}
@@ -32,7 +33,8 @@ abbrev private_fields_if : Bool → ParsedMessage → PrivateFields
 private_fields_if b m = joined_fields (private_in_opening_if b) (only_entries (private_entries m))
 
 -- what does not depend on entries of History-Info does not depend on what is hidden of it
-unseen : {B : Type 0} (f : List Line → B) → ((es : Entries) (ls : List Line) → f (masked_lines (only_entries es) ls) ≡ f ls) → (b : Bool) (m : ParsedMessage) → b ≡ false → f (hide (private_fields_if b m) m).lines ≡ f m.lines
+unseen : {B : Type 0} (f : List Line → B) → ((es : Entries) (ls : List Line) → f (masked_lines (only_entries es) ls) ≡ f ls) → (b : Bool) (m : ParsedMessage) → b ≡ false →
+    f (hide (private_fields_if b m) m).lines ≡ f m.lines
 unseen f law true m e = absurd cc
 unseen f law false m e = ap (λ (p : PrivateFields). f (masked_lines p m.lines)) (unplaced m.start (private_entries m)) ∙ law (private_entries m) m.lines
 
@@ -44,7 +46,8 @@ absorbed_if true true h = masked_once true h
 absorbed_if true false h = masked_once false h
 absorbed_if false all h = refl
 
-absorbed_by : (b private all : Bool) (h : List Entry) → masked_list all (hidden_entries (joined_entries (private_in_opening_if b).history (cond private (cond all AllEntries MarkedEntries) NoEntries)) h) ≡ masked_list all h
+absorbed_by : (b private all : Bool) (h : List Entry) →
+    masked_list all (hidden_entries (joined_entries (private_in_opening_if b).history (cond private (cond all AllEntries MarkedEntries) NoEntries)) h) ≡ masked_list all h
 absorbed_by true private all h = absorbed_if private all h
 absorbed_by false private all h = absorbed_if private all h
 
@@ -123,12 +126,14 @@ module _ (restricts : Restriction) (accounts others : List AccountIdentity) (m n
   known_alike = known_by (is_private restricts accounts m) refl
 
   shown_alike : (f : Facing) (history : List Line) → f.restricted ≡ true → passed_lines f false history m.lines ≡ passed_lines f false history n.lines
-  shown_alike f history r = passed_equal (private_fields_in m.start (private_fields_of restricts accounts m)) (private_fields_in n.start (private_fields_of restricts others n)) f history m.lines n.lines r (ap (λ (x : MaskedMessage). x.message.lines) e)
+  shown_alike f history r = passed_equal (private_fields_in m.start (private_fields_of restricts accounts m))
+      (private_fields_in n.start (private_fields_of restricts others n)) f history m.lines n.lines r (ap (λ (x : MaskedMessage). x.message.lines) e)
 
   others_alike : (f : Facing) (to_trusted : Bool) (history : List Line) → is_private restricts accounts m ≡ false → passed_lines f to_trusted history m.lines ≡ passed_lines f to_trusted history n.lines
   others_alike f to_trusted history none = seen_alike (λ ls. passed_lines f to_trusted history ls) (λ es ls. passed-entries es f to_trusted history ls) none
 
-  from_by : (b restricted : Bool) (tag : List ℕ) → is_private restricts accounts m ≡ b → (is_private restricts accounts m ≡ true → restricted ≡ true) → attempt_from restricted tag m.lines ≡ attempt_from restricted tag n.lines
+  from_by : (b restricted : Bool) (tag : List ℕ) → is_private restricts accounts m ≡ b → (is_private restricts accounts m ≡ true → restricted ≡ true) →
+      attempt_from restricted tag m.lines ≡ attempt_from restricted tag n.lines
   from_by true restricted tag is hidden = rw (hidden is) refl
   from_by false restricted tag is hidden = seen_alike (λ ls. attempt_from restricted tag ls) (λ es ls. from-entries es restricted tag ls) is
 

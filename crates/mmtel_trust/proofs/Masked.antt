@@ -20,7 +20,8 @@ use Rattle.mmtel_history.proofs.MaskedValueTheorems.{masked_value_once, masked_v
 use Rattle.mmtel_trust.specs.ParsedMessage.{served_in}
 use Rattle.mmtel_trust.specs.Kinds.{kind_of}
 use Rattle.mmtel_trust.specs.HeaderTable.{is_shown, asserted_lines, passed_lines}
-use Rattle.mmtel_trust.specs.PrivateFields.{Entries, NoEntries, MarkedEntries, AllEntries, hidden_name_addr, hidden_value, is_orig, served_value, PrivateFields, private_fields_in, hide_if, serve_if, unless_removed, masked_entries, masked_value, with_name, masked_line, masked_lines, masked_message}
+use Rattle.mmtel_trust.specs.PrivateFields.{Entries, NoEntries, MarkedEntries, AllEntries, hidden_name_addr, hidden_value, is_orig, served_value, PrivateFields, private_fields_in}
+use Rattle.mmtel_trust.specs.PrivateFields.{hide_if, serve_if, unless_removed, masked_entries, masked_value, with_name, masked_line, masked_lines, masked_message}
 use Rattle.mmtel_trust.specs.declared.header_table.Facing.{Facing}
 use Rattle.mmtel_trust.specs.declared.kinds.HeaderKind.{HeaderKind}
 use Rattle.mmtel_trust.specs.declared.kinds.HeaderKind.TheVariants.{From, To, Contact, Asserted, Served, Privacy, History, Options, Session, Passed, Personal, Trusted, Other}
@@ -41,7 +42,8 @@ anonymous_in = record { filled = omega arith; each = refl }
 
 pub hidden_reads : (ps : List Param) → AreParams ps → name_addr_of (hidden_name_addr ps) ≡ Some (with_params ps)
 unfolding hidden_name_addr Classes.in_class
-hidden_reads ps are = name_addr_again (hidden_name_addr ps) (with_params ps) (inl (record { gap = []; whole = refl; starts = refl; display_in = inl (record { each = refl; ends = tt }); gap_in = refl; uri_in = anonymous_in; params_in = are }))
+hidden_reads ps are = name_addr_again (hidden_name_addr ps) (with_params ps)
+    (inl (record { gap = []; whole = refl; starts = refl; display_in = inl (record { each = refl; ends = tt }); gap_in = refl; uri_in = anonymous_in; params_in = are }))
 
 read_params : (v : List ℕ) (n : NameAddr) → name_addr_of v ≡ Some n → AreParams n.params
 read_params v n e = params_of v n (name_addr_takes v n e)

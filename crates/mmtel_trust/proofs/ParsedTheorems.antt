@@ -15,7 +15,8 @@ use Rattle.mmtel_message.specs.Message.{Line, Message, first_value, line_texts}
 use Rattle.mmtel_message.specs.declared.messages.Start.{Start}
 use Rattle.mmtel_trust.specs.ParsedMessage.{ParsedMessage, history_in, if_redirect, if_request, parsed_message, served_by, tag_of, uri_bytes}
 use Rattle.mmtel_trust.specs.Kinds.{kind_of}
-use Rattle.mmtel_trust.specs.PrivateFields.{Entries, NoEntries, MarkedEntries, AllEntries, PrivateFields, hidden_entries, hidden_uri, hide_if, keeps_values, masked_message, masked_entries, masked_lines, masked_value, private_fields_in, redirects, serve_if}
+use Rattle.mmtel_trust.specs.PrivateFields.{Entries, NoEntries, MarkedEntries, AllEntries, PrivateFields, hidden_entries, hidden_uri, hide_if, keeps_values}
+use Rattle.mmtel_trust.specs.PrivateFields.{masked_message, masked_entries, masked_lines, masked_value, private_fields_in, redirects, serve_if}
 use Rattle.mmtel_trust.specs.MaskedMessages.{hide, public_part}
 use Rattle.mmtel_trust.proofs.ByName.{params_hidden, texts-changed, texts-masked}
 use Rattle.mmtel_trust.proofs.IndexKeeping.{changed, first-masked, from_tag-masked, to_tag-masked, to_value, wants-masked}
@@ -125,7 +126,8 @@ redirect_if : (b redirect contact : Bool) (v : Option (List ℕ)) → cond b (ur
 redirect_if true redirect contact v = uri_hidden redirect v
 redirect_if false redirect contact v = none_hidden redirect
 
-redirect-masked : (p : PrivateFields) (start : Start) (ls : List Line) → if_redirect start (uri_bytes (first_value (codes "Contact") (masked_lines (private_fields_in start p) ls))) ≡ hidden_uri p.redirect (if_redirect start (uri_bytes (first_value (codes "Contact") ls)))
+redirect-masked : (p : PrivateFields) (start : Start) (ls : List Line) → if_redirect start (uri_bytes (first_value (codes "Contact") (masked_lines (private_fields_in start p) ls)))
+    ≡ hidden_uri p.redirect (if_redirect start (uri_bytes (first_value (codes "Contact") ls)))
 redirect-masked p start ls =
     ap (λ (v : Option (List ℕ)). if_redirect start (uri_bytes v)) (changed (private_fields_in start p) (codes "Contact") (hide_if (private_fields_in start p).contact) ls (contact_value (private_fields_in start p)))
     ∙ redirect_if (redirects start) p.redirect p.contact (first_value (codes "Contact") ls)
@@ -187,7 +189,8 @@ one_more all None h = refl
 one_more all (Some e) h = refl
 
 -- entries of values of which each is masked
-each_masked : (all : Bool) (f : List ℕ → List ℕ) → ((v : List ℕ) → entry_of (f v) ≡ option_map (masked_entry all) (entry_of v)) → (vs : List (List ℕ)) → History.entries_of (map f vs) ≡ masked_list all (History.entries_of vs)
+each_masked : (all : Bool) (f : List ℕ → List ℕ) → ((v : List ℕ) → entry_of (f v) ≡ option_map (masked_entry all) (entry_of v)) → (vs : List (List ℕ)) →
+    History.entries_of (map f vs) ≡ masked_list all (History.entries_of vs)
 each_masked all f law [] = refl
 each_masked all f law (v ∷ vs) =
     ap (λ (h : List Entry). option_to_list (entry_of (f v)) ++ h) (each_masked all f law vs)
@@ -204,7 +207,8 @@ entries_masked MarkedEntries vs = each_masked false (masked_entries MarkedEntrie
 entries_masked AllEntries vs = each_masked true (masked_entries AllEntries) masked_entry_of vs
 
 history-masked : (p : PrivateFields) (ls : List Line) → history_in (masked_lines p ls) ≡ hidden_entries p.history (history_in ls)
-history-masked p ls = ap (λ (vs : List (List ℕ)). History.entries_of vs) (texts-changed p (codes "History-Info") (masked_entries p.history) (history_value p) ls) ∙ entries_masked p.history (line_texts (codes "History-Info") ls)
+history-masked p ls = ap (λ (vs : List (List ℕ)). History.entries_of vs) (texts-changed p (codes "History-Info") (masked_entries p.history) (history_value p) ls)
+    ∙ entries_masked p.history (line_texts (codes "History-Info") ls)
 
 -- ---- the whole
 

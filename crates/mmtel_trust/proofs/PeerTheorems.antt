@@ -193,7 +193,8 @@ own_matches : (ks : List KnownPeer) (u : Uri) (rs : List Route) → on ks rs ≡
 own_matches ks (Sip user host port params headers) rs e = find_matches ks (is_route host) rs e
 own_matches ks (Tel number params) rs e = longest_matches ks (filter (matches_number (without_separators number)) rs) (filter_matches ks (matches_number (without_separators number)) rs e)
 
-or_matches : (ks : List KnownPeer) (o other : Option Route) → IfSome o (λ r. has_number r.peer ks ≡ true) → IfSome other (λ r. has_number r.peer ks ≡ true) → IfSome (option_map (λ r. r.peer) (or_route o other)) (λ p. has_number p ks ≡ true)
+or_matches : (ks : List KnownPeer) (o other : Option Route) → IfSome o (λ r. has_number r.peer ks ≡ true) → IfSome other (λ r. has_number r.peer ks ≡ true) →
+    IfSome (option_map (λ r. r.peer) (or_route o other)) (λ p. has_number p ks ≡ true)
 or_matches ks (Some r) other h g = h
 or_matches ks None None h g = tt
 or_matches ks None (Some r) h g = g

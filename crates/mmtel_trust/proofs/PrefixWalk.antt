@@ -1,5 +1,6 @@
 -- The longest prefix of a number, found byte by byte: what is found by the prefixes of up to some length is the longest of these.
-use Rattle.std.proofs.Common.{Bor, suc, ◌≡◌, ◌==◌, ℕ, ◌≤◌, nat_lt, nat_le, Bool, true, false, not, ◌&&◌, List, [], ◌∷◌, ◌++◌, length, Option, Some, None, refl, sym, ap, ap₂, subst, ◌∙◌, arith, inl, inr, cond, append_assoc, append-nil, add-one}
+use Rattle.std.proofs.Common.{Bor, suc, ◌≡◌, ◌==◌, ℕ, ◌≤◌, nat_lt, nat_le, Bool, true, false, not, ◌&&◌, List, [], ◌∷◌, ◌++◌, length}
+use Rattle.std.proofs.Common.{Option, Some, None, refl, sym, ap, ap₂, subst, ◌∙◌, arith, inl, inr, cond, append_assoc, append-nil, add-one}
 use Rattle.std.specs.Prelude.{find, filter}
 use Rattle.std.specs.List.{list_all}
 use Rattle.std.specs.Option.{option_copied, option_or}

@@ -142,7 +142,8 @@ privacy_by name false false x ls other none = none
 
 none_privacy : (name : List ℕ) → is_never (kind_of name) ≡ true → (f : Facing) (b : Bool) (ls : List Line) → lines_named name (privacy_lines f b ls) ≡ []
 none_privacy name never f b ls =
-    privacy_by name (not b) f.restricted (codes "Privacy", restricted_text ls) (lines_named (codes "Privacy") ls) (apart name (codes "Privacy", restricted_text ls) never privacy_kind) (none_among name (codes "Privacy") never privacy_kind ls)
+    privacy_by name (not b) f.restricted (codes "Privacy", restricted_text ls) (lines_named (codes "Privacy") ls) (apart name (codes "Privacy", restricted_text ls) never privacy_kind)
+    (none_among name (codes "Privacy") never privacy_kind ls)
 
 shown_kind : (f : Facing) (b : Bool) (l : Line) → is_shown f b l ≡ true → is_never (kind_of l.0) ≡ false
 unfolding is_shown
@@ -221,7 +222,8 @@ entries_equal all h k same = ap (λ (l : List Entry). map history_line l) same
 pub shown_equal : (f : Facing) (h k : List Entry) (start : Start) (ls : List Line) → masked_list f.mask_all h ≡ masked_list f.mask_all k → shown_lines f false h start ls ≡ shown_lines f false k start ls
 shown_equal f h k start ls same = ap (λ (l : List Entry). passed_lines f false (cond (carries_history start) (map history_line l) []) ls) same
 
-pub messages_equal : (p : PrivateFields) (f : Facing) (h k : List Entry) (m n : Message Start) → f.restricted ≡ true → masked_message p m ≡ masked_message p n → masked_list f.mask_all h ≡ masked_list f.mask_all k → shown_lines f false h m.start m.lines ≡ shown_lines f false k n.start n.lines
+pub messages_equal : (p : PrivateFields) (f : Facing) (h k : List Entry) (m n : Message Start) → f.restricted ≡ true → masked_message p m ≡ masked_message p n →
+    masked_list f.mask_all h ≡ masked_list f.mask_all k → shown_lines f false h m.start m.lines ≡ shown_lines f false k n.start n.lines
 messages_equal p f h k m n r same lists =
     passed_equal (private_fields_in m.start p) (private_fields_in n.start p) f (carried_history f false h m.start) m.lines n.lines r (ap (λ (x : Message Start). x.lines) same)
     ∙ ap (λ (s : Start). passed_lines f false (carried_history f false h s) n.lines) (ap (λ (x : Message Start). x.start) same)

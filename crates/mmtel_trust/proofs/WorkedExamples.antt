@@ -25,7 +25,8 @@ use Rattle.mmtel_trust.specs.declared.accounts.AccountIdentity.{AccountIdentity}
 use Rattle.mmtel_trust.specs.Kinds.{kind_of}
 use Rattle.mmtel_trust.specs.HeaderTable.{passed_lines, is_shown}
 use Rattle.mmtel_trust.specs.declared.header_table.Facing.{Facing}
-use Rattle.mmtel_trust.specs.PrivateFields.{MarkedEntries, PrivateFields, private_in_callee_responses, private_in_caller_responses, only_entries, private_in_opening, masked_lines, masked_line, hidden_name_addr, hidden_value, served_value}
+use Rattle.mmtel_trust.specs.PrivateFields.{MarkedEntries, PrivateFields, private_in_callee_responses, private_in_caller_responses, only_entries}
+use Rattle.mmtel_trust.specs.PrivateFields.{private_in_opening, masked_lines, masked_line, hidden_name_addr, hidden_value, served_value}
 
 abbrev lines : List Line
 lines =
@@ -51,7 +52,9 @@ worked_mask : masked_lines private_in_opening lines ≡
     (codes "Accept", codes "application/sdp") ∷
     (codes "P-Early-Media", codes "supported") ∷
     (codes "X-Other", codes "1") ∷ []
-unfolding Scanning.closing_quote_from masked_line kind_of hidden_name_addr hidden_value served_value Reading.name_addr_of Reading.words_of Reading.quoted_of Reading.angle_of Reading.bare_of Reading.all_params_at Reading.params_at Reading.param_at Reading.token_at Reading.value_at Reading.text_at Classes.in_class Scanning.leading_run Scanning.after_run Scanning.without_trailing Scanning.split_once_at
+unfolding Scanning.closing_quote_from masked_line kind_of hidden_name_addr hidden_value served_value Reading.name_addr_of Reading.words_of Reading.quoted_of Reading.angle_of
+    Reading.bare_of Reading.all_params_at Reading.params_at Reading.param_at Reading.token_at Reading.value_at Reading.text_at Classes.in_class Scanning.leading_run Scanning.after_run
+    Scanning.without_trailing Scanning.split_once_at
 worked_mask = refl
 
 worked_untrusted : passed_lines (record { from_trusted = true; restricted = true; present = true; mask_all = false; reliable = false; timer = false }) false [] lines ≡
@@ -141,20 +144,32 @@ left trusted more = (mask restricts accounts (parsed_message trusted (invite mor
 worked_permanent : left true [] ≡
     (codes "From", codes "<sip:anonymous@anonymous.invalid>;tag=7") ∷
     (codes "To", codes "<sip:bob@far.example>") ∷ []
-unfolding Fmt.digits SameIdentity.is_same_identity Scanning.closing_quote_from masked_line kind_of hidden_name_addr hidden_value served_value masked_value_text is_marked_value History.entry_of Entries.is_dotted History.written_uri History.entry_text UriPlaces.user_part UriPlaces.host_part EntryUri.cause_number EntryUri.cause_of EntryUri.hides EntryUri.is_marked EntryUri.with_cause Numbers.number_of Numbers.value_up_to Values.parts Values.next_separator Reading.name_addr_of Reading.words_of Reading.quoted_of Reading.angle_of Reading.bare_of Reading.all_params_at Reading.params_at Reading.param_at Reading.token_at Reading.value_at Reading.text_at Reading.user_at Reading.host_at Reading.port_number Reading.port_at Reading.headers_of Reading.headers_at Reading.sip_of Reading.scheme_of Reading.number_at Reading.tel_of Reading.uri_of Classes.in_class Scanning.leading_run Scanning.after_run Scanning.without_trailing Scanning.split_once_at
+unfolding Fmt.digits SameIdentity.is_same_identity Scanning.closing_quote_from masked_line kind_of hidden_name_addr hidden_value served_value masked_value_text is_marked_value History.entry_of
+    Entries.is_dotted History.written_uri History.entry_text UriPlaces.user_part UriPlaces.host_part EntryUri.cause_number EntryUri.cause_of EntryUri.hides EntryUri.is_marked EntryUri.with_cause
+    Numbers.number_of Numbers.value_up_to Values.parts Values.next_separator Reading.name_addr_of Reading.words_of Reading.quoted_of Reading.angle_of Reading.bare_of Reading.all_params_at
+    Reading.params_at Reading.param_at Reading.token_at Reading.value_at Reading.text_at Reading.user_at Reading.host_at Reading.port_number Reading.port_at Reading.headers_of Reading.headers_at
+    Reading.sip_of Reading.scheme_of Reading.number_at Reading.tel_of Reading.uri_of Classes.in_class Scanning.leading_run Scanning.after_run Scanning.without_trailing Scanning.split_once_at
 worked_permanent = refl
 
 worked_served : left true ((codes "P-Served-User", codes "<sip:a@h>;sescase=orig") ∷ []) ≡
     (codes "From", codes "<sip:anonymous@anonymous.invalid>;tag=7") ∷
     (codes "To", codes "<sip:bob@far.example>") ∷
     (codes "P-Served-User", codes "<sip:anonymous@anonymous.invalid>;sescase=orig") ∷ []
-unfolding Fmt.digits SameIdentity.is_same_identity Scanning.closing_quote_from masked_line kind_of hidden_name_addr hidden_value served_value masked_value_text is_marked_value History.entry_of Entries.is_dotted History.written_uri History.entry_text UriPlaces.user_part UriPlaces.host_part EntryUri.cause_number EntryUri.cause_of EntryUri.hides EntryUri.is_marked EntryUri.with_cause Numbers.number_of Numbers.value_up_to Values.parts Values.next_separator Reading.name_addr_of Reading.words_of Reading.quoted_of Reading.angle_of Reading.bare_of Reading.all_params_at Reading.params_at Reading.param_at Reading.token_at Reading.value_at Reading.text_at Reading.user_at Reading.host_at Reading.port_number Reading.port_at Reading.headers_of Reading.headers_at Reading.sip_of Reading.scheme_of Reading.number_at Reading.tel_of Reading.uri_of Classes.in_class Scanning.leading_run Scanning.after_run Scanning.without_trailing Scanning.split_once_at
+unfolding Fmt.digits SameIdentity.is_same_identity Scanning.closing_quote_from masked_line kind_of hidden_name_addr hidden_value served_value masked_value_text is_marked_value History.entry_of
+    Entries.is_dotted History.written_uri History.entry_text UriPlaces.user_part UriPlaces.host_part EntryUri.cause_number EntryUri.cause_of EntryUri.hides EntryUri.is_marked EntryUri.with_cause
+    Numbers.number_of Numbers.value_up_to Values.parts Values.next_separator Reading.name_addr_of Reading.words_of Reading.quoted_of Reading.angle_of Reading.bare_of Reading.all_params_at
+    Reading.params_at Reading.param_at Reading.token_at Reading.value_at Reading.text_at Reading.user_at Reading.host_at Reading.port_number Reading.port_at Reading.headers_of Reading.headers_at
+    Reading.sip_of Reading.scheme_of Reading.number_at Reading.tel_of Reading.uri_of Classes.in_class Scanning.leading_run Scanning.after_run Scanning.without_trailing Scanning.split_once_at
 worked_served = refl
 
 -- where the terminating user is served, her record does not count; of two lines the first counts, and of two parameters
 worked_terminating : left true ((codes "P-Served-User", codes "<sip:bob@home.example>;sescase=term;sescase=orig") ∷ (codes "P-Served-User", codes "<sip:a@h>;sescase=orig") ∷ []) ≡
     (invite ((codes "P-Served-User", codes "<sip:bob@home.example>;sescase=term;sescase=orig") ∷ (codes "P-Served-User", codes "<sip:a@h>;sescase=orig") ∷ [])).lines
-unfolding Fmt.digits SameIdentity.is_same_identity Scanning.closing_quote_from masked_line kind_of hidden_name_addr hidden_value served_value masked_value_text is_marked_value History.entry_of Entries.is_dotted History.written_uri History.entry_text UriPlaces.user_part UriPlaces.host_part EntryUri.cause_number EntryUri.cause_of EntryUri.hides EntryUri.is_marked EntryUri.with_cause Numbers.number_of Numbers.value_up_to Values.parts Values.next_separator Reading.name_addr_of Reading.words_of Reading.quoted_of Reading.angle_of Reading.bare_of Reading.all_params_at Reading.params_at Reading.param_at Reading.token_at Reading.value_at Reading.text_at Reading.user_at Reading.host_at Reading.port_number Reading.port_at Reading.headers_of Reading.headers_at Reading.sip_of Reading.scheme_of Reading.number_at Reading.tel_of Reading.uri_of Classes.in_class Scanning.leading_run Scanning.after_run Scanning.without_trailing Scanning.split_once_at
+unfolding Fmt.digits SameIdentity.is_same_identity Scanning.closing_quote_from masked_line kind_of hidden_name_addr hidden_value served_value masked_value_text is_marked_value History.entry_of
+    Entries.is_dotted History.written_uri History.entry_text UriPlaces.user_part UriPlaces.host_part EntryUri.cause_number EntryUri.cause_of EntryUri.hides EntryUri.is_marked EntryUri.with_cause
+    Numbers.number_of Numbers.value_up_to Values.parts Values.next_separator Reading.name_addr_of Reading.words_of Reading.quoted_of Reading.angle_of Reading.bare_of Reading.all_params_at
+    Reading.params_at Reading.param_at Reading.token_at Reading.value_at Reading.text_at Reading.user_at Reading.host_at Reading.port_number Reading.port_at Reading.headers_of Reading.headers_at
+    Reading.sip_of Reading.scheme_of Reading.number_at Reading.tel_of Reading.uri_of Classes.in_class Scanning.leading_run Scanning.after_run Scanning.without_trailing Scanning.split_once_at
 worked_terminating = refl
 
 -- but a word of Privacy still restricts her, and the account beside the message is hers
@@ -162,19 +177,31 @@ abbrev requested_of_alice : Option CallerFacts
 requested_of_alice = Some (record { account = Some alice; is_identified = true })
 
 worked_requested : (mask restricts accounts (parsed_message true (invite ((codes "P-Served-User", codes "<sip:bob@home.example>;sescase=term") ∷ (codes "Privacy", codes "id") ∷ [])))).caller ≡ requested_of_alice
-unfolding Fmt.digits SameIdentity.is_same_identity Scanning.closing_quote_from masked_line kind_of hidden_name_addr hidden_value served_value masked_value_text is_marked_value History.entry_of Entries.is_dotted History.written_uri History.entry_text UriPlaces.user_part UriPlaces.host_part EntryUri.cause_number EntryUri.cause_of EntryUri.hides EntryUri.is_marked EntryUri.with_cause Numbers.number_of Numbers.value_up_to Values.parts Values.next_separator Reading.name_addr_of Reading.words_of Reading.quoted_of Reading.angle_of Reading.bare_of Reading.all_params_at Reading.params_at Reading.param_at Reading.token_at Reading.value_at Reading.text_at Reading.user_at Reading.host_at Reading.port_number Reading.port_at Reading.headers_of Reading.headers_at Reading.sip_of Reading.scheme_of Reading.number_at Reading.tel_of Reading.uri_of Classes.in_class Scanning.leading_run Scanning.after_run Scanning.without_trailing Scanning.split_once_at
+unfolding Fmt.digits SameIdentity.is_same_identity Scanning.closing_quote_from masked_line kind_of hidden_name_addr hidden_value served_value masked_value_text is_marked_value History.entry_of
+    Entries.is_dotted History.written_uri History.entry_text UriPlaces.user_part UriPlaces.host_part EntryUri.cause_number EntryUri.cause_of EntryUri.hides EntryUri.is_marked EntryUri.with_cause
+    Numbers.number_of Numbers.value_up_to Values.parts Values.next_separator Reading.name_addr_of Reading.words_of Reading.quoted_of Reading.angle_of Reading.bare_of Reading.all_params_at
+    Reading.params_at Reading.param_at Reading.token_at Reading.value_at Reading.text_at Reading.user_at Reading.host_at Reading.port_number Reading.port_at Reading.headers_of Reading.headers_at
+    Reading.sip_of Reading.scheme_of Reading.number_at Reading.tel_of Reading.uri_of Classes.in_class Scanning.leading_run Scanning.after_run Scanning.without_trailing Scanning.split_once_at
 worked_requested = refl
 
 -- of a peer that is not trusted nothing is believed, and nothing is private
 worked_stranger : left false ((codes "Privacy", codes "id;history") ∷ (codes "History-Info", codes "<sip:carol@home.example;cause=486>;index=1") ∷ []) ≡
     (invite ((codes "Privacy", codes "id;history") ∷ (codes "History-Info", codes "<sip:carol@home.example;cause=486>;index=1") ∷ [])).lines
-unfolding Fmt.digits SameIdentity.is_same_identity Scanning.closing_quote_from masked_line kind_of hidden_name_addr hidden_value served_value masked_value_text is_marked_value History.entry_of Entries.is_dotted History.written_uri History.entry_text UriPlaces.user_part UriPlaces.host_part EntryUri.cause_number EntryUri.cause_of EntryUri.hides EntryUri.is_marked EntryUri.with_cause Numbers.number_of Numbers.value_up_to Values.parts Values.next_separator Reading.name_addr_of Reading.words_of Reading.quoted_of Reading.angle_of Reading.bare_of Reading.all_params_at Reading.params_at Reading.param_at Reading.token_at Reading.value_at Reading.text_at Reading.user_at Reading.host_at Reading.port_number Reading.port_at Reading.headers_of Reading.headers_at Reading.sip_of Reading.scheme_of Reading.number_at Reading.tel_of Reading.uri_of Classes.in_class Scanning.leading_run Scanning.after_run Scanning.without_trailing Scanning.split_once_at
+unfolding Fmt.digits SameIdentity.is_same_identity Scanning.closing_quote_from masked_line kind_of hidden_name_addr hidden_value served_value masked_value_text is_marked_value History.entry_of
+    Entries.is_dotted History.written_uri History.entry_text UriPlaces.user_part UriPlaces.host_part EntryUri.cause_number EntryUri.cause_of EntryUri.hides EntryUri.is_marked EntryUri.with_cause
+    Numbers.number_of Numbers.value_up_to Values.parts Values.next_separator Reading.name_addr_of Reading.words_of Reading.quoted_of Reading.angle_of Reading.bare_of Reading.all_params_at
+    Reading.params_at Reading.param_at Reading.token_at Reading.value_at Reading.text_at Reading.user_at Reading.host_at Reading.port_number Reading.port_at Reading.headers_of Reading.headers_at
+    Reading.sip_of Reading.scheme_of Reading.number_at Reading.tel_of Reading.uri_of Classes.in_class Scanning.leading_run Scanning.after_run Scanning.without_trailing Scanning.split_once_at
 worked_stranger = refl
 
 -- an unrestricted INVITE that requests that its history be hidden: the entries are private, and nothing else
 worked_history : (mask by_id [] (parsed_message true (invite ((codes "Privacy", codes "history") ∷ (codes "History-Info", codes "\"Carol\" <sip:carol@home.example;cause=486>;index=1.1;np=1") ∷ [])))).message.lines ≡
     (invite ((codes "Privacy", codes "history") ∷ (codes "History-Info", codes "<sip:anonymous@anonymous.invalid;cause=486>;index=1.1;np=1") ∷ [])).lines
-unfolding Fmt.digits SameIdentity.is_same_identity Scanning.closing_quote_from masked_line kind_of hidden_name_addr hidden_value served_value masked_value_text is_marked_value History.entry_of Entries.is_dotted History.written_uri History.entry_text UriPlaces.user_part UriPlaces.host_part EntryUri.cause_number EntryUri.cause_of EntryUri.hides EntryUri.is_marked EntryUri.with_cause Numbers.number_of Numbers.value_up_to Values.parts Values.next_separator Reading.name_addr_of Reading.words_of Reading.quoted_of Reading.angle_of Reading.bare_of Reading.all_params_at Reading.params_at Reading.param_at Reading.token_at Reading.value_at Reading.text_at Reading.user_at Reading.host_at Reading.port_number Reading.port_at Reading.headers_of Reading.headers_at Reading.sip_of Reading.scheme_of Reading.number_at Reading.tel_of Reading.uri_of Classes.in_class Scanning.leading_run Scanning.after_run Scanning.without_trailing Scanning.split_once_at
+unfolding Fmt.digits SameIdentity.is_same_identity Scanning.closing_quote_from masked_line kind_of hidden_name_addr hidden_value served_value masked_value_text is_marked_value History.entry_of
+    Entries.is_dotted History.written_uri History.entry_text UriPlaces.user_part UriPlaces.host_part EntryUri.cause_number EntryUri.cause_of EntryUri.hides EntryUri.is_marked EntryUri.with_cause
+    Numbers.number_of Numbers.value_up_to Values.parts Values.next_separator Reading.name_addr_of Reading.words_of Reading.quoted_of Reading.angle_of Reading.bare_of Reading.all_params_at
+    Reading.params_at Reading.param_at Reading.token_at Reading.value_at Reading.text_at Reading.user_at Reading.host_at Reading.port_number Reading.port_at Reading.headers_of Reading.headers_at
+    Reading.sip_of Reading.scheme_of Reading.number_at Reading.tel_of Reading.uri_of Classes.in_class Scanning.leading_run Scanning.after_run Scanning.without_trailing Scanning.split_once_at
 worked_history = refl
 
 -- without that word only the marked one of two entries is; in a restricted opening too
@@ -183,7 +210,11 @@ worked_marked : left true ((codes "History-Info", codes "<sip:carol@home.example
     (codes "To", codes "<sip:bob@far.example>") ∷
     (codes "History-Info", codes "<sip:anonymous@anonymous.invalid>;index=1") ∷
     (codes "History-Info", codes "<sip:dave@home.example;cause=302>;index=1.1") ∷ []
-unfolding Fmt.digits SameIdentity.is_same_identity Scanning.closing_quote_from masked_line kind_of hidden_name_addr hidden_value served_value masked_value_text is_marked_value History.entry_of Entries.is_dotted History.written_uri History.entry_text UriPlaces.user_part UriPlaces.host_part EntryUri.cause_number EntryUri.cause_of EntryUri.hides EntryUri.is_marked EntryUri.with_cause Numbers.number_of Numbers.value_up_to Values.parts Values.next_separator Reading.name_addr_of Reading.words_of Reading.quoted_of Reading.angle_of Reading.bare_of Reading.all_params_at Reading.params_at Reading.param_at Reading.token_at Reading.value_at Reading.text_at Reading.user_at Reading.host_at Reading.port_number Reading.port_at Reading.headers_of Reading.headers_at Reading.sip_of Reading.scheme_of Reading.number_at Reading.tel_of Reading.uri_of Classes.in_class Scanning.leading_run Scanning.after_run Scanning.without_trailing Scanning.split_once_at
+unfolding Fmt.digits SameIdentity.is_same_identity Scanning.closing_quote_from masked_line kind_of hidden_name_addr hidden_value served_value masked_value_text is_marked_value History.entry_of
+    Entries.is_dotted History.written_uri History.entry_text UriPlaces.user_part UriPlaces.host_part EntryUri.cause_number EntryUri.cause_of EntryUri.hides EntryUri.is_marked EntryUri.with_cause
+    Numbers.number_of Numbers.value_up_to Values.parts Values.next_separator Reading.name_addr_of Reading.words_of Reading.quoted_of Reading.angle_of Reading.bare_of Reading.all_params_at
+    Reading.params_at Reading.param_at Reading.token_at Reading.value_at Reading.text_at Reading.user_at Reading.host_at Reading.port_number Reading.port_at Reading.headers_of Reading.headers_at
+    Reading.sip_of Reading.scheme_of Reading.number_at Reading.tel_of Reading.uri_of Classes.in_class Scanning.leading_run Scanning.after_run Scanning.without_trailing Scanning.split_once_at
 worked_marked = refl
 
 -- ---- each part of a received message
@@ -223,12 +254,14 @@ record OfTags : Type 0 where
   untagged : (of_lines ((codes "To", codes "<sip:b@h>") ∷ [])).to_tag ≡ None
 
 worked_tags : OfTags
-unfolding Reading.name_addr_of Reading.words_of Reading.quoted_of Reading.angle_of Reading.bare_of Reading.all_params_at Reading.params_at Reading.param_at Reading.token_at Reading.value_at Reading.text_at Classes.in_class Scanning.closing_quote_from Scanning.leading_run Scanning.after_run Scanning.without_trailing Scanning.split_once_at
+unfolding Reading.name_addr_of Reading.words_of Reading.quoted_of Reading.angle_of Reading.bare_of Reading.all_params_at Reading.params_at Reading.param_at Reading.token_at Reading.value_at
+    Reading.text_at Classes.in_class Scanning.closing_quote_from Scanning.leading_run Scanning.after_run Scanning.without_trailing Scanning.split_once_at
 worked_tags = record { from_tag = refl; to_tag = refl; untagged = refl }
 
 -- the route of a message
 record OfRoute : Type 0 where
-  vias : (of_lines ((codes "Via", codes "SIP/2.0/UDP a;branch=z9hG4bK1") ∷ (codes "Via", codes "SIP/2.0/UDP b;branch=z9hG4bK2") ∷ [])).vias ≡ codes "SIP/2.0/UDP a;branch=z9hG4bK1" ∷ codes "SIP/2.0/UDP b;branch=z9hG4bK2" ∷ []
+  vias : (of_lines ((codes "Via", codes "SIP/2.0/UDP a;branch=z9hG4bK1") ∷ (codes "Via", codes "SIP/2.0/UDP b;branch=z9hG4bK2") ∷ [])).vias
+      ≡ codes "SIP/2.0/UDP a;branch=z9hG4bK1" ∷ codes "SIP/2.0/UDP b;branch=z9hG4bK2" ∷ []
   routes : (of_lines ((codes "Route", codes "<sip:a;lr>") ∷ (codes "Record-Route", codes "<sip:b;lr>") ∷ [])).routes ≡ codes "<sip:a;lr>" ∷ []
   ways : (of_lines ((codes "Route", codes "<sip:a;lr>") ∷ (codes "Record-Route", codes "<sip:b;lr>") ∷ [])).record_routes ≡ codes "<sip:b;lr>" ∷ []
 
@@ -250,11 +283,16 @@ record OfUser : Type 0 where
   served : (of_lines ((codes "P-Served-User", codes "<sip:bob@home.example>;sescase=term;regstate=reg") ∷ [])).served ≡ a_user
 
 worked_user : OfUser
-unfolding Reading.name_addr_of Reading.words_of Reading.quoted_of Reading.angle_of Reading.bare_of Reading.all_params_at Reading.params_at Reading.param_at Reading.token_at Reading.value_at Reading.text_at Classes.in_class Scanning.closing_quote_from Scanning.leading_run Scanning.after_run Scanning.without_trailing Scanning.split_once_at
+unfolding Reading.name_addr_of Reading.words_of Reading.quoted_of Reading.angle_of Reading.bare_of Reading.all_params_at Reading.params_at Reading.param_at Reading.token_at Reading.value_at
+    Reading.text_at Classes.in_class Scanning.closing_quote_from Scanning.leading_run Scanning.after_run Scanning.without_trailing Scanning.split_once_at
 worked_user = record { served = refl }
 
 worked_history_read : (of_lines ((codes "History-Info", codes "<sip:dave@home.example;cause=486>;index=1.1") ∷ [])).history ≡ dave ∷ []
-unfolding Fmt.digits SameIdentity.is_same_identity Scanning.closing_quote_from masked_line kind_of hidden_name_addr hidden_value served_value masked_value_text is_marked_value History.entry_of Entries.is_dotted History.written_uri History.entry_text UriPlaces.user_part UriPlaces.host_part EntryUri.cause_number EntryUri.cause_of EntryUri.hides EntryUri.is_marked EntryUri.with_cause Numbers.number_of Numbers.value_up_to Values.parts Values.next_separator Reading.name_addr_of Reading.words_of Reading.quoted_of Reading.angle_of Reading.bare_of Reading.all_params_at Reading.params_at Reading.param_at Reading.token_at Reading.value_at Reading.text_at Reading.user_at Reading.host_at Reading.port_number Reading.port_at Reading.headers_of Reading.headers_at Reading.sip_of Reading.scheme_of Reading.number_at Reading.tel_of Reading.uri_of Classes.in_class Scanning.leading_run Scanning.after_run Scanning.without_trailing Scanning.split_once_at
+unfolding Fmt.digits SameIdentity.is_same_identity Scanning.closing_quote_from masked_line kind_of hidden_name_addr hidden_value served_value masked_value_text is_marked_value History.entry_of
+    Entries.is_dotted History.written_uri History.entry_text UriPlaces.user_part UriPlaces.host_part EntryUri.cause_number EntryUri.cause_of EntryUri.hides EntryUri.is_marked EntryUri.with_cause
+    Numbers.number_of Numbers.value_up_to Values.parts Values.next_separator Reading.name_addr_of Reading.words_of Reading.quoted_of Reading.angle_of Reading.bare_of Reading.all_params_at
+    Reading.params_at Reading.param_at Reading.token_at Reading.value_at Reading.text_at Reading.user_at Reading.host_at Reading.port_number Reading.port_at Reading.headers_of Reading.headers_at
+    Reading.sip_of Reading.scheme_of Reading.number_at Reading.tel_of Reading.uri_of Classes.in_class Scanning.leading_run Scanning.after_run Scanning.without_trailing Scanning.split_once_at
 worked_history_read = refl
 
 -- numbers that are too great are none; a number may have leading zeros
@@ -292,7 +330,8 @@ record OfSession : Type 0 where
   none : (of_lines []).one_contact ≡ false
 
 worked_session : OfSession
-unfolding Reading.name_addr_of Reading.words_of Reading.quoted_of Reading.angle_of Reading.bare_of Reading.all_params_at Reading.params_at Reading.param_at Reading.token_at Reading.value_at Reading.text_at Classes.in_class Scanning.closing_quote_from Scanning.leading_run Scanning.after_run Scanning.without_trailing Scanning.split_once_at
+unfolding Reading.name_addr_of Reading.words_of Reading.quoted_of Reading.angle_of Reading.bare_of Reading.all_params_at Reading.params_at Reading.param_at Reading.token_at Reading.value_at
+    Reading.text_at Classes.in_class Scanning.closing_quote_from Scanning.leading_run Scanning.after_run Scanning.without_trailing Scanning.split_once_at
 worked_session = record { session = refl; one = refl; two = refl; unreadable = refl; none = refl }
 
 -- the originating user is absent from what is never private, and of two users the first counts
@@ -306,7 +345,8 @@ record OfServed : Type 0 where
   nobody : (of_lines []).served.session_case ≡ NoCase
 
 worked_served_user : OfServed
-unfolding Reading.name_addr_of Reading.words_of Reading.quoted_of Reading.angle_of Reading.bare_of Reading.all_params_at Reading.params_at Reading.param_at Reading.token_at Reading.value_at Reading.text_at Classes.in_class Scanning.closing_quote_from Scanning.leading_run Scanning.after_run Scanning.without_trailing Scanning.split_once_at
+unfolding Reading.name_addr_of Reading.words_of Reading.quoted_of Reading.angle_of Reading.bare_of Reading.all_params_at Reading.params_at Reading.param_at Reading.token_at Reading.value_at
+    Reading.text_at Classes.in_class Scanning.closing_quote_from Scanning.leading_run Scanning.after_run Scanning.without_trailing Scanning.split_once_at
 worked_served_user = record { origin = refl; state = refl; user = refl; nobody = refl }
 
 -- ---- a response that redirects
@@ -342,7 +382,11 @@ record OfRedirects : Type 0 where
       (codes "Contact", codes "<sip:anonymous@anonymous.invalid>") ∷ []
 
 worked_redirects : OfRedirects
-unfolding Fmt.digits SameIdentity.is_same_identity Scanning.closing_quote_from masked_line kind_of hidden_name_addr hidden_value served_value masked_value_text is_marked_value History.entry_of Entries.is_dotted History.written_uri History.entry_text UriPlaces.user_part UriPlaces.host_part EntryUri.cause_number EntryUri.cause_of EntryUri.hides EntryUri.is_marked EntryUri.with_cause Numbers.number_of Numbers.value_up_to Values.parts Values.next_separator Reading.name_addr_of Reading.words_of Reading.quoted_of Reading.angle_of Reading.bare_of Reading.all_params_at Reading.params_at Reading.param_at Reading.token_at Reading.value_at Reading.text_at Reading.user_at Reading.host_at Reading.port_number Reading.port_at Reading.headers_of Reading.headers_at Reading.sip_of Reading.scheme_of Reading.number_at Reading.tel_of Reading.uri_of Classes.in_class Scanning.leading_run Scanning.after_run Scanning.without_trailing Scanning.split_once_at
+unfolding Fmt.digits SameIdentity.is_same_identity Scanning.closing_quote_from masked_line kind_of hidden_name_addr hidden_value served_value masked_value_text is_marked_value History.entry_of
+    Entries.is_dotted History.written_uri History.entry_text UriPlaces.user_part UriPlaces.host_part EntryUri.cause_number EntryUri.cause_of EntryUri.hides EntryUri.is_marked EntryUri.with_cause
+    Numbers.number_of Numbers.value_up_to Values.parts Values.next_separator Reading.name_addr_of Reading.words_of Reading.quoted_of Reading.angle_of Reading.bare_of Reading.all_params_at
+    Reading.params_at Reading.param_at Reading.token_at Reading.value_at Reading.text_at Reading.user_at Reading.host_at Reading.port_number Reading.port_at Reading.headers_of Reading.headers_at
+    Reading.sip_of Reading.scheme_of Reading.number_at Reading.tel_of Reading.uri_of Classes.in_class Scanning.leading_run Scanning.after_run Scanning.without_trailing Scanning.split_once_at
 worked_redirects = record { heard_of = refl; of_caller = refl; line_of_caller = refl; of_callee = refl; line_of_callee = refl; accepted = refl; accepted_line = refl }
 
 -- ---- entries that are hidden as they are read
@@ -350,5 +394,9 @@ worked_redirects = record { heard_of = refl; of_caller = refl; line_of_caller = 
 worked_entries : (hide (only_entries MarkedEntries) (of_lines ((codes "History-Info", codes "<sip:carol@h?Privacy=history>;index=1") ∷ (codes "History-Info", codes "<sip:dave@h;cause=302>;index=1.1") ∷ []))).history ≡
     record { uri = codes "sip:anonymous@anonymous.invalid"; index = codes "1"; cause = None; hidden = false; rest = [] } ∷
     record { uri = codes "sip:dave@h;cause=302"; index = codes "1.1"; cause = Some 302; hidden = false; rest = [] } ∷ []
-unfolding Fmt.digits SameIdentity.is_same_identity Scanning.closing_quote_from masked_line kind_of hidden_name_addr hidden_value served_value masked_value_text is_marked_value History.entry_of Entries.is_dotted History.written_uri History.entry_text UriPlaces.user_part UriPlaces.host_part EntryUri.cause_number EntryUri.cause_of EntryUri.hides EntryUri.is_marked EntryUri.with_cause Numbers.number_of Numbers.value_up_to Values.parts Values.next_separator Reading.name_addr_of Reading.words_of Reading.quoted_of Reading.angle_of Reading.bare_of Reading.all_params_at Reading.params_at Reading.param_at Reading.token_at Reading.value_at Reading.text_at Reading.user_at Reading.host_at Reading.port_number Reading.port_at Reading.headers_of Reading.headers_at Reading.sip_of Reading.scheme_of Reading.number_at Reading.tel_of Reading.uri_of Classes.in_class Scanning.leading_run Scanning.after_run Scanning.without_trailing Scanning.split_once_at
+unfolding Fmt.digits SameIdentity.is_same_identity Scanning.closing_quote_from masked_line kind_of hidden_name_addr hidden_value served_value masked_value_text is_marked_value History.entry_of
+    Entries.is_dotted History.written_uri History.entry_text UriPlaces.user_part UriPlaces.host_part EntryUri.cause_number EntryUri.cause_of EntryUri.hides EntryUri.is_marked EntryUri.with_cause
+    Numbers.number_of Numbers.value_up_to Values.parts Values.next_separator Reading.name_addr_of Reading.words_of Reading.quoted_of Reading.angle_of Reading.bare_of Reading.all_params_at
+    Reading.params_at Reading.param_at Reading.token_at Reading.value_at Reading.text_at Reading.user_at Reading.host_at Reading.port_number Reading.port_at Reading.headers_of Reading.headers_at
+    Reading.sip_of Reading.scheme_of Reading.number_at Reading.tel_of Reading.uri_of Classes.in_class Scanning.leading_run Scanning.after_run Scanning.without_trailing Scanning.split_once_at
 worked_entries = refl

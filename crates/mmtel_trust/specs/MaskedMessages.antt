@@ -7,7 +7,8 @@ use Rattle.mmtel_message.specs.Message.{Line}
 use Rattle.mmtel_types.specs.declared.numbers.Account.{Account}
 use Rattle.mmtel_types.specs.declared.privacy.PrivacySet.{PrivacySet}
 use Rattle.mmtel_trust.specs.ParsedMessage.{ParsedMessage, caller_account, is_caller_identified, served_account}
-use Rattle.mmtel_trust.specs.PrivateFields.{Entries, NoEntries, PrivateFields, entries_of, hidden_entries, hidden_uri, joined_fields, masked_lines, only_entries, private_fields_in, private_in_opening}
+use Rattle.mmtel_trust.specs.PrivateFields.{Entries, NoEntries, PrivateFields, entries_of, hidden_entries, hidden_uri}
+use Rattle.mmtel_trust.specs.PrivateFields.{joined_fields, masked_lines, only_entries, private_fields_in, private_in_opening}
 use Rattle.mmtel_trust.specs.HeaderTable.{attempt_from, passed_lines}
 use Rattle.mmtel_trust.specs.declared.accounts.AccountIdentity.{AccountIdentity}
 use Rattle.mmtel_trust.specs.declared.header_table.Facing.{Facing}

@@ -4,7 +4,8 @@ ghost use Rattle.mmtel_identity.specs.TrustDomain.{shows_identity, unless_restri
 ghost use Rattle.mmtel_message.specs.Message.{first_value, lines_named};
 ghost use Rattle.mmtel_history.specs.HistoryInfo.{masked_list};
 ghost use Rattle.mmtel_history.specs.declared.entries.Entry.{Entry};
-ghost use Rattle.mmtel_trust.specs.HeaderTable.{passes, passes_option, is_shown, asserted_lines, privacy_lines, other_lines, passed_lines, history_line, history_lines, carries_history, carried_history};
+ghost use Rattle.mmtel_trust.specs.HeaderTable.{passes, passes_option, is_shown, asserted_lines, privacy_lines, other_lines};
+ghost use Rattle.mmtel_trust.specs.HeaderTable.{passed_lines, history_line, history_lines, carries_history, carried_history};
 ghost use Rattle.mmtel_trust.specs.HeaderTable.{shown_lines, anonymous_party, named_text, attempt_from, name_addr_in};
 
 use crate::kinds::{HeaderKind, kind_of};

@@ -35,7 +35,8 @@ pub fn longest_prefix_is_chosen()
 /// What an untrusted peer is shown of a message whose sender is restricted does not depend on what is private in it, whichever places are private. Where only entries of
 /// History-Info are private, what any peer is shown by the header table does not depend on them, restricted or not.
 pub fn masked_shows_the_same()
-    ensures lines { (p : PrivateFields) (f : Facing) (history ls : List Line) → f.restricted ≡ true → passed_lines f false history (masked_lines p ls) ≡ passed_lines f false history ls }
+    ensures lines { (p : PrivateFields) (f : Facing) (history ls : List Line) → f.restricted ≡ true →
+        passed_lines f false history (masked_lines p ls) ≡ passed_lines f false history ls }
     ensures from { (p : PrivateFields) (tag : List ℕ) (ls : List Line) → attempt_from true tag (masked_lines p ls) ≡ attempt_from true tag ls }
     ensures entries { (es : Entries) (f : Facing) (to_trusted : Bool) (history ls : List Line) →
         passed_lines f to_trusted history (masked_lines (only_entries es) ls) ≡ passed_lines f to_trusted history ls }
@@ -74,7 +75,8 @@ pub fn masking_keeps_the_rest()
 
 /// Header fields that are chosen by name alone are the same whether chosen before or after masking, and a name whose fields stay has fields before and after.
 pub fn masks_see_no_names()
-    ensures chosen { (p : PrivateFields) (q : Line → Bool) → ((n v w : List ℕ) → q (n, v) ≡ q (n, w)) → (ls : List Line) → filter q (masked_lines p ls) ≡ masked_lines p (filter q ls) }
+    ensures chosen { (p : PrivateFields) (q : Line → Bool) → ((n v w : List ℕ) → q (n, v) ≡ q (n, w)) → (ls : List Line) →
+        filter q (masked_lines p ls) ≡ masked_lines p (filter q ls) }
     ensures named { (p : PrivateFields) (name : List ℕ) (ls : List Line) → lines_named name (masked_lines p ls) ≡ masked_lines p (lines_named name ls) }
     ensures dropped { (p : PrivateFields) (name : List ℕ) (ls : List Line) → lines_without name (masked_lines p ls) ≡ masked_lines p (lines_without name ls) }
     ensures there { (p : PrivateFields) (name : List ℕ) (ls : List Line) → keeps_lines p (kind_of name) ≡ true → has_line name (masked_lines p ls) ≡ has_line name ls }
@@ -102,7 +104,8 @@ pub fn masks_leave_the_route()
 pub fn masks_leave_the_rest()
     ensures received { (p : PrivateFields) (trusted : Bool) (m : Message Start) → parsed_message trusted (masked_message p m) ≡ hide p (parsed_message trusted m) }
     ensures public { (p : PrivateFields) (trusted : Bool) (m : Message Start) → public_part (parsed_message trusted (masked_message p m)) ≡ public_part (parsed_message trusted m) }
-    ensures equivalent { (p q : PrivateFields) (trusted : Bool) (m n : Message Start) → masked_message p m ≡ masked_message q n → public_part (parsed_message trusted m) ≡ public_part (parsed_message trusted n) }
+    ensures equivalent { (p q : PrivateFields) (trusted : Bool) (m n : Message Start) → masked_message p m ≡ masked_message q n →
+        public_part (parsed_message trusted m) ≡ public_part (parsed_message trusted n) }
 {}
 
 /// For two messages with equal masks the decisions are the same, and they show the same: to an untrusted peer where the caller is restricted, and to any peer where it is not.

@@ -41,7 +41,8 @@ without_reply_text (web.Mailbox account body) = web.Mailbox account body
 
 -- what is done depends on the texts in force only in what a reply reads,
 abbrev pub OnlyRepliesSeeTexts : Type 0
-OnlyRepliesSeeTexts = (d : WebDirectory) (texts : List (Account × List ℕ)) (request : ParsedRequestView) → without_reply_text (web_of d texts request) ≡ without_reply_text (web_of d [] request)
+OnlyRepliesSeeTexts = (d : WebDirectory) (texts : List (Account × List ℕ)) (request : ParsedRequestView) →
+    without_reply_text (web_of d texts request) ≡ without_reply_text (web_of d [] request)
 
 -- and so what is stored does not
 abbrev pub UploadsSeeNoText : Type 0
@@ -49,7 +50,8 @@ UploadsSeeNoText = (d : WebDirectory) (texts : List (Account × List ℕ)) (requ
 
 -- nor do the counts that are set
 abbrev pub MailboxesSeeNoText : Type 0
-MailboxesSeeNoText = (d : WebDirectory) (texts : List (Account × List ℕ)) (request : ParsedRequestView) (kept : KeeperOutcomeView) → counts_put_by kept (web_of d texts request) ≡ counts_put_in d request kept
+MailboxesSeeNoText = (d : WebDirectory) (texts : List (Account × List ℕ)) (request : ParsedRequestView) (kept : KeeperOutcomeView) →
+    counts_put_by kept (web_of d texts request) ≡ counts_put_in d request kept
 
 -- the sheet that is to be put in force is that of the text
 abbrev pub UploadsSayTheirText : Type 0

@@ -4,7 +4,8 @@ ghost use Rattle.mmtel_charging.specs.Rows.{text_of};
 ghost use Rattle.mmtel_http.specs.Requests.{request_of};
 ghost use Rattle.mmtel_records_in_force.specs.Records.{IsRegisteredBy};
 ghost use Rattle.mmtel_records_in_force.specs.Texts.{Registrations, put_stored};
-ghost use Rattle.mmtel_web_service.specs.KeeperCalls.{CountsFaults, HasKeeperResult, IsKeeperResult, IsRowsResult, IsStoreResult, SheetMatchesText, keeper_call_by, keeper_call_in, loads, stores};
+ghost use Rattle.mmtel_web_service.specs.KeeperCalls.{CountsFaults, HasKeeperResult, IsKeeperResult, IsRowsResult, IsStoreResult};
+ghost use Rattle.mmtel_web_service.specs.KeeperCalls.{SheetMatchesText, keeper_call_by, keeper_call_in, loads, stores};
 ghost use Rattle.mmtel_web_service.specs.KeeperOutcomes.{keeper_outcome_view};
 ghost use Rattle.mmtel_mwi.specs.Counting.{ReportsCounts};
 ghost use Rattle.mmtel_mwi.specs.declared.counts.Counts.{Counts};
@@ -250,7 +251,8 @@ fn serve_web<K: Keeper>(
     ensures reply { result.reply ≡ reply_to (keeper_outcome_view result.outcome) result.rows web }
     ensures texts { records.new.texts.texts ≡ put_stored (stored_upload (keeper_outcome_view result.outcome) (upload_by web)) records.old.texts.texts }
     ensures registered { (registrations : Registrations) → IsRegisteredBy records.old registrations → IsRegisteredBy records.new registrations }
-    ensures keeper { IsKeeperResult (keeper_call_by web) (keeper_outcome_view result.outcome) result.rows (K.contents keeper.old) (K.contents keeper.new) (K.calls keeper.old) (K.calls keeper.new) }
+    ensures keeper { IsKeeperResult (keeper_call_by web) (keeper_outcome_view result.outcome) result.rows (K.contents keeper.old)
+        (K.contents keeper.new) (K.calls keeper.old) (K.calls keeper.new) }
     ensures counted { CountsFaults (keeper_outcome_view result.outcome) (K.faults keeper.old) (K.faults keeper.new) }
     ensures put { result.mailbox_counts ≡ counts_put_by (keeper_outcome_view result.outcome) web }
 {
@@ -297,7 +299,8 @@ fn serve_bytes<K: Keeper>(
     ensures texts { records.new.texts.texts
         ≡ put_stored (stored_upload (keeper_outcome_view result.outcome) (upload_in directory.now (request_of bytes.now))) records.old.texts.texts }
     ensures registered { (registrations : Registrations) → IsRegisteredBy records.old registrations → IsRegisteredBy records.new registrations }
-    ensures keeper { IsKeeperResult (keeper_call_in directory.now (request_of bytes.now)) (keeper_outcome_view result.outcome) result.rows (K.contents keeper.old) (K.contents keeper.new) (K.calls keeper.old)
+    ensures keeper { IsKeeperResult (keeper_call_in directory.now (request_of bytes.now)) (keeper_outcome_view result.outcome) result.rows
+        (K.contents keeper.old) (K.contents keeper.new) (K.calls keeper.old)
         (K.calls keeper.new) }
     ensures counted { CountsFaults (keeper_outcome_view result.outcome) (K.faults keeper.old) (K.faults keeper.new) }
     ensures put { result.mailbox_counts ≡ counts_put_in directory.now (request_of bytes.now) (keeper_outcome_view result.outcome) }
@@ -333,7 +336,8 @@ pub fn serve<K: Keeper>(
     ensures registered { (registrations : Registrations) → IsRegisteredBy records.old registrations → IsRegisteredBy records.new registrations }
     // The keeper was called as the request requires, and its contents changed by that call alone.
     ensures keeper { IfOk result (λ served.
-        IsKeeperResult (keeper_call_in directory.now (request_of bytes.now)) (keeper_outcome_view served.outcome) served.rows (K.contents keeper.old) (K.contents keeper.new) (K.calls keeper.old) (K.calls keeper.new)) }
+        IsKeeperResult (keeper_call_in directory.now (request_of bytes.now)) (keeper_outcome_view served.outcome) served.rows
+        (K.contents keeper.old) (K.contents keeper.new) (K.calls keeper.old) (K.calls keeper.new)) }
     // Its count of faults rose exactly where its call failed.
     ensures counted { IfOk result (λ served. CountsFaults (keeper_outcome_view served.outcome) (K.faults keeper.old) (K.faults keeper.new)) }
     // The counts of a mailbox in the request are returned where the request was accepted.
@@ -342,7 +346,8 @@ pub fn serve<K: Keeper>(
     ensures unchanged { OnErr result (records.new ≡ records.old) }
     ensures uncalled { OnErr result (keeper.new ≡ keeper.old) }
     // So it satisfies the condition on a keeper's call during a request, in the form that the callers use.
-    ensures aborted { OnErr result (HasKeeperResult (keeper_call_in directory.now (request_of bytes.now)) (K.contents keeper.old) (K.contents keeper.new) (K.calls keeper.old) (K.calls keeper.new)
+    ensures aborted { OnErr result (HasKeeperResult (keeper_call_in directory.now (request_of bytes.now)) (K.contents keeper.old)
+        (K.contents keeper.new) (K.calls keeper.old) (K.calls keeper.new)
         (K.faults keeper.old) (K.faults keeper.new)) }
 {
     let sorry = reply(alloc, 507, &[])?;

@@ -15,7 +15,8 @@ use Rattle.clap.specs.declared.builder.value_parser.ValueParser.TheVariants as v
 use Rattle.clap.specs.declared.parser.matches.ValueSource.TheVariants.{CommandLine}
 use Rattle.mmtel_words.specs.CommandLine.{is_among}
 use Rattle.mmtel_words.proofs.Reader.{Form, mark, joined, apart, place, bad, reading, wanting, trailing, by_long, Entry, and_entry, at_place, by_form, read}
-use Rattle.mmtel_words.proofs.Walked.{none, none-or, Single, use-one, used-one, row_by, cond-none, at, goes, place-turn, place-next, stray-turn, dashes-turn, dashes-next, dashes-turn-w, dashes-next-w, unknown-turn, valued-turn, valued-next, wanting-turn, wanting-next, word-turn, word-next, value-turn, value-next, short-turn, waiting-turn, unknown-turn-w, short-turn-w, word-stray-turn, use-none}
+use Rattle.mmtel_words.proofs.Walked.{none, none-or, Single, use-one, used-one, row_by, cond-none, at, goes, place-turn, place-next, stray-turn, dashes-turn, dashes-next, dashes-turn-w, dashes-next-w, unknown-turn}
+use Rattle.mmtel_words.proofs.Walked.{valued-turn, valued-next, wanting-turn, wanting-next, word-turn, word-next, value-turn, value-next, short-turn, waiting-turn, unknown-turn-w, short-turn-w, word-stray-turn, use-none}
 use Rattle.std.proofs.lemmas.Slice.Eq.{bytes_eq-Decides}
 
 -- what the library keeps of an entry
@@ -98,7 +99,8 @@ given-is : (k : Text) (E : List Entry) → is_given k (rows E) ≡ has_row k (ro
 given-is k [] = refl
 given-is k (e ∷ es) = by (bytes_eq e.0 k) (given-is k es)
   where
-    by : (b : Bool) → is_given k (rows es) ≡ has_row k (rows es) → option_map_or (λ (q : Row). explicit_source q.source) (cond b (Some (row e)) (find (λ (q : Row). bytes_eq q.id k) (rows es))) false ≡ (b || has_row k (rows es))
+    by : (b : Bool) → is_given k (rows es) ≡ has_row k (rows es) →
+        option_map_or (λ (q : Row). explicit_source q.source) (cond b (Some (row e)) (find (λ (q : Row). bytes_eq q.id k) (rows es))) false ≡ (b || has_row k (rows es))
     by true h = refl
     by false h = h
 
@@ -193,7 +195,8 @@ module _ (s : Shape) (names keys : List Text) (u : Setup s names keys) where
   doomed-end : (E : List Entry) (k : Text) (wt : Waiting) (tr : Bool) (n : ℕ) → Keyed s k → goes s (at (rows E) (Some (k, [])) wt tr n) [] ≡ None
   doomed-end E k wt tr n key =
       let h : Held = record { rows = rows E; pending = Some (k, []); skip = 0 } in
-      ap (λ b. cond b (Some (settled s.rules h).rows) None) (none-or (settle_fault s.rules false h) _ ∙ ap (λ b. b && none (or_else (defaults_fault (settled s.rules h).rows s.rules) (check_fault s (finished s.rules h) false))) (shut E k key))
+      ap (λ b. cond b (Some (settled s.rules h).rows) None)
+      (none-or (settle_fault s.rules false h) _ ∙ ap (λ b. b && none (or_else (defaults_fault (settled s.rules h).rows s.rules) (check_fault s (finished s.rules h) false))) (shut E k key))
 
   doomed : (E : List Entry) (k : Text) (wt : Waiting) (n : ℕ) (left ws : List Text) → Places s n left → Keyed s k → goes s (at (rows E) (Some (k, [])) wt true n) ws ≡ None
   doomed E k wt n left [] pl key = doomed-end E k wt true n key
@@ -226,7 +229,8 @@ module _ (s : Shape) (names keys : List Text) (u : Setup s names keys) where
   -- a word that is read according to the grammar, by its form
   abbrev Reads : Text → List Text → List Entry → Option Entry → ℕ → List Text → Form → Type 0
   Reads x xs E p n left f = goes s (st E p idle false n) (x ∷ xs)
-      ≡ settle E p (λ F. good keys F (by_form f (read names xs left trailing) (λ k v. and_entry (k, v) (read names xs left reading)) (λ k. read names xs left (wanting k)) (at_place left x (λ l. read names xs l reading))))
+      ≡ settle E p
+      (λ F. good keys F (by_form f (read names xs left trailing) (λ k v. and_entry (k, v) (read names xs left reading)) (λ k. read names xs left (wanting k)) (at_place left x (λ l. read names xs l reading))))
 
   place-step : (x : Text) (xs : List Text) → Claim xs → (E : List Entry) (p : Option Entry) (n : ℕ) (left : List Text) → Places s n left → Ready s p
       → bytes_eq x (45 ∷ 45 ∷ []) ≡ false → long_of x ≡ None → short_of x ≡ None → Reads x xs E p n left place

@@ -1,5 +1,6 @@
 -- How single words are read, and what they are spelled by.
-use Rattle.std.proofs.Common.{◌≡◌, ◌∙◌, ℕ, suc, zero, ◌+◌, ◌<◌, ◌&&◌, ◌||◌, cond, true, false, not, nat_eq, refl, sym, ap, subst, codes, List, [], ◌∷◌, ◌++◌, Bool, Some, None, Option, length, get_or, take, drop, arith, inl, inr, ◌==◌, ◌≢◌}
+use Rattle.std.proofs.Common.{◌≡◌, ◌∙◌, ℕ, suc, zero, ◌+◌, ◌<◌, ◌&&◌, ◌||◌, cond, true, false, not, nat_eq, refl, sym, ap, subst, codes}
+use Rattle.std.proofs.Common.{List, [], ◌∷◌, ◌++◌, Bool, Some, None, Option, length, get_or, take, drop, arith, inl, inr, ◌==◌, ◌≢◌}
 use Rattle.std.proofs.lemmas.Bool.{cases_Bool, eqb-true, eqb-false, ne_eqb}
 use Rattle.std.proofs.lemmas.Slice.Eq.{bytes_eq-Decides}
 use Rattle.std.specs.List.{list_all, before_first, after_first, position_or_len}
@@ -128,7 +129,8 @@ apart_is x k e = let d = dashed x (k, None) e in d.whole ∙ ap (λ t. 45 ∷ 45
 pub place_is : (x : Text) → bytes_eq x (45 ∷ 45 ∷ []) ≡ false → long_of x ≡ None → short_of x ≡ None → is_positional x ≡ true
 place_is [] d l s = refl
 place_is (b ∷ rest) d l s = elim (cases_Bool (b == 45)) [
-  | inl y ↦ let P : ℕ → Type 0 = λ n. bytes_eq (n ∷ rest) (45 ∷ 45 ∷ []) ≡ false → long_of (n ∷ rest) ≡ None → short_of (n ∷ rest) ≡ None → is_positional (n ∷ rest) ≡ true in subst P (sym (eqb-true b 45 y)) (by rest) d l s
+  | inl y ↦ let P : ℕ → Type 0 = λ n. bytes_eq (n ∷ rest) (45 ∷ 45 ∷ []) ≡ false → long_of (n ∷ rest) ≡ None → short_of (n ∷ rest) ≡ None → is_positional (n ∷ rest) ≡ true in
+      subst P (sym (eqb-true b 45 y)) (by rest) d l s
   | inr n ↦ let m : nat_eq 45 b ≡ false = ne_eqb 45 b (λ same. eqb-false b 45 n (sym same)) in rw (n, m) refl
 ]
   where

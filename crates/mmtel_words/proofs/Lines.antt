@@ -114,7 +114,8 @@ abbrev pub workload_options : Text → Text → List (Text × Text)
 workload_options calls salt = (codes "calls", calls) ∷ (codes "salt", salt) ∷ []
 
 serve_names : (config token turns : Text) → Names (serve_options token turns) (codes "config" ∷ []) (config ∷ [])
-serve_names config token turns = record { fine = refl; off = (refl, (refl, tt)); other = (refl, tt); lone = one_alone (codes "config"); tells = one_determines (codes "config") config; told = (refl, tt); many = omega arith }
+serve_names config token turns =
+    record { fine = refl; off = (refl, (refl, tt)); other = (refl, tt); lone = one_alone (codes "config"); tells = one_determines (codes "config") config; told = (refl, tt); many = omega arith }
 
 replay_names : (config script token : Text) → Names (replay_options token) (codes "config" ∷ codes "script" ∷ []) (config ∷ script ∷ [])
 replay_names config script token = record { fine = refl; off = (refl, tt); other = (refl, (refl, tt)); lone = two_alone; tells = two_determines config script; told = (refl, (refl, tt)); many = omega arith }
@@ -147,9 +148,11 @@ line_of a options ids pos ws is r = by (fault_of a ws) refl (sym is ∙ r.is)
         let both = subst P same (r.firsts, r.places) in
         record { fault = e; firsts = both.0; places = both.1 }
 
-pub serve_line : (config token turns : Text) (ws : List Text) → EachText ws → Spells (codes "serve") (config ∷ []) (serve_options token turns) (codes "serve" ∷ ws) → Line serve_app (serve_options token turns) (codes "config" ∷ []) (config ∷ []) ws
+pub serve_line : (config token turns : Text) (ws : List Text) → EachText ws → Spells (codes "serve") (config ∷ []) (serve_options token turns) (codes "serve" ∷ ws) →
+    Line serve_app (serve_options token turns) (codes "config" ∷ []) (config ∷ []) ws
 serve_line config token turns ws texts s =
-    line_of serve_app (serve_options token turns) (codes "config" ∷ []) (config ∷ []) ws (serve_read ws texts) (is_read_as (codes "serve") (serve_options token turns) (codes "config" ∷ []) (config ∷ []) ws (serve_names config token turns) s)
+    line_of serve_app (serve_options token turns) (codes "config" ∷ []) (config ∷ []) ws (serve_read ws texts)
+    (is_read_as (codes "serve") (serve_options token turns) (codes "config" ∷ []) (config ∷ []) ws (serve_names config token turns) s)
 
 pub replay_line : (config script token : Text) (ws : List Text) → EachText ws → Spells (codes "replay") (config ∷ script ∷ []) (replay_options token) (codes "replay" ∷ ws)
     → Line replay_app (replay_options token) (codes "config" ∷ codes "script" ∷ []) (config ∷ script ∷ []) ws
@@ -171,7 +174,8 @@ serve_spelled config token turns ws texts l plain =
     is_spelled (codes "serve") (serve_options token turns) (codes "config" ∷ []) (config ∷ []) ws (matches_of serve_app ws) (serve_names config token turns) texts
     (matches_are_read serve_app (codes "token" ∷ codes "turns" ∷ []) (codes "config" ∷ []) ws (serve_read ws texts.1) l.fault) l.firsts l.places plain
 
-pub replay_spelled : (config script token : Text) (ws : List Text) → EachText (codes "replay" ∷ ws) → Line replay_app (replay_options token) (codes "config" ∷ codes "script" ∷ []) (config ∷ script ∷ []) ws → EachPlain (replay_options token)
+pub replay_spelled : (config script token : Text) (ws : List Text) → EachText (codes "replay" ∷ ws) →
+    Line replay_app (replay_options token) (codes "config" ∷ codes "script" ∷ []) (config ∷ script ∷ []) ws → EachPlain (replay_options token)
     → Spells (codes "replay") (config ∷ script ∷ []) (replay_options token) (codes "replay" ∷ ws)
 replay_spelled config script token ws texts l plain =
     is_spelled (codes "replay") (replay_options token) (codes "config" ∷ codes "script" ∷ []) (config ∷ script ∷ []) ws (matches_of replay_app ws) (replay_names config script token) texts
@@ -179,7 +183,8 @@ replay_spelled config script token ws texts l plain =
 
 pub file_spelled : (command file : Text) (ws : List Text) → EachText (command ∷ ws) → Line (file_app command) [] (codes "file" ∷ []) (file ∷ []) ws → Spells command (file ∷ []) [] (command ∷ ws)
 file_spelled command file ws texts l =
-    is_spelled command [] (codes "file" ∷ []) (file ∷ []) ws (matches_of (file_app command) ws) (file_names file) texts (matches_are_read (file_app command) [] (codes "file" ∷ []) ws (file_read command ws texts.1) l.fault) l.firsts l.places tt
+    is_spelled command [] (codes "file" ∷ []) (file ∷ []) ws (matches_of (file_app command) ws) (file_names file) texts
+    (matches_are_read (file_app command) [] (codes "file" ∷ []) ws (file_read command ws texts.1) l.fault) l.firsts l.places tt
 
 pub workload_spelled : (calls salt : Text) (ws : List Text) → EachText (codes "workload" ∷ ws) → Line workload_app (workload_options calls salt) [] [] ws → EachPlain (workload_options calls salt)
     → Spells (codes "workload") [] (workload_options calls salt) (codes "workload" ∷ ws)
@@ -240,7 +245,8 @@ same_command (Serve c t n) (Serve c' t' n') ws texts a b =
 same_command (Replay x) (Replay y) ws texts a b =
     let p = replay_line x.config x.script x.token ws texts a.1 in
     let q = replay_line y.config y.script y.token ws texts b.1 in
-    same_replay x.config y.config x.script y.script x.token y.token (same_first _ x.config y.config p.places.0 q.places.0) (same_first _ x.script y.script p.places.1.0 q.places.1.0) (same_first _ x.token y.token p.firsts.0 q.firsts.0)
+    same_replay x.config y.config x.script y.script x.token y.token (same_first _ x.config y.config p.places.0 q.places.0) (same_first _ x.script y.script p.places.1.0 q.places.1.0)
+    (same_first _ x.token y.token p.firsts.0 q.firsts.0)
 same_command (Check r) (Check r') ws texts a b =
     let p = file_line (codes "check") r ws texts a in
     let q = file_line (codes "check") r' ws texts b in

@@ -14,7 +14,8 @@ use Rattle.mmtel_words.specs.Reads.{SpellsNone, ReadsCommand, IsOneFile, Matches
 use Rattle.mmtel_words.specs.Rules.{serve_app, replay_app, file_app, workload_app}
 use Rattle.mmtel_words.specs.declared.faults.WordsFault.{WordsFault}
 use Rattle.mmtel_words.specs.declared.faults.WordsFault.TheVariants.{Words, NoMemory}
-use Rattle.mmtel_words.proofs.Lines.{Line, token_plain, number_plain, serve_options, replay_options, workload_options, serve_line, replay_line, file_line, workload_line, serve_spelled, replay_spelled, file_spelled, workload_spelled, name_of, none_else}
+use Rattle.mmtel_words.proofs.Lines.{Line, token_plain, number_plain, serve_options, replay_options, workload_options, serve_line, replay_line}
+use Rattle.mmtel_words.proofs.Lines.{file_line, workload_line, serve_spelled, replay_spelled, file_spelled, workload_spelled, name_of, none_else}
 
 -- the commands are simple
 pub serve_simple : is_simple_and_free serve_app ≡ true
@@ -53,7 +54,8 @@ module _ (a : App) (ws : List Text) (m : ArgMatches) (f : MatchesIn a ws (Ok m))
 -- ---- serve
 
 serve_none : (ws : List Text) → EachText (codes "serve" ∷ ws)
-    → ((config token : Text) (turns : ℕ) → is_token token ≡ true → 1 ≤ turns → turns ≤ 1000000000 → Line serve_app (serve_options token (decimal turns)) (codes "config" ∷ []) (config ∷ []) ws → ⊥) → SpellsNone (codes "serve" ∷ ws)
+    → ((config token : Text) (turns : ℕ) → is_token token ≡ true → 1 ≤ turns → turns ≤ 1000000000 → Line serve_app (serve_options token (decimal turns)) (codes "config" ∷ []) (config ∷ []) ws → ⊥) →
+    SpellsNone (codes "serve" ∷ ws)
 serve_none ws texts h = none_else (codes "serve") ws by
   where
     by : (c : Command) → bytes_eq (codes "serve") (name_of c) ≡ true → IsCommand c (codes "serve" ∷ ws) → ⊥
@@ -67,20 +69,24 @@ pub serve_unfound : (ws : List Text) → EachText (codes "serve" ∷ ws) → (r 
 serve_unfound ws texts NoMemory h = tt
 serve_unfound ws texts Words h = serve_none ws texts (λ config token turns is least most l. h l.fault)
 
-pub serve_no_token : (ws : List Text) → EachText (codes "serve" ∷ ws) → (m : ArgMatches) → MatchesIn serve_app ws (Ok m) → (r : WordsFault) → IsToken (value_of m (codes "token")) (Err r) → ReadsCommand (codes "serve" ∷ ws) (Err r)
+pub serve_no_token : (ws : List Text) → EachText (codes "serve" ∷ ws) → (m : ArgMatches) → MatchesIn serve_app ws (Ok m) → (r : WordsFault) → IsToken (value_of m (codes "token")) (Err r) →
+    ReadsCommand (codes "serve" ∷ ws) (Err r)
 serve_no_token ws texts m f NoMemory h = tt
 serve_no_token ws texts m f Words h = serve_none ws texts (λ config token turns is least most l. wrong_token (value_of m (codes "token")) token h (here serve_app ws m f (codes "token") token l.firsts.0) is)
 
-pub serve_no_turns : (ws : List Text) → EachText (codes "serve" ∷ ws) → (m : ArgMatches) → MatchesIn serve_app ws (Ok m) → (r : WordsFault) → IsNumber (value_of m (codes "turns")) 1 1000000000 (Err r) → ReadsCommand (codes "serve" ∷ ws) (Err r)
+pub serve_no_turns : (ws : List Text) → EachText (codes "serve" ∷ ws) → (m : ArgMatches) → MatchesIn serve_app ws (Ok m) → (r : WordsFault) →
+    IsNumber (value_of m (codes "turns")) 1 1000000000 (Err r) → ReadsCommand (codes "serve" ∷ ws) (Err r)
 serve_no_turns ws texts m f NoMemory h = tt
 serve_no_turns ws texts m f Words h = serve_none ws texts (λ config token turns is least most l. h turns least most (here serve_app ws m f (codes "turns") (decimal turns) l.firsts.1.0))
 
-pub serve_no_config : (ws : List Text) → EachText (codes "serve" ∷ ws) → (m : ArgMatches) → MatchesIn serve_app ws (Ok m) → (r : WordsFault) → IsText (value_of m (codes "config")) (Err r) → ReadsCommand (codes "serve" ∷ ws) (Err r)
+pub serve_no_config : (ws : List Text) → EachText (codes "serve" ∷ ws) → (m : ArgMatches) → MatchesIn serve_app ws (Ok m) → (r : WordsFault) → IsText (value_of m (codes "config")) (Err r) →
+    ReadsCommand (codes "serve" ∷ ws) (Err r)
 serve_no_config ws texts m f NoMemory h = tt
 serve_no_config ws texts m f Words h = serve_none ws texts (λ config token turns is least most l. missing (value_of m (codes "config")) config h (here serve_app ws m f (codes "config") config l.places.0))
 
 pub serve_read_as : (ws : List Text) → EachText (codes "serve" ∷ ws) → (m : ArgMatches) → MatchesIn serve_app ws (Ok m) → (config token : Text) (turns : ℕ)
-    → IsToken (value_of m (codes "token")) (Ok token) → IsNumber (value_of m (codes "turns")) 1 1000000000 (Ok turns) → IsText (value_of m (codes "config")) (Ok config) → IsCommand (Serve config token turns) (codes "serve" ∷ ws)
+    → IsToken (value_of m (codes "token")) (Ok token) → IsNumber (value_of m (codes "turns")) 1 1000000000 (Ok turns) → IsText (value_of m (codes "config")) (Ok config) →
+    IsCommand (Serve config token turns) (codes "serve" ∷ ws)
 serve_read_as ws texts m f config token turns t n c =
     let most : turns ≤ 1000000000 = n.2 in (
       t.1,
@@ -97,7 +103,8 @@ serve_read_as ws texts m f config token turns t n c =
 -- ---- replay
 
 replay_none : (ws : List Text) → EachText (codes "replay" ∷ ws)
-    → ((asked : ReplayArgs) → is_token asked.token ≡ true → Line replay_app (replay_options asked.token) (codes "config" ∷ codes "script" ∷ []) (asked.config ∷ asked.script ∷ []) ws → ⊥) → SpellsNone (codes "replay" ∷ ws)
+    → ((asked : ReplayArgs) → is_token asked.token ≡ true → Line replay_app (replay_options asked.token) (codes "config" ∷ codes "script" ∷ []) (asked.config ∷ asked.script ∷ []) ws → ⊥) →
+    SpellsNone (codes "replay" ∷ ws)
 replay_none ws texts h = none_else (codes "replay") ws by
   where
     by : (c : Command) → bytes_eq (codes "replay") (name_of c) ≡ true → IsCommand c (codes "replay" ∷ ws) → ⊥
@@ -111,15 +118,18 @@ pub replay_unfound : (ws : List Text) → EachText (codes "replay" ∷ ws) → (
 replay_unfound ws texts NoMemory h = tt
 replay_unfound ws texts Words h = replay_none ws texts (λ asked is l. h l.fault)
 
-pub replay_no_token : (ws : List Text) → EachText (codes "replay" ∷ ws) → (m : ArgMatches) → MatchesIn replay_app ws (Ok m) → (r : WordsFault) → IsToken (value_of m (codes "token")) (Err r) → ReadsCommand (codes "replay" ∷ ws) (Err r)
+pub replay_no_token : (ws : List Text) → EachText (codes "replay" ∷ ws) → (m : ArgMatches) → MatchesIn replay_app ws (Ok m) → (r : WordsFault) → IsToken (value_of m (codes "token")) (Err r) →
+    ReadsCommand (codes "replay" ∷ ws) (Err r)
 replay_no_token ws texts m f NoMemory h = tt
 replay_no_token ws texts m f Words h = replay_none ws texts (λ asked is l. wrong_token (value_of m (codes "token")) asked.token h (here replay_app ws m f (codes "token") asked.token l.firsts.0) is)
 
-pub replay_no_config : (ws : List Text) → EachText (codes "replay" ∷ ws) → (m : ArgMatches) → MatchesIn replay_app ws (Ok m) → (r : WordsFault) → IsText (value_of m (codes "config")) (Err r) → ReadsCommand (codes "replay" ∷ ws) (Err r)
+pub replay_no_config : (ws : List Text) → EachText (codes "replay" ∷ ws) → (m : ArgMatches) → MatchesIn replay_app ws (Ok m) → (r : WordsFault) → IsText (value_of m (codes "config")) (Err r) →
+    ReadsCommand (codes "replay" ∷ ws) (Err r)
 replay_no_config ws texts m f NoMemory h = tt
 replay_no_config ws texts m f Words h = replay_none ws texts (λ asked is l. missing (value_of m (codes "config")) asked.config h (here replay_app ws m f (codes "config") asked.config l.places.0))
 
-pub replay_no_script : (ws : List Text) → EachText (codes "replay" ∷ ws) → (m : ArgMatches) → MatchesIn replay_app ws (Ok m) → (r : WordsFault) → IsText (value_of m (codes "script")) (Err r) → ReadsCommand (codes "replay" ∷ ws) (Err r)
+pub replay_no_script : (ws : List Text) → EachText (codes "replay" ∷ ws) → (m : ArgMatches) → MatchesIn replay_app ws (Ok m) → (r : WordsFault) → IsText (value_of m (codes "script")) (Err r) →
+    ReadsCommand (codes "replay" ∷ ws) (Err r)
 replay_no_script ws texts m f NoMemory h = tt
 replay_no_script ws texts m f Words h = replay_none ws texts (λ asked is l. missing (value_of m (codes "script")) asked.script h (here replay_app ws m f (codes "script") asked.script l.places.1.0))
 
@@ -142,11 +152,13 @@ pub file_unfound : (name : Text) (ws : List Text) → EachText (name ∷ ws) →
 file_unfound name ws texts NoMemory h = tt
 file_unfound name ws texts Words h = λ text s. h (file_line name text ws texts.1 s).fault
 
-pub file_no_text : (name : Text) (ws : List Text) → EachText (name ∷ ws) → (m : ArgMatches) → MatchesIn (file_app name) ws (Ok m) → (r : WordsFault) → IsText (value_of m (codes "file")) (Err r) → IsOneFile name ws (Err r)
+pub file_no_text : (name : Text) (ws : List Text) → EachText (name ∷ ws) → (m : ArgMatches) → MatchesIn (file_app name) ws (Ok m) → (r : WordsFault) →
+    IsText (value_of m (codes "file")) (Err r) → IsOneFile name ws (Err r)
 file_no_text name ws texts m f NoMemory h = tt
 file_no_text name ws texts m f Words h = λ text s. missing (value_of m (codes "file")) text h (here (file_app name) ws m f (codes "file") text (file_line name text ws texts.1 s).places.0)
 
-pub file_read_as : (name : Text) (ws : List Text) → EachText (name ∷ ws) → (m : ArgMatches) → MatchesIn (file_app name) ws (Ok m) → (text : Text) → IsText (value_of m (codes "file")) (Ok text) → IsOneFile name ws (Ok text)
+pub file_read_as : (name : Text) (ws : List Text) → EachText (name ∷ ws) → (m : ArgMatches) → MatchesIn (file_app name) ws (Ok m) → (text : Text) → IsText (value_of m (codes "file")) (Ok text) →
+    IsOneFile name ws (Ok text)
 file_read_as name ws texts m f text c = file_spelled name text ws texts (record { fault = f.0; firsts = tt; places = (at (file_app name) ws m f (codes "file") (Some text) c, tt) })
 
 pub file_is : (name : Text) (ws : List Text) → EachText (name ∷ ws) → (m : ArgMatches) → MatchesIn (file_app name) ws (Ok m) → (r : Result Text WordsFault) → IsText (value_of m (codes "file")) r → IsOneFile name ws r
@@ -192,11 +204,13 @@ pub workload_unfound : (ws : List Text) → EachText (codes "workload" ∷ ws) �
 workload_unfound ws texts NoMemory h = tt
 workload_unfound ws texts Words h = workload_none ws texts (λ calls salt least most greatest l. h l.fault)
 
-pub workload_no_calls : (ws : List Text) → EachText (codes "workload" ∷ ws) → (m : ArgMatches) → MatchesIn workload_app ws (Ok m) → (r : WordsFault) → IsNumber (value_of m (codes "calls")) 1 10000 (Err r) → ReadsCommand (codes "workload" ∷ ws) (Err r)
+pub workload_no_calls : (ws : List Text) → EachText (codes "workload" ∷ ws) → (m : ArgMatches) → MatchesIn workload_app ws (Ok m) → (r : WordsFault) →
+    IsNumber (value_of m (codes "calls")) 1 10000 (Err r) → ReadsCommand (codes "workload" ∷ ws) (Err r)
 workload_no_calls ws texts m f NoMemory h = tt
 workload_no_calls ws texts m f Words h = workload_none ws texts (λ calls salt least most greatest l. h calls least most (here workload_app ws m f (codes "calls") (decimal calls) l.firsts.0))
 
-pub workload_no_salt : (ws : List Text) → EachText (codes "workload" ∷ ws) → (m : ArgMatches) → MatchesIn workload_app ws (Ok m) → (r : WordsFault) → IsNumber (value_of m (codes "salt")) 0 4294967295 (Err r) → ReadsCommand (codes "workload" ∷ ws) (Err r)
+pub workload_no_salt : (ws : List Text) → EachText (codes "workload" ∷ ws) → (m : ArgMatches) → MatchesIn workload_app ws (Ok m) → (r : WordsFault) →
+    IsNumber (value_of m (codes "salt")) 0 4294967295 (Err r) → ReadsCommand (codes "workload" ∷ ws) (Err r)
 workload_no_salt ws texts m f NoMemory h = tt
 workload_no_salt ws texts m f Words h = workload_none ws texts (λ calls salt least most greatest l. h salt (omega arith) greatest (here workload_app ws m f (codes "salt") (decimal salt) l.firsts.1.0))
 
@@ -215,7 +229,8 @@ workload_read_as ws texts m f calls salt n s =
 
 -- ---- any other first word
 
-pub no_such : (name : Text) (ws : List Text) → bytes_eq name (codes "serve") ≡ false → bytes_eq name (codes "replay") ≡ false → bytes_eq name (codes "check") ≡ false → bytes_eq name (codes "charges") ≡ false → bytes_eq name (codes "workload") ≡ false → SpellsNone (name ∷ ws)
+pub no_such : (name : Text) (ws : List Text) → bytes_eq name (codes "serve") ≡ false → bytes_eq name (codes "replay") ≡ false → bytes_eq name (codes "check") ≡ false →
+    bytes_eq name (codes "charges") ≡ false → bytes_eq name (codes "workload") ≡ false → SpellsNone (name ∷ ws)
 no_such name ws a b c d e = none_else name ws by
   where
     by : (k : Command) → bytes_eq name (name_of k) ≡ true → IsCommand k (name ∷ ws) → ⊥

@@ -130,7 +130,8 @@ record IsCommandSetup (s : Shape) (names ids : List Text) : Type 0 where
   sub : s.subcommand_required ≡ false
   negates : s.subcommand_negates_reqs ≡ false
 
-ends_of : (s : Shape) (names ids : List Text) → IsCommandSetup s names ids → (h : Held) → none (or_else (defaults_fault (settled s.rules h).rows s.rules) (check_fault s (finished s.rules h) false)) ≡ list_all (λ k. is_given k (settled s.rules h).rows) (names ++ ids)
+ends_of : (s : Shape) (names ids : List Text) → IsCommandSetup s names ids → (h : Held) →
+    none (or_else (defaults_fault (settled s.rules h).rows s.rules) (check_fault s (finished s.rules h) false)) ≡ list_all (λ k. is_given k (settled s.rules h).rows) (names ++ ids)
 ends_of s names ids t h =
     let E = (settled s.rules h).rows in
     let D = list_all (λ k. is_given k E) (keys_of s.rules) in

@@ -186,7 +186,8 @@ plain_again names [] left few = refl
 plain_again names (w ∷ ws) [] few = absurd (omega arith)
 plain_again names (w ∷ ws) (id ∷ left) few = ap (and_entry (id, w)) (plain_again names ws left (omega arith))
 
-pub read_again : (names : List Text) → list_all is_name names ≡ true → (marked : Option (List Text)) (pieces : List Piece) (left : List Text) → EachMayAppearSpelled names pieces → length (words_of pieces marked) ≤ length left
+pub read_again : (names : List Text) → list_all is_name names ≡ true → (marked : Option (List Text)) (pieces : List Piece) (left : List Text) → EachMayAppearSpelled names pieces →
+    length (words_of pieces marked) ≤ length left
     → read names (flat_map spelling pieces ++ mark_words marked) left reading ≡ Some (entries_of pieces left (words_after_mark marked))
 read_again names fine None [] left stand few = refl
 read_again names fine (Some ws) [] left stand few = plain_again names ws left few

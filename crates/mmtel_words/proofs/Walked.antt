@@ -5,7 +5,8 @@ use Rattle.clap.specs.Words.{Text, Row, Rule, Shape}
 use Rattle.clap.specs.Lexer.{long_of, short_of}
 use Rattle.clap.specs.Facts.{parser_of_value, unwrap_or_range}
 use Rattle.clap.specs.Kinds.{Kinds, or_else}
-use Rattle.clap.specs.Walk.{Held, Walk, Waiting, idle, option, at_row, has_row, used, settled, settled_rows, walked, finished, takes_values, takes_several, action_of, most_values, is_multiple, reading_by, without, arg_by_id, arg_by_index, arg_by_long, arg_by_short, more_values}
+use Rattle.clap.specs.Walk.{Held, Walk, Waiting, idle, option, at_row, has_row, used, settled, settled_rows, walked, finished, takes_values, takes_several}
+use Rattle.clap.specs.Walk.{action_of, most_values, is_multiple, reading_by, without, arg_by_id, arg_by_index, arg_by_long, arg_by_short, more_values}
 use Rattle.clap.specs.Faults.{settle_fault, walk_fault, turn_fault, use_fault, defaults_fault, check_fault, flags_fault}
 use Rattle.clap.specs.declared.builder.action.ArgAction.TheVariants.{Set}
 use Rattle.clap.specs.declared.builder.value_parser.ValueParser.TheVariants as vp
@@ -58,7 +59,8 @@ cond-none false = refl
 
 -- one use with one value fails exactly where there was one before
 pub use-one : (a : Rule) (v : Text) (rows : List Row) → Single a → use_fault false a (v ∷ []) rows ≡ cond (has_row a.id rows) (kind.ArgumentConflict ∷ []) []
-use-one a v rows p = rw (p.least, p.most, p.act, p.parser, and-true (has_row a.id rows)) (elim (has_row a.id rows) as (λ b. or_else (cond b (kind.ArgumentConflict ∷ []) []) [] ≡ cond b (kind.ArgumentConflict ∷ []) []) [ true ↦ refl | false ↦ refl ])
+use-one a v rows p = rw (p.least, p.most, p.act, p.parser, and-true (has_row a.id rows))
+    (elim (has_row a.id rows) as (λ b. or_else (cond b (kind.ArgumentConflict ∷ []) []) [] ≡ cond b (kind.ArgumentConflict ∷ []) []) [ true ↦ refl | false ↦ refl ])
 
 -- one use with no value fails
 pub use-none : (a : Rule) (rows : List Row) → Single a → none (use_fault false a [] rows) ≡ false
@@ -126,17 +128,20 @@ dashes-next s rows p n x e = rw e refl
 pub dashes-turn-w : (s : Shape) (rows : List Row) (p : Option (Text × List Text)) (id : Text) (n : ℕ) (x : Text) → bytes_eq x (45 ∷ 45 ∷ []) ≡ true → turn_fault s [] (at rows p (option id) false n) x ≡ []
 dashes-turn-w s rows p id n x e = rw e refl
 
-pub dashes-next-w : (s : Shape) (rows : List Row) (p : Option (Text × List Text)) (id : Text) (n : ℕ) (x : Text) → bytes_eq x (45 ∷ 45 ∷ []) ≡ true → walked s.rules [] (at rows p (option id) false n) x ≡ at rows p (option id) true n
+pub dashes-next-w : (s : Shape) (rows : List Row) (p : Option (Text × List Text)) (id : Text) (n : ℕ) (x : Text) → bytes_eq x (45 ∷ 45 ∷ []) ≡ true →
+    walked s.rules [] (at rows p (option id) false n) x ≡ at rows p (option id) true n
 unfolding walked
 dashes-next-w s rows p id n x e = rw e refl
 
 -- an option that the command does not have
-pub unknown-turn : (s : Shape) (rows : List Row) (p : Option (Text × List Text)) (n : ℕ) (x name : Text) (v : Option Text) → bytes_eq x (45 ∷ 45 ∷ []) ≡ false → long_of x ≡ Some (name, v) → arg_by_long s.rules name ≡ None
+pub unknown-turn : (s : Shape) (rows : List Row) (p : Option (Text × List Text)) (n : ℕ) (x name : Text) (v : Option Text) → bytes_eq x (45 ∷ 45 ∷ []) ≡ false → long_of x ≡ Some (name, v) →
+    arg_by_long s.rules name ≡ None
     → turn_fault s [] (at rows p idle false n) x ≡ kind.UnknownArgument ∷ []
 unknown-turn s rows p n x name v e long lost = rw (e, long, lost) refl
 
 -- `--token=value`
-pub valued-turn : (s : Shape) (a : Rule) (rows : List Row) (p : Option (Text × List Text)) (n : ℕ) (x name v : Text) → Single a → bytes_eq x (45 ∷ 45 ∷ []) ≡ false → long_of x ≡ Some (name, Some v) → arg_by_long s.rules name ≡ Some a
+pub valued-turn : (s : Shape) (a : Rule) (rows : List Row) (p : Option (Text × List Text)) (n : ℕ) (x name v : Text) → Single a → bytes_eq x (45 ∷ 45 ∷ []) ≡ false → long_of x ≡ Some (name, Some v) →
+    arg_by_long s.rules name ≡ Some a
     → s.args_override_self ≡ false
     → none (turn_fault s [] (at rows p idle false n) x) ≡ (none (settle_fault s.rules false (record { rows = rows; pending = p; skip = 0 })) && not (has_row a.id (settled_rows s.rules p rows)))
 valued-turn s a rows p n x name v single e long found again =
@@ -144,29 +149,34 @@ valued-turn s a rows p n x name v single e long found again =
     let E = settled_rows s.rules p rows in
     rw (e, long, found, single.values, again) (two A (use_fault false a (v ∷ []) E) ∙ ap (λ b. none A && none b) (use-one a v E single) ∙ ap (λ b. none A && b) (cond-none (has_row a.id E)))
 
-pub valued-next : (s : Shape) (a : Rule) (rows : List Row) (p : Option (Text × List Text)) (n : ℕ) (x name v : Text) → Single a → bytes_eq x (45 ∷ 45 ∷ []) ≡ false → long_of x ≡ Some (name, Some v) → arg_by_long s.rules name ≡ Some a
+pub valued-next : (s : Shape) (a : Rule) (rows : List Row) (p : Option (Text × List Text)) (n : ℕ) (x name v : Text) → Single a → bytes_eq x (45 ∷ 45 ∷ []) ≡ false → long_of x ≡ Some (name, Some v) →
+    arg_by_long s.rules name ≡ Some a
     → walked s.rules [] (at rows p idle false n) x ≡ at (used a (v ∷ []) (settled_rows s.rules p rows)) None idle false n
 unfolding walked
 valued-next s a rows p n x name v single e long found = rw (e, long, found, single.values) refl
 
 -- `--token`, whose value is the next word
-pub wanting-turn : (s : Shape) (a : Rule) (rows : List Row) (p : Option (Text × List Text)) (n : ℕ) (x name : Text) → Single a → bytes_eq x (45 ∷ 45 ∷ []) ≡ false → long_of x ≡ Some (name, None) → arg_by_long s.rules name ≡ Some a
+pub wanting-turn : (s : Shape) (a : Rule) (rows : List Row) (p : Option (Text × List Text)) (n : ℕ) (x name : Text) → Single a → bytes_eq x (45 ∷ 45 ∷ []) ≡ false → long_of x ≡ Some (name, None) →
+    arg_by_long s.rules name ≡ Some a
     → s.args_override_self ≡ false
     → none (turn_fault s [] (at rows p idle false n) x) ≡ none (settle_fault s.rules false (record { rows = rows; pending = p; skip = 0 }))
 wanting-turn s a rows p n x name single e long found again =
     rw (e, long, found, single.values, again) (ap none (or-nil (settle_fault s.rules false (record { rows = rows; pending = p; skip = 0 }))))
 
-pub wanting-next : (s : Shape) (a : Rule) (rows : List Row) (p : Option (Text × List Text)) (n : ℕ) (x name : Text) → Single a → bytes_eq x (45 ∷ 45 ∷ []) ≡ false → long_of x ≡ Some (name, None) → arg_by_long s.rules name ≡ Some a
+pub wanting-next : (s : Shape) (a : Rule) (rows : List Row) (p : Option (Text × List Text)) (n : ℕ) (x name : Text) → Single a → bytes_eq x (45 ∷ 45 ∷ []) ≡ false → long_of x ≡ Some (name, None) →
+    arg_by_long s.rules name ≡ Some a
     → walked s.rules [] (at rows p idle false n) x ≡ at (settled_rows s.rules p rows) (Some (a.id, [])) (option a.id) false n
 unfolding walked
 wanting-next s a rows p n x name single e long found = rw (e, long, found, single.values) refl
 
 -- a word that is no option is a positional
-pub word-turn : (s : Shape) (a : Rule) (rows : List Row) (p : Option (Text × List Text)) (n : ℕ) (x : Text) → Single a → bytes_eq x (45 ∷ 45 ∷ []) ≡ false → long_of x ≡ None → short_of x ≡ None → arg_by_index s.rules n ≡ Some a → s.args_override_self ≡ false
+pub word-turn : (s : Shape) (a : Rule) (rows : List Row) (p : Option (Text × List Text)) (n : ℕ) (x : Text) → Single a → bytes_eq x (45 ∷ 45 ∷ []) ≡ false → long_of x ≡ None → short_of x ≡ None →
+    arg_by_index s.rules n ≡ Some a → s.args_override_self ≡ false
     → turn_fault s [] (at rows p idle false n) x ≡ settle_fault s.rules false (record { rows = rows; pending = p; skip = 0 })
 word-turn s a rows p n x single e long short found again = rw (e, long, short, found, again, single.several, and-false _) refl
 
-pub word-next : (s : Shape) (a : Rule) (rows : List Row) (p : Option (Text × List Text)) (n : ℕ) (x : Text) → Single a → bytes_eq x (45 ∷ 45 ∷ []) ≡ false → long_of x ≡ None → short_of x ≡ None → arg_by_index s.rules n ≡ Some a → min (n + 1) 18446744073709551615 ≡ n + 1
+pub word-next : (s : Shape) (a : Rule) (rows : List Row) (p : Option (Text × List Text)) (n : ℕ) (x : Text) → Single a → bytes_eq x (45 ∷ 45 ∷ []) ≡ false → long_of x ≡ None → short_of x ≡ None →
+    arg_by_index s.rules n ≡ Some a → min (n + 1) 18446744073709551615 ≡ n + 1
     → walked s.rules [] (at rows p idle false n) x ≡ at (settled_rows s.rules p rows) (Some (a.id, x ∷ [])) idle false (n + 1)
 unfolding walked
 word-next s a rows p n x single e long short found fits = rw (e, long, short, found, single.several, and-false _, single.act, single.trailing, fits) refl
@@ -176,7 +186,8 @@ pub value-turn : (s : Shape) (rows : List Row) (p : Option (Text × List Text)) 
     → turn_fault s [] (at rows p (option id) false n) x ≡ []
 value-turn s rows p id n x e long short = rw (e, long, short) refl
 
-pub value-next : (s : Shape) (a : Rule) (k : Text) (rows : List Row) (n : ℕ) (x : Text) → Single a → bytes_eq x (45 ∷ 45 ∷ []) ≡ false → long_of x ≡ None → short_of x ≡ None → arg_by_id s.rules k ≡ Some a → bytes_eq k a.id ≡ true
+pub value-next : (s : Shape) (a : Rule) (k : Text) (rows : List Row) (n : ℕ) (x : Text) → Single a → bytes_eq x (45 ∷ 45 ∷ []) ≡ false → long_of x ≡ None → short_of x ≡ None →
+    arg_by_id s.rules k ≡ Some a → bytes_eq k a.id ≡ true
     → walked s.rules [] (at rows (Some (k, [])) (option k) false n) x ≡ at rows (Some (k, x ∷ [])) idle false n
 unfolding walked
 value-next s a k rows n x single e long short by same = rw (e, long, short, by, same, single.most) refl
@@ -188,13 +199,15 @@ unfolding flags_fault
 short-turn s rows p n c y x ys e long short first lost = rw (e, long, short, first, lost) refl
 
 -- options that come while one waits for its value
-pub waiting-turn : (s : Shape) (a o : Rule) (k : Text) (rows : List Row) (n : ℕ) (x name : Text) (v : Option Text) → Single a → Single o → bytes_eq x (45 ∷ 45 ∷ []) ≡ false → long_of x ≡ Some (name, v) → arg_by_long s.rules name ≡ Some o
+pub waiting-turn : (s : Shape) (a o : Rule) (k : Text) (rows : List Row) (n : ℕ) (x name : Text) (v : Option Text) → Single a → Single o → bytes_eq x (45 ∷ 45 ∷ []) ≡ false →
+    long_of x ≡ Some (name, v) → arg_by_long s.rules name ≡ Some o
     → arg_by_id s.rules k ≡ Some a → s.args_override_self ≡ false
     → none (turn_fault s [] (at rows (Some (k, [])) (option k) false n) x) ≡ false
 waiting-turn s a o k rows n x name (Some v) single other e long found by again = rw (e, long, found, other.values, again, by, single.least) refl
 waiting-turn s a o k rows n x name None single other e long found by again = rw (e, long, found, other.values, again, by, single.least) refl
 
-pub unknown-turn-w : (s : Shape) (rows : List Row) (p : Option (Text × List Text)) (id : Text) (n : ℕ) (x name : Text) (v : Option Text) → bytes_eq x (45 ∷ 45 ∷ []) ≡ false → long_of x ≡ Some (name, v) → arg_by_long s.rules name ≡ None
+pub unknown-turn-w : (s : Shape) (rows : List Row) (p : Option (Text × List Text)) (id : Text) (n : ℕ) (x name : Text) (v : Option Text) → bytes_eq x (45 ∷ 45 ∷ []) ≡ false →
+    long_of x ≡ Some (name, v) → arg_by_long s.rules name ≡ None
     → turn_fault s [] (at rows p (option id) false n) x ≡ kind.UnknownArgument ∷ []
 unknown-turn-w s rows p id n x name v e long lost = rw (e, long, lost) refl
 
@@ -203,7 +216,8 @@ pub short-turn-w : (s : Shape) (rows : List Row) (p : Option (Text × List Text)
 unfolding flags_fault
 short-turn-w s rows p id n c y x ys e long short first lost = rw (e, long, short, first, lost) refl
 
-pub word-stray-turn : (s : Shape) (rows : List Row) (p : Option (Text × List Text)) (n : ℕ) (x : Text) → bytes_eq x (45 ∷ 45 ∷ []) ≡ false → long_of x ≡ None → short_of x ≡ None → arg_by_index s.rules n ≡ None → s.is_leaf ≡ true
+pub word-stray-turn : (s : Shape) (rows : List Row) (p : Option (Text × List Text)) (n : ℕ) (x : Text) → bytes_eq x (45 ∷ 45 ∷ []) ≡ false → long_of x ≡ None → short_of x ≡ None →
+    arg_by_index s.rules n ≡ None → s.is_leaf ≡ true
     → turn_fault s [] (at rows p idle false n) x ≡ kind.UnknownArgument ∷ []
 word-stray-turn s rows p n x e long short lost leaf = rw (e, long, short, lost, leaf) refl
 

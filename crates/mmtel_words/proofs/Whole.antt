@@ -55,7 +55,8 @@ no_left : (ws : List Text) → placed ws [] ≡ []
 no_left [] = refl
 no_left (w ∷ ws) = refl
 
-place_values : (names : List Text) (k : Text) (pieces : List Piece) (left ws : List Text) → is_among names k ≡ false → EachMayAppearSpelled names pieces → entries k (entries_of pieces left ws) ≡ entries k (placed (flat_map word_in pieces ++ ws) left)
+place_values : (names : List Text) (k : Text) (pieces : List Piece) (left ws : List Text) → is_among names k ≡ false → EachMayAppearSpelled names pieces →
+    entries k (entries_of pieces left ws) ≡ entries k (placed (flat_map word_in pieces ++ ws) left)
 place_values names k [] left ws off stand = refl
 place_values names k (Word w ∷ pieces) [] ws off stand = place_values names k pieces [] ws off stand.1 ∙ ap (entries k) (no_left (flat_map word_in pieces ++ ws))
 place_values names k (Word w ∷ pieces) (id ∷ left) ws off stand = ap (λ vs. cond (bytes_eq id k) (w ∷ vs) vs) (place_values names k pieces left ws off stand.1)
@@ -81,7 +82,8 @@ all-append p (x ∷ xs) ys e = by (p x) e (all-append p xs ys)
     by true e h = h e
     by false e h = absurd cc
 
-all_may_appear : (names : List Text) (pieces : List Piece) → EachMayAppearSpelled names pieces → ((k : Text) → is_among names k ≡ true → list_all is_plain (flat_map (value_in k) pieces) ≡ true) → EachMayAppear names pieces
+all_may_appear : (names : List Text) (pieces : List Piece) → EachMayAppearSpelled names pieces → ((k : Text) → is_among names k ≡ true → list_all is_plain (flat_map (value_in k) pieces) ≡ true) →
+    EachMayAppear names pieces
 all_may_appear names [] stand h = tt
 all_may_appear names (Word w ∷ pieces) stand h = (stand.0, all_may_appear names pieces stand.1 h)
 all_may_appear names (Apart name v ∷ pieces) stand h =
@@ -156,20 +158,24 @@ EachPlain (o ∷ options) = (starts_with nat_eq o.1 (codes "-") ≡ false) × Ea
 
 -- ---- what is read is spelled
 
-each_once : (keys ids : List Text) (es : List Entry) (R : List Row) (pieces : List Piece) (ws : List Text) → puts keys [] es ≡ Some R → es ≡ entries_of pieces ids ws → (options : List (Text × Text)) → EachOff ids options → EachFirst options R → EachOnce options pieces
+each_once : (keys ids : List Text) (es : List Entry) (R : List Row) (pieces : List Piece) (ws : List Text) → puts keys [] es ≡ Some R → es ≡ entries_of pieces ids ws → (options : List (Text × Text)) →
+    EachOff ids options → EachFirst options R → EachOnce options pieces
 each_once keys ids es R pieces ws put are [] off firsts = tt
 each_once keys ids es R pieces ws put are (o ∷ options) off firsts =
     (sym (option_values o.0 pieces ids ws off.0) ∙ ap (entries o.0) (sym are) ∙ once_is keys es R put o.0 o.1 firsts.0, each_once keys ids es R pieces ws put are options off.1 firsts.1)
 
-each_plain : (options : List (Text × Text)) (pieces : List Piece) → EachOnce options pieces → EachPlain options → (k : Text) → is_among (names_of options) k ≡ true → list_all is_plain (flat_map (value_in k) pieces) ≡ true
+each_plain : (options : List (Text × Text)) (pieces : List Piece) → EachOnce options pieces → EachPlain options → (k : Text) → is_among (names_of options) k ≡ true →
+    list_all is_plain (flat_map (value_in k) pieces) ≡ true
 each_plain [] pieces once plain k among = absurd cc
 each_plain (o ∷ options) pieces once plain k among = by (bytes_eq o.0 k) refl among (each_plain options pieces once.1 plain.1 k)
   where
-    by : (b : Bool) → bytes_eq o.0 k ≡ b → (b || is_among (names_of options) k) ≡ true → (is_among (names_of options) k ≡ true → list_all is_plain (flat_map (value_in k) pieces) ≡ true) → list_all is_plain (flat_map (value_in k) pieces) ≡ true
+    by : (b : Bool) → bytes_eq o.0 k ≡ b → (b || is_among (names_of options) k) ≡ true → (is_among (names_of options) k ≡ true → list_all is_plain (flat_map (value_in k) pieces) ≡ true) →
+        list_all is_plain (flat_map (value_in k) pieces) ≡ true
     by true e a h = ap (λ i. list_all is_plain (flat_map (value_in i) pieces)) (sym (equal o.0 k e)) ∙ ap (list_all is_plain) once.0 ∙ ap (λ b. not b && true) plain.0
     by false e a h = h a
 
-each_place : (keys names ids0 : List Text) (es : List Entry) (R : List Row) (pieces : List Piece) (ws : List Text) → puts keys [] es ≡ Some R → es ≡ entries_of pieces ids0 ws → EachMayAppearSpelled names pieces → (ids pos : List Text) → NoneAmong names ids → Firsts ids pos R
+each_place : (keys names ids0 : List Text) (es : List Entry) (R : List Row) (pieces : List Piece) (ws : List Text) → puts keys [] es ≡ Some R → es ≡ entries_of pieces ids0 ws →
+    EachMayAppearSpelled names pieces → (ids pos : List Text) → NoneAmong names ids → Firsts ids pos R
     → At ids0 (flat_map word_in pieces ++ ws) ids pos
 each_place keys names ids0 es R pieces ws put are stand [] [] other firsts = tt
 each_place keys names ids0 es R pieces ws put are stand [] (p ∷ pos) other firsts = absurd firsts
@@ -230,11 +236,13 @@ places_are names ids0 ws words pieces stand are (id ∷ ids) (p ∷ pos) other t
     let more = places_are names ids0 ws words pieces stand are ids pos other.1 told.1 in
     ((here.0, more.0), both-true (has_row id (rows (entries_of pieces ids0 ws))) (list_all (λ k. has_row k (rows (entries_of pieces ids0 ws))) ids) here.1 more.1)
 
-at_most_one : (ids ws : List Text) (pieces : List Piece) (options : List (Text × Text)) → EachOff ids options → EachOnce options pieces → (k : Text) → is_among (names_of options) k ≡ true → length (entries k (entries_of pieces ids ws)) ≤ 1
+at_most_one : (ids ws : List Text) (pieces : List Piece) (options : List (Text × Text)) → EachOff ids options → EachOnce options pieces → (k : Text) → is_among (names_of options) k ≡ true →
+    length (entries k (entries_of pieces ids ws)) ≤ 1
 at_most_one ids ws pieces [] off once k among = absurd cc
 at_most_one ids ws pieces (o ∷ options) off once k among = by (bytes_eq o.0 k) refl among (at_most_one ids ws pieces options off.1 once.1 k)
   where
-    by : (b : Bool) → bytes_eq o.0 k ≡ b → (b || is_among (names_of options) k) ≡ true → (is_among (names_of options) k ≡ true → length (entries k (entries_of pieces ids ws)) ≤ 1) → length (entries k (entries_of pieces ids ws)) ≤ 1
+    by : (b : Bool) → bytes_eq o.0 k ≡ b → (b || is_among (names_of options) k) ≡ true → (is_among (names_of options) k ≡ true → length (entries k (entries_of pieces ids ws)) ≤ 1) →
+        length (entries k (entries_of pieces ids ws)) ≤ 1
     by true e a h =
         let n : length (entries k (entries_of pieces ids ws)) ≡ 1 = ap (λ i. length (entries i (entries_of pieces ids ws))) (sym (equal o.0 k e)) ∙ ap length (option_values o.0 pieces ids ws off.0 ∙ once.0) in
         omega arith
@@ -269,4 +277,5 @@ is_read_as command options ids pos ws n s =
   where
     lone : (k : Text) (b : Bool) → is_among (names_of options) k ≡ b → length (entries k (entries_of s.pieces ids (words_after_mark s.marked))) ≤ 1
     lone k true among = at_most_one ids (words_after_mark s.marked) s.pieces options n.off s.each_once k among
-    lone k false off = subst (λ l. length l ≤ 1) (sym (place_values (names_of options) k s.pieces ids (words_after_mark s.marked) off (each_may_appear (names_of options) s.pieces s.may_appear))) (n.lone k (words_of s.pieces s.marked))
+    lone k false off = subst (λ l. length l ≤ 1) (sym (place_values (names_of options) k s.pieces ids (words_after_mark s.marked) off (each_may_appear (names_of options) s.pieces s.may_appear)))
+        (n.lone k (words_of s.pieces s.marked))

@@ -33,7 +33,8 @@ use Rattle.mmtel_call_services.specs.CopiedHeaders.{attempt_lines}
 use Rattle.mmtel_call_services.specs.CallConfig.{CallConfigView}
 use Rattle.mmtel_call_services.specs.declared.openings.Service.{Service}
 use Rattle.mmtel_call.specs.Closing.{StepResult, call_end, with_past}
-use Rattle.mmtel_call.specs.Diverting.{after_attempt, at_target, call_after_diversion, call_refusal, diversion_refusal, diversion_step, diversion_unless_refused, divert, is_diverted, on_end, on_next_step, reach, relayed_refusal, with_notification_of, with_unoffered_meter}
+use Rattle.mmtel_call.specs.Diverting.{after_attempt, at_target, call_after_diversion, call_refusal, diversion_refusal, diversion_step, diversion_unless_refused}
+use Rattle.mmtel_call.specs.Diverting.{divert, is_diverted, on_end, on_next_step, reach, relayed_refusal, with_notification_of, with_unoffered_meter}
 use Rattle.mmtel_call.specs.AttemptStarts.{attempt_dialog_of, attempt_start, max_attempt_time, next_attempt}
 use Rattle.mmtel_call.specs.Opening.{caller_of, unless_refused}
 use Rattle.mmtel_call.specs.Sending.{with_diversion_notification, with_relay_to_caller, with_status_to_caller}
@@ -88,19 +89,24 @@ module _ (config : CallConfigView) (before : StepOutput) where
   moves_if at own attempts acks last room true one two p q = p
   moves_if at own attempts acks last room false one two p q = q
 
-  pub over_moves : (own : CallNo) (at : ℕ) (cause : Cause) (first meter : Option MeterView) (attempts : ℕ) (acks : AcksView) (last : Option ℕ) (room : ℕ) (c : Call) (output : StepOutput) → Unseen config own before output →
+  pub over_moves : (own : CallNo) (at : ℕ) (cause : Cause) (first meter : Option MeterView) (attempts : ℕ) (acks : AcksView) (last : Option ℕ) (room : ℕ) (c : Call) (output : StepOutput) →
+      Unseen config own before output →
       Moves at own attempts acks last room (call_end at cause first meter c output)
   over_moves own at cause first meter attempts acks last room c output had = record { marks = []; adds = record { new = had.new; out = had.out; seen = had.seen }; came = refl }
 
   refused_moves : (at : ℕ) (caller : Leg) (cause : Cause) (room : ℕ) (c : Call) (output : StepOutput) → So c output → Goes at c caller room (call_refusal config at caller cause c output)
   refused_moves at caller cause room c output had =
-      over_moves c.opening.number at cause caller.meter None c.attempts c.acks caller.dialogue.remote_cseq room c (with_status_to_caller config c (status_of cause) output) (notified_unseen config c.opening.number before c (status_of cause) output had)
+      over_moves c.opening.number at cause caller.meter None c.attempts c.acks caller.dialogue.remote_cseq room c (with_status_to_caller config c (status_of cause) output)
+      (notified_unseen config c.opening.number before c (status_of cause) output had)
 
-  refused_by_moves : (at : ℕ) (caller : Leg) (service : Option Service) (m : Option MessageView) (cause : Cause) (room : ℕ) (c : Call) (output : StepOutput) → So c output → Goes at c caller room (relayed_refusal config at caller service m cause c output)
+  refused_by_moves : (at : ℕ) (caller : Leg) (service : Option Service) (m : Option MessageView) (cause : Cause) (room : ℕ) (c : Call) (output : StepOutput) → So c output →
+      Goes at c caller room (relayed_refusal config at caller service m cause c output)
   refused_by_moves at caller service None cause room c output had = refused_moves at caller cause room c output had
   refused_by_moves at caller service (Some m) cause room c output had =
-      moves_if at c.opening.number c.attempts c.acks caller.dialogue.remote_cseq room (is_status (status_in m.parsed.start) (relayed_status cause)) (call_end at cause caller.meter None c (with_relay_to_caller config c service m output)) (call_refusal config at caller cause c output)
-      (over_moves c.opening.number at cause caller.meter None c.attempts c.acks caller.dialogue.remote_cseq room c (with_relay_to_caller config c service m output) (relayed_unseen config c.opening.number before c service m output had))
+      moves_if at c.opening.number c.attempts c.acks caller.dialogue.remote_cseq room (is_status (status_in m.parsed.start) (relayed_status cause))
+      (call_end at cause caller.meter None c (with_relay_to_caller config c service m output)) (call_refusal config at caller cause c output)
+      (over_moves c.opening.number at cause caller.meter None c.attempts c.acks caller.dialogue.remote_cseq room c (with_relay_to_caller config c service m output)
+      (relayed_unseen config c.opening.number before c service m output had))
       (refused_moves at caller cause room c output had)
 
   -- ---- an offer
@@ -120,20 +126,25 @@ module _ (config : CallConfigView) (before : StepOutput) where
       let cap = due_word.Cap (next_attempt c) in
       record {
         marks = Invited destination.peer destination.uri (token third) ∷ Armed cap (at + max_attempt_time) ∷ [];
-        adds = adds_emit config.sip o.number before asked (emit.Arm o.number cap (at + max_attempt_time)) (Invited destination.peer destination.uri (token third) ∷ []) (Armed cap (at + max_attempt_time) ∷ []) (own_deadline config.sip o.number cap (at + max_attempt_time))
+        adds = adds_emit config.sip o.number before asked (emit.Arm o.number cap (at + max_attempt_time)) (Invited destination.peer destination.uri (token third) ∷ [])
+            (Armed cap (at + max_attempt_time) ∷ []) (own_deadline config.sip o.number cap (at + max_attempt_time))
             (adds_emit config.sip o.number before (after_draw third) (emit.Ask destination.peer m) [] (Invited destination.peer destination.uri (token third) ∷ []) marked drawn);
-        came = record { observed = refl; leg = refl; rang = refl; number = refl; now_attempts = refl; latest = refl; side = refl; early = refl; now_acks = refl; few = next_few c.attempts c.diversions.remaining room less };
+        came =
+            record { observed = refl; leg = refl; rang = refl; number = refl; now_attempts = refl; latest = refl; side = refl; early = refl; now_acks = refl; few = next_few c.attempts c.diversions.remaining room less };
       }
 
   -- ---- at a target
 
   -- a diversion that is due, where this many are left
   abbrev Diverts : ℕ → SnapshotView → Leg → Type 0
-  Diverts left now caller = (service : Option Service) (due : DueDiversionView) (room : ℕ) (c : Call) (output : StepOutput) → c.attempts + left ≤ room → So c output → Goes now.at c caller room (divert left config now caller service due c output)
+  Diverts left now caller = (service : Option Service) (due : DueDiversionView) (room : ℕ) (c : Call) (output : StepOutput) → c.attempts + left ≤ room → So c output →
+      Goes now.at c caller room (divert left config now caller service due c output)
 
-  next_step_moves : (left : ℕ) (now : SnapshotView) (caller : Leg) → Diverts left now caller → (service : Option Service) (cause : Option ℕ) (target : Target) (turn : NextStepView) (room : ℕ) (c : Call) (output : StepOutput) →
+  next_step_moves : (left : ℕ) (now : SnapshotView) (caller : Leg) → Diverts left now caller →
+      (service : Option Service) (cause : Option ℕ) (target : Target) (turn : NextStepView) (room : ℕ) (c : Call) (output : StepOutput) →
       c.attempts + c.diversions.remaining < room → c.attempts + left ≤ room → So c output → Goes now.at c caller room (on_next_step (divert left config now caller) config now.at caller service cause target turn c output)
-  next_step_moves left now caller later service cause target (StepOffer peer waiting) room c output less most had = offer_moves now.at caller service waiting (destination_of c.opening peer cause target) room c output less had
+  next_step_moves left now caller later service cause target (StepOffer peer waiting) room c output less most had =
+      offer_moves now.at caller service waiting (destination_of c.opening peer cause target) room c output less had
   next_step_moves left now caller later service cause target (StepDivert due) room c output less most had = later service due room (with_unoffered_meter now.at service c) output most had
   next_step_moves left now caller later service cause target (StepRefuse why) room c output less most had = refused_moves now.at caller why room (with_unoffered_meter now.at service c) output had
 
@@ -167,29 +178,34 @@ module _ (config : CallConfigView) (before : StepOutput) where
   divert_moves : (left : ℕ) (now : SnapshotView) (caller : Leg) → Diverts left now caller
   unfolding divert
   divert_moves zero now caller service due room c output most had =
-      unless_moves (diversion_refusal 0 config now.at service due c) (call_refusal config now.at caller (too_many due.cause)) now.at caller room c output had (refused_moves now.at caller (too_many due.cause) room c output had)
+      unless_moves (diversion_refusal 0 config now.at service due c) (call_refusal config now.at caller (too_many due.cause)) now.at caller room c output had
+      (refused_moves now.at caller (too_many due.cause) room c output had)
   divert_moves (suc left) now caller service due room c output most had =
       let target : Target = diversion_target config due in
       let next : Call = call_after_diversion target now.at left service due c in
       let onward = diversion_step (at_target (divert left config now caller) config now caller (Some due.cause) target) config target now.at left service due in
       unless_moves (diversion_refusal (suc left) config now.at service due c) onward now.at caller room c output had
-      (target_moves left now caller (divert_moves left now caller) (Some due.cause) target room next (with_notification_of config due next output) (one_less c.attempts left room most) (still_most c.attempts left room most) (notified_of_unseen due next output had))
+      (target_moves left now caller (divert_moves left now caller) (Some due.cause) target room next (with_notification_of config due next output) (one_less c.attempts left room most)
+      (still_most c.attempts left room most) (notified_of_unseen due next output had))
 
   less_most : (n room : ℕ) → n < room → n ≤ room
   less_most n room less = omega (arith, less)
 
-  reach_moves : (now : SnapshotView) (caller : Leg) (cause : Option ℕ) (target : Target) (room : ℕ) (c : Call) (output : StepOutput) → c.attempts + c.diversions.remaining < room → So c output → Goes now.at c caller room (reach config now caller cause target c output)
+  reach_moves : (now : SnapshotView) (caller : Leg) (cause : Option ℕ) (target : Target) (room : ℕ) (c : Call) (output : StepOutput) → c.attempts + c.diversions.remaining < room → So c output →
+      Goes now.at c caller room (reach config now caller cause target c output)
   reach_moves now caller cause target room c output less had =
       target_moves c.diversions.remaining now caller (divert_moves c.diversions.remaining now caller) cause target room c output less (less_most (c.attempts + c.diversions.remaining) room less) had
 
   -- ---- after an attempt, and as the call opens
 
-  end_moves : (now : SnapshotView) (caller : Leg) (service : Option Service) (m : Option MessageView) (after : StepAfterAttemptView) (room : ℕ) (c : Call) (output : StepOutput) → c.attempts + c.diversions.remaining ≤ room → So c output → Goes now.at c caller room (on_end config now caller service m after c output)
+  end_moves : (now : SnapshotView) (caller : Leg) (service : Option Service) (m : Option MessageView) (after : StepAfterAttemptView) (room : ℕ) (c : Call) (output : StepOutput) →
+      c.attempts + c.diversions.remaining ≤ room → So c output → Goes now.at c caller room (on_end config now caller service m after c output)
   end_moves now caller service m EndAnswered room c output most had = over_moves c.opening.number now.at causes.Ended caller.meter None c.attempts c.acks caller.dialogue.remote_cseq room c output had
   end_moves now caller service m (EndDivert due) room c output most had = divert_moves c.diversions.remaining now caller service due room c output most had
   end_moves now caller service m (EndRefuse cause) room c output most had = refused_by_moves now.at caller service m cause room c output had
 
-  pub goes_on_moves : (now : SnapshotView) (x : OfferedAttempt) (how : AttemptEndView) (m : Option MessageView) (room : ℕ) (c : Call) (output : StepOutput) → c.attempts + c.diversions.remaining ≤ room → So c output → Goes now.at c x.caller room (after_attempt config now x how m c output)
+  pub goes_on_moves : (now : SnapshotView) (x : OfferedAttempt) (how : AttemptEndView) (m : Option MessageView) (room : ℕ) (c : Call) (output : StepOutput) →
+      c.attempts + c.diversions.remaining ≤ room → So c output → Goes now.at c x.caller room (after_attempt config now x how m c output)
   goes_on_moves now x how m room c output most had =
       end_moves now x.caller x.attempt.service m (decision_after c.opening now.at (is_diverted c) x.attempt.service how) room (with_past x.callee.leg.meter c) output most had
 

@@ -58,7 +58,8 @@ pub adds_nothing : (sip : Addr) (own : CallNo) (output : StepOutput) → Adds si
 adds_nothing sip own output = record { new = []; out = sym (append-nil output.out); seen = refl }
 
 -- one more
-pub adds_emit : (sip : Addr) (own : CallNo) (before output : StepOutput) (e : Emit) (marks more : List AttemptEvent) → event_of sip own e ≡ more → Adds sip own before output marks → Adds sip own before (with_emit e output) (marks ++ more)
+pub adds_emit : (sip : Addr) (own : CallNo) (before output : StepOutput) (e : Emit) (marks more : List AttemptEvent) → event_of sip own e ≡ more → Adds sip own before output marks →
+    Adds sip own before (with_emit e output) (marks ++ more)
 adds_emit sip own before output e marks more is had = record {
   new = had.new ++ e ∷ [];
   out = ap (λ l. l ++ e ∷ []) had.out ∙ append_assoc before.out had.new (e ∷ []);
@@ -66,7 +67,8 @@ adds_emit sip own before output e marks more is had = record {
 }
 
 -- that is no mark
-pub adds_quiet : (sip : Addr) (own : CallNo) (before output : StepOutput) (e : Emit) (marks : List AttemptEvent) → event_of sip own e ≡ [] → Adds sip own before output marks → Adds sip own before (with_emit e output) marks
+pub adds_quiet : (sip : Addr) (own : CallNo) (before output : StepOutput) (e : Emit) (marks : List AttemptEvent) → event_of sip own e ≡ [] → Adds sip own before output marks →
+    Adds sip own before (with_emit e output) marks
 adds_quiet sip own before output e marks is had =
     let more = adds_emit sip own before output e marks [] is had in
     record { new = more.new; out = more.out; seen = more.seen ∙ append-nil marks }

@@ -31,8 +31,10 @@ use Rattle.mmtel_call_services.specs.CallConfig.{CallConfigView, further_methods
 use Rattle.mmtel_call_services.specs.declared.openings.Service.{Service}
 use Rattle.mmtel_call.specs.Awaiting.{expiry_in, next_success}
 use Rattle.mmtel_call.specs.Closing.{StepResult}
-use Rattle.mmtel_call.specs.RelayedTransactions.{is_in_flight, is_updating, on_accepted_in_flight, on_response_in_flight, on_response_relayed, on_timeout_in_flight, on_timeout_relayed, output_after_dismissal, with_all_dismissals, with_dismissal, with_dismissals, with_response_back, with_settled, with_settled_in, without_transaction}
-use Rattle.mmtel_call.specs.OtherRequests.{as_abandoned, is_answered_invite, is_fork, is_stable, is_success, on_other_response, on_other_response_at, on_other_timeout, on_other_timeout_at, on_response_abandoned, on_response_answered, on_response_answered_at, with_retransmitted_ack}
+use Rattle.mmtel_call.specs.RelayedTransactions.{is_in_flight, is_updating, on_accepted_in_flight, on_response_in_flight, on_response_relayed, on_timeout_in_flight, on_timeout_relayed}
+use Rattle.mmtel_call.specs.RelayedTransactions.{output_after_dismissal, with_all_dismissals, with_dismissal, with_dismissals, with_response_back, with_settled, with_settled_in, without_transaction}
+use Rattle.mmtel_call.specs.OtherRequests.{as_abandoned, is_answered_invite, is_fork, is_stable, is_success, on_other_response, on_other_response_at, on_other_timeout}
+use Rattle.mmtel_call.specs.OtherRequests.{on_other_timeout_at, on_response_abandoned, on_response_answered, on_response_answered_at, with_retransmitted_ack}
 use Rattle.mmtel_call.specs.Requests.{with_refused_request, with_response_to, with_unlisted_response}
 use Rattle.mmtel_call.specs.Sending.{with_diversion_notification, with_relay_to_caller, with_status_to, with_status_to_caller}
 use Rattle.mmtel_call.specs.declared.calls.Call.{Call}
@@ -78,9 +80,11 @@ module _ (config : CallConfigView) (own : CallNo) (before : StepOutput) where
 
   pub unlisted_unseen : (c : Call) (key : TKey) (m : MessageView) (output : StepOutput) → Unseen output → Unseen (with_unlisted_response config c key m output)
   unlisted_unseen c key m output had =
-      if_unseen (is_method (codes "OPTIONS") m.parsed.start) (with_response_to config c key m 200 (allow_lines (further_methods config)) output) (if is_method (codes "REFER") m.parsed.start then with_status_to config c key m 403 output else with_status_to config c key m 481 output)
+      if_unseen (is_method (codes "OPTIONS") m.parsed.start) (with_response_to config c key m 200 (allow_lines (further_methods config)) output)
+      (if is_method (codes "REFER") m.parsed.start then with_status_to config c key m 403 output else with_status_to config c key m 481 output)
       (adds_quiet config.sip own before output _ [] refl had)
-      (if_unseen (is_method (codes "REFER") m.parsed.start) (with_status_to config c key m 403 output) (with_status_to config c key m 481 output) (replied_unseen c key m 403 output had) (replied_unseen c key m 481 output had))
+      (if_unseen (is_method (codes "REFER") m.parsed.start) (with_status_to config c key m 403 output) (with_status_to config c key m 481 output) (replied_unseen c key m 403 output had)
+      (replied_unseen c key m 481 output had))
 
   -- ---- requests
 
@@ -176,7 +180,8 @@ module _ (config : CallConfigView) (own : CallNo) (before : StepOutput) where
       (waits_if c (is_fork t m) _ _ (record { phase = refl; attempts = refl; remaining = refl; acks = refl; unseen = rest_unseen key m.parsed (as_abandoned t) output had })
       (record { phase = refl; attempts = refl; remaining = refl; acks = refl; unseen = if_unseen (is_stable c.phase) (with_retransmitted_ack t t.invite.ack output) output (again_unseen t t.invite.ack output had) had }))
 
-  agreed_waits : (kind : RelayedKind) (at : ℕ) (side : Side) (request response : MessageView) (c : Call) (output : StepOutput) → Unseen output → GoesOnWaiting c (on_accepted_in_flight kind config at side request response c output)
+  agreed_waits : (kind : RelayedKind) (at : ℕ) (side : Side) (request response : MessageView) (c : Call) (output : StepOutput) → Unseen output →
+      GoesOnWaiting c (on_accepted_in_flight kind config at side request response c output)
   agreed_waits Prack at side request response c output had = record { phase = refl; attempts = refl; remaining = refl; acks = refl; unseen = had }
   agreed_waits Update at side request response c output had =
       record { phase = refl; attempts = refl; remaining = refl; acks = refl; unseen = expiry_unseen config.timer (expiry_interval_of response.parsed.session) at c output had }
@@ -204,7 +209,8 @@ module _ (config : CallConfigView) (own : CallNo) (before : StepOutput) where
   timed_out_in_flight_waits None c output had = record { phase = refl; attempts = refl; remaining = refl; acks = refl; unseen = had }
   timed_out_in_flight_waits (Some place) c output had = timed_out_relayed_waits place (slice_get c.relayed place) c output had
 
-  answered_at_waits : (at : ℕ) (key : TKey) (m : MessageView) (branch : List ℕ) (o : Option ℕ) (c : Call) (output : StepOutput) → Unseen output → GoesOnWaiting c (on_response_answered_at config at key m branch o c output)
+  answered_at_waits : (at : ℕ) (key : TKey) (m : MessageView) (branch : List ℕ) (o : Option ℕ) (c : Call) (output : StepOutput) → Unseen output →
+      GoesOnWaiting c (on_response_answered_at config at key m branch o c output)
   answered_at_waits at key m branch None c output had = in_flight_waits at m (position (is_in_flight branch) c.relayed) c output had
   answered_at_waits at key m branch (Some place) c output had = answered_waits key m place (slice_get c.answered_invites place) c output had
 

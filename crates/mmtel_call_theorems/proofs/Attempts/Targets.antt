@@ -27,7 +27,8 @@ use Rattle.mmtel_call_theorems.specs.Labels as shown
 use Rattle.mmtel_call_theorems.specs.Labels.{Label, emits_while_offered, is_offered, label_of, label_of_result, labels_of, labels_of_targets}
 use Rattle.mmtel_call_theorems.specs.CallTrace.{TraceStart, TraceStep, call_after, first_step, items_added, next_step, opening_in}
 use Rattle.mmtel_call_theorems.specs.Attempts.Theorems.{AttemptsAreObserved, IsLastOf, PhaseIsObserved, TargetsAreObserved, last_in, no_reply_after, or_old, uri_in, uris_in}
-use Rattle.mmtel_call_theorems.specs.Attempts.Observed.{Armed, AttemptEvent, AttemptInProgress, Deadline, Invited, ObservedAttempts, after_event, after_events, branch_of, event_of, event_of_deadline, events_at_start, events_of, events_of_step, last_after_all, nothing_observed, observed_after, observed_after_signal, observed_end, observed_step, observed_step_from, with_armed}
+use Rattle.mmtel_call_theorems.specs.Attempts.Observed.{Armed, AttemptEvent, AttemptInProgress, Deadline, Invited, ObservedAttempts, after_event, after_events, branch_of, event_of, event_of_deadline, events_at_start}
+use Rattle.mmtel_call_theorems.specs.Attempts.Observed.{events_of, events_of_step, last_after_all, nothing_observed, observed_after, observed_after_signal, observed_end, observed_step, observed_step_from, with_armed}
 
 -- ---- the observed signs and the marks have the same Request-URIs
 
@@ -61,7 +62,8 @@ final_shown true false true code = refl
 final_shown true false false code = refl
 final_shown false low success code = refl
 
-ask_shown : (b : Bool) (peer : Rattle.mmtel_types.specs.declared.numbers.Peer.Peer) (uri branch : List ℕ) → uris_in (if b then shown.Invited uri ∷ [] else []) ≡ uris_events (if b then Invited peer uri branch ∷ [] else [])
+ask_shown : (b : Bool) (peer : Rattle.mmtel_types.specs.declared.numbers.Peer.Peer) (uri branch : List ℕ) →
+    uris_in (if b then shown.Invited uri ∷ [] else []) ≡ uris_events (if b then Invited peer uri branch ∷ [] else [])
 ask_shown true peer uri branch = refl
 ask_shown false peer uri branch = refl
 
@@ -132,14 +134,16 @@ IsLast uris o = (uri : List ℕ) → uri_in_progress o ≡ Some uri → last_in 
 first_shown : (s : TraceStart) → IsLast (shown_so_far s []) (observed_after s []).in_progress
 unfolding emits_while_offered observed_after
 first_shown s uri e =
-    ap last_in (same_shown s.arrival.key s.config.sip s.arrival.number (items_added s.output.out (first_step s).output.out)) ∙ by (last_in (uris_events (events_at_start s))) ∙ sym (events_uri s.now.at (events_at_start s) (nothing_observed (number_of s.arrival.invite))) ∙ e
+    ap last_in (same_shown s.arrival.key s.config.sip s.arrival.number (items_added s.output.out (first_step s).output.out)) ∙ by (last_in (uris_events (events_at_start s)))
+    ∙ sym (events_uri s.now.at (events_at_start s) (nothing_observed (number_of s.arrival.invite))) ∙ e
   where
     by : (o : Option (List ℕ)) → o ≡ or_old None o
     by None = refl
     by (Some later) = refl
 
 -- after one more step in which these were marked
-received_uri : (config : CallConfigView) (o : Opening) (now : ℕ) (uris : List (List ℕ)) (w : ObservedAttempts) (g : AttemptInProgress) (number : Option ℕ) (received : Signal) (end : Option AttemptEndView) (marks : List AttemptEvent) → last_in uris ≡ Some g.uri →
+received_uri : (config : CallConfigView) (o : Opening) (now : ℕ) (uris : List (List ℕ)) (w : ObservedAttempts) (g : AttemptInProgress) (number : Option ℕ) (received : Signal)
+    (end : Option AttemptEndView) (marks : List AttemptEvent) → last_in uris ≡ Some g.uri →
     IsLast (uris ++ uris_events marks) (after_events now (observed_after_signal config o now w number g received end) marks).in_progress
 received_uri config o now uris w g number received None marks last uri e =
     last_append uris (uris_events marks) ∙ ap (λ o. or_old o (last_in (uris_events marks))) last ∙ sym (events_uri now marks (observed_after_signal config o now w number g received None)) ∙ e
@@ -150,10 +154,12 @@ received_uri config o now uris w g number received (Some how) marks last uri e =
     by None = refl
     by (Some later) = refl
 
-next_uri : (config : CallConfigView) (opening : Opening) (now : ℕ) (uris : List (List ℕ)) (w : ObservedAttempts) (o : Option AttemptInProgress) (number : Option ℕ) (received : Signal) (marks : List AttemptEvent) (offered : Bool) → w.in_progress ≡ o → (offered ≡ false → o ≡ None) → IsLast uris o →
+next_uri : (config : CallConfigView) (opening : Opening) (now : ℕ) (uris : List (List ℕ)) (w : ObservedAttempts) (o : Option AttemptInProgress) (number : Option ℕ) (received : Signal)
+    (marks : List AttemptEvent) (offered : Bool) → w.in_progress ≡ o → (offered ≡ false → o ≡ None) → IsLast uris o →
     IsLast (uris ++ (if offered then uris_events marks else [])) (observed_step_from config opening now w o number received marks).in_progress
 next_uri config opening now uris w None number received marks offered none unless last uri e = absurd (let f : None ≡ Some uri = ap uri_in_progress (sym none) ∙ e in cc)
-next_uri config opening now uris w (Some g) number received marks true is unless last uri e = received_uri config opening now uris w g number received (observed_end opening.key number g w.acks received) marks (last g.uri refl) uri e
+next_uri config opening now uris w (Some g) number received marks true is unless last uri e =
+    received_uri config opening now uris w g number received (observed_end opening.key number g w.acks received) marks (last g.uri refl) uri e
 next_uri config opening now uris w (Some g) number received marks false is unless last uri e = absurd (let f : Some g ≡ None = unless refl in cc)
 
 unoffered : (bound : ℕ) (time : Option ℕ) (acks : AcksView) (p : Phase) (w : ObservedAttempts) → PhaseIsObserved bound time acks p w → is_offered p ≡ false → w.in_progress ≡ None
@@ -162,7 +168,8 @@ unoffered bound time acks (Established x stage) w seen e = seen
 unoffered bound time acks (Detached detached) w seen e = seen
 unoffered bound time acks (Over cause) w seen e = seen
 
-one_more : (s : TraceStart) (x : TraceStep) (earlier : List TraceStep) → shown_so_far s (x ∷ earlier) ≡ shown_so_far s earlier ++ (if is_offered (call_after s earlier).phase then uris_events (events_of_step s x earlier) else [])
+one_more : (s : TraceStart) (x : TraceStep) (earlier : List TraceStep) →
+    shown_so_far s (x ∷ earlier) ≡ shown_so_far s earlier ++ (if is_offered (call_after s earlier).phase then uris_events (events_of_step s x earlier) else [])
 unfolding emits_while_offered
 one_more s x earlier =
     let key = s.arrival.key in
@@ -182,7 +189,8 @@ last_shown law s (x ∷ earlier) =
     let w = observed_after s earlier in
     let phase = (call_after s earlier).phase in
     subst (λ uris. IsLast uris (observed_step s.config (opening_in s) x.now.at w (last_after_all s earlier) x.signal (events_of_step s x earlier)).in_progress) (sym (one_more s x earlier))
-    (next_uri s.config (opening_in s) x.now.at (shown_so_far s earlier) w w.in_progress (last_after_all s earlier) x.signal (events_of_step s x earlier) (is_offered phase) refl (unoffered s.config.bound (no_reply_after s earlier) (call_after s earlier).acks phase w (law s earlier)) (last_shown law s earlier))
+    (next_uri s.config (opening_in s) x.now.at (shown_so_far s earlier) w w.in_progress (last_after_all s earlier) x.signal (events_of_step s x earlier) (is_offered phase) refl
+    (unoffered s.config.bound (no_reply_after s earlier) (call_after s earlier).acks phase w (law s earlier)) (last_shown law s earlier))
 
 -- ---- Outcome
 
@@ -193,7 +201,8 @@ pending (Established x stage) answered result e offered = absurd cc
 pending (Detached detached) answered result e offered = absurd cc
 pending (Over cause) answered result e offered = absurd cc
 
-is_last : (bound : ℕ) (time : Option ℕ) (acks : AcksView) (p : Phase) (w : ObservedAttempts) (signs : List Label) → PhaseIsObserved bound time acks p w → (is_offered p ≡ true → IsLast (uris_in signs) w.in_progress) → IsLastOf p signs
+is_last : (bound : ℕ) (time : Option ℕ) (acks : AcksView) (p : Phase) (w : ObservedAttempts) (signs : List Label) → PhaseIsObserved bound time acks p w →
+    (is_offered p ≡ true → IsLast (uris_in signs) w.in_progress) → IsLastOf p signs
 is_last bound time acks (Offered x) w signs seen last = last refl x.attempt.invite.dialogue.target (ap uri_in_progress seen.in_progress ∙ ap Some (sym seen.uri))
 is_last bound time acks (Established x stage) w signs seen last = tt
 is_last bound time acks (Detached detached) w signs seen last = tt

@@ -34,7 +34,9 @@ use Rattle.mmtel_call_theorems.specs.Continuation as going
 use Rattle.mmtel_call_theorems.specs.Continuation.{CallsContinue, is_established_in}
 use Rattle.mmtel_call_theorems.specs.CallTrace.{TraceStart, TraceStep, call_after, first_step, is_over, items_added, next_step, opening_in}
 use Rattle.mmtel_call_theorems.specs.Attempts.Theorems.{AttemptsAreObserved, Each, EndingsAreObserved, PhaseIsObserved, deadlines_of, no_reply_after}
-use Rattle.mmtel_call_theorems.specs.Attempts.Observed.{AttemptEvent, AttemptInProgress, Deadline, ObservedAttempts, after_events, armed_in, end_at_step, end_observed, endings_observed, events_at_start, events_of, first_last, first_ringing, is_armed, last_after_all, last_by, nothing_observed, observed_after, observed_after_signal, observed_end, observed_end_in, observed_end_on_deadline, observed_step, observed_step_from}
+use Rattle.mmtel_call_theorems.specs.Attempts.Observed.{AttemptEvent, AttemptInProgress, Deadline, ObservedAttempts, after_events, armed_in, end_at_step, end_observed, endings_observed}
+use Rattle.mmtel_call_theorems.specs.Attempts.Observed.{events_at_start, events_of, first_last, first_ringing, is_armed, last_after_all, last_by, nothing_observed, observed_after}
+use Rattle.mmtel_call_theorems.specs.Attempts.Observed.{observed_after_signal, observed_end, observed_end_in, observed_end_on_deadline, observed_step, observed_step_from}
 use Rattle.mmtel_call_theorems.proofs.Attempts.AttemptsInProgress.{Came, Moves, begins_moves}
 use Rattle.mmtel_call_theorems.proofs.Attempts.ReceivedSignals.{AttemptUpdate, Leaves, Passes, StillWaits, Waits, attempt_update, events_rung, in_progress_of, its_time, offered, passes}
 use Rattle.mmtel_call_theorems.proofs.Attempts.Reading.{Adds, adds_nothing}
@@ -128,7 +130,8 @@ rang_next now None true = refl
 rang_next now (Some first) rings = refl
 
 -- where the call continued to, after attempts of which these deadlines were armed
-came_ties : (now bound room : ℕ) (p : Phase) (attempts : ℕ) (acks : AcksView) (last : Option ℕ) (c : Call) (w : ObservedAttempts) (marks : List AttemptEvent) → Came now p attempts acks last room c marks → room ≤ bound + 1 → acks ≡ w.acks → w.in_progress ≡ None → Each (AtMost attempts) w.earlier → attempts ≤ greatest →
+came_ties : (now bound room : ℕ) (p : Phase) (attempts : ℕ) (acks : AcksView) (last : Option ℕ) (c : Call) (w : ObservedAttempts) (marks : List AttemptEvent) →
+    Came now p attempts acks last room c marks → room ≤ bound + 1 → acks ≡ w.acks → w.in_progress ≡ None → Each (AtMost attempts) w.earlier → attempts ≤ greatest →
     Ties bound p c last (after_events now w marks)
 came_ties now bound room (Offered y) attempts acks last c w marks came enough same none earlier most =
     let old : List Deadline = w.earlier ++ armed_in w.in_progress in
@@ -147,7 +150,8 @@ came_ties now bound room (Offered y) attempts acks last c w marks came enough sa
       few = omega (arith, few, enough);
       most = subst (λ n. n ≤ greatest) (sym came.now_attempts) (next_most attempts);
       least = subst (λ n. Each (AtMost n) old) (sym came.now_attempts) (each_more (AtMost attempts) (AtMost (next_number attempts)) (λ deadline e. next_least (number_of_deadline deadline.what) attempts most e) old had);
-      lower = subst (λ n. n < greatest → Each (IsBelow n) old) (sym came.now_attempts) (λ less. each_more (AtMost attempts) (IsBelow (next_number attempts)) (λ deadline e. next_above (number_of_deadline deadline.what) attempts less e) old had);
+      lower = subst (λ n. n < greatest → Each (IsBelow n) old) (sym came.now_attempts)
+          (λ less. each_more (AtMost attempts) (IsBelow (next_number attempts)) (λ deadline e. next_above (number_of_deadline deadline.what) attempts less e) old had);
     })
 came_ties now bound room (Established x stage) attempts acks last c w marks came enough same none earlier most = subst (λ ms. (after_events now w ms).in_progress ≡ None) (sym came) none
 came_ties now bound room (Detached detached) attempts acks last c w marks came enough same none earlier most = subst (λ ms. (after_events now w ms).in_progress ≡ None) (sym came) none
@@ -221,7 +225,9 @@ tied_end bound x c d key last w incoming own acks t =
 -- ---- one step
 
 -- what is observed next, where this is current and this is its end
-next_observed : (config : CallConfigView) (o : Opening) (now : ℕ) (w : ObservedAttempts) (g : AttemptInProgress) (last : Option ℕ) (incoming : Signal) (end : Option AttemptEndView) (marks : List AttemptEvent) → w.in_progress ≡ Some g → observed_end o.key last g w.acks incoming ≡ end →
+next_observed :
+    (config : CallConfigView) (o : Opening) (now : ℕ) (w : ObservedAttempts) (g : AttemptInProgress) (last : Option ℕ) (incoming : Signal) (end : Option AttemptEndView) (marks : List AttemptEvent) →
+    w.in_progress ≡ Some g → observed_end o.key last g w.acks incoming ≡ end →
     observed_step config o now w last incoming marks ≡ after_events now (observed_after_signal config o now w last g incoming end) marks
 next_observed config o now w g last incoming end marks e f =
     ap (λ going. observed_step_from config o now w going last incoming marks) e ∙ ap (λ end. after_events now (observed_after_signal config o now w last g incoming end) marks) f
@@ -230,7 +236,8 @@ next_observed config o now w g last incoming end marks e f =
 abbrev events_by : CallConfigView → CallNo → (before : StepOutput) → StepResult → List AttemptEvent
 events_by config own before s = events_of config.sip own (items_added before.out s.output.out)
 
-waits_tied : (now bound : ℕ) (config : CallConfigView) (o : Opening) (x y : OfferedAttempt) (c : Call) (before : StepOutput) (last : Option ℕ) (w : ObservedAttempts) (incoming : Signal) (s : StepResult) (t : IsTied bound x c last w) →
+waits_tied : (now bound : ℕ) (config : CallConfigView) (o : Opening) (x y : OfferedAttempt) (c : Call) (before : StepOutput) (last : Option ℕ) (w : ObservedAttempts) (incoming : Signal)
+    (s : StepResult) (t : IsTied bound x c last w) →
     observed_end o.key last (in_progress_of x t.since t.rung) w.acks incoming ≡ None →
     StillWaits now config x c before (last_by x.caller.dialogue.remote_cseq incoming) (attempt_update config o x.caller.dialogue.remote_cseq (in_progress_of x t.since t.rung) c.acks incoming) s y →
     IsTied bound y s.call (last_by last incoming) (observed_step config o now w last incoming (events_by config c.opening.number before s))
@@ -281,7 +288,8 @@ all_most number attempts since time None e = (own_most number attempts e, tt)
 all_most number attempts since None (Some first) e = (own_most number attempts e, tt)
 all_most number attempts since (Some time) (Some first) e = (own_most number attempts e, (own_most number attempts e, tt))
 
-leaves_tied : (now bound : ℕ) (config : CallConfigView) (o : Opening) (x : OfferedAttempt) (c : Call) (before : StepOutput) (last : Option ℕ) (w : ObservedAttempts) (incoming : Signal) (how : AttemptEndView) (s : StepResult) (t : IsTied bound x c last w) →
+leaves_tied : (now bound : ℕ) (config : CallConfigView) (o : Opening) (x : OfferedAttempt) (c : Call) (before : StepOutput) (last : Option ℕ) (w : ObservedAttempts) (incoming : Signal)
+    (how : AttemptEndView) (s : StepResult) (t : IsTied bound x c last w) →
     observed_end o.key last (in_progress_of x t.since t.rung) w.acks incoming ≡ Some how →
     Moves config before now c.opening.number c.attempts c.acks (last_by x.caller.dialogue.remote_cseq incoming) (c.attempts + c.diversions.remaining) s →
     Ties bound s.call.phase s.call (last_by last incoming) (observed_step config o now w last incoming (events_by config c.opening.number before s))
@@ -296,8 +304,10 @@ leaves_tied now bound config o x c before last w incoming how s t ends p =
     (subst (λ l. Ties bound s.call.phase s.call (last_by l incoming) (after_events now w2 p.marks)) t.latest
     (came_ties now bound (c.attempts + c.diversions.remaining) s.call.phase c.attempts c.acks (last_by x.caller.dialogue.remote_cseq incoming) s.call w2 p.marks p.came t.few t.acks refl earlier t.most))
 
-passes_tied : (s : TraceStart) (o : Opening) (x : TraceStep) (trial : OfferedAttempt) (c : Call) (last : Option ℕ) (w : ObservedAttempts) (end : Option AttemptEndView) (new : StepResult) (t : IsTied s.config.bound trial c last w) → observed_end o.key last (in_progress_of trial t.since t.rung) w.acks x.signal ≡ end →
-    Passes x.now.at s.config trial c x.output (last_by trial.caller.dialogue.remote_cseq x.signal) (attempt_update s.config o trial.caller.dialogue.remote_cseq (in_progress_of trial t.since t.rung) c.acks x.signal) end new →
+passes_tied : (s : TraceStart) (o : Opening) (x : TraceStep) (trial : OfferedAttempt) (c : Call) (last : Option ℕ) (w : ObservedAttempts) (end : Option AttemptEndView) (new : StepResult)
+    (t : IsTied s.config.bound trial c last w) → observed_end o.key last (in_progress_of trial t.since t.rung) w.acks x.signal ≡ end →
+    Passes x.now.at s.config trial c x.output (last_by trial.caller.dialogue.remote_cseq x.signal)
+    (attempt_update s.config o trial.caller.dialogue.remote_cseq (in_progress_of trial t.since t.rung) c.acks x.signal) end new →
     Ties s.config.bound new.call.phase new.call (last_by last x.signal) (observed_step s.config o x.now.at w last x.signal (events_by s.config c.opening.number x.output new))
 passes_tied s o x trial c last w end new t e (Waits none y p) =
     subst (λ phase. Ties s.config.bound phase new.call (last_by last x.signal) (observed_step s.config o x.now.at w last x.signal (events_by s.config c.opening.number x.output new))) (sym p.phase)
@@ -321,13 +331,15 @@ goes_unoffered : (at : ℕ) (c : Call) (rows : List Row) (s : StepResult) → go
 goes_unoffered at c rows s (going.Continues r) = established_unoffered s.call.phase r.established
 goes_unoffered at c rows s (going.Ends r) = ap is_offered r.over
 
-none_next : (now bound : ℕ) (config : CallConfigView) (o : Opening) (incoming : Signal) (w : ObservedAttempts) (last : Option ℕ) (new : Call) (marks : List AttemptEvent) → is_offered new.phase ≡ false → w.in_progress ≡ None →
+none_next : (now bound : ℕ) (config : CallConfigView) (o : Opening) (incoming : Signal) (w : ObservedAttempts) (last : Option ℕ) (new : Call) (marks : List AttemptEvent) →
+    is_offered new.phase ≡ false → w.in_progress ≡ None →
     Ties bound new.phase new (last_by last incoming) (observed_step config o now w last incoming marks)
 none_next now bound config o incoming w last new marks unoffered none =
     let same : observed_step config o now w last incoming marks ≡ w = ap (λ going. observed_step_from config o now w going last incoming marks) none in
     untied bound new.phase new (last_by last incoming) (observed_step config o now w last incoming marks) unoffered (ap (λ (w : ObservedAttempts). w.in_progress) same ∙ none)
 
-next_tied : (law : CallsContinue) (p : Phase) (s : TraceStart) (x : TraceStep) (c : Call) (last : Option ℕ) (w : ObservedAttempts) → c.opening ≡ opening_in s → (is_over p ≡ true → c.relayed ≡ []) → Ties s.config.bound p c last w →
+next_tied : (law : CallsContinue) (p : Phase) (s : TraceStart) (x : TraceStep) (c : Call) (last : Option ℕ) (w : ObservedAttempts) → c.opening ≡ opening_in s → (is_over p ≡ true → c.relayed ≡ []) →
+    Ties s.config.bound p c last w →
     let new = next_step s x (record c { phase = p }) in
     Ties s.config.bound new.call.phase new.call (last_by last x.signal) (observed_step s.config (opening_in s) x.now.at w last x.signal (events_by s.config s.arrival.number x.output new))
 next_tied law (Offered trial) s x c last w own flown t =
@@ -338,15 +350,18 @@ next_tied law (Offered trial) s x c last w own flown t =
 next_tied law (Established pair stage) s x c last w own flown t =
     let d = record c { phase = Established pair stage } in
     let new = next_step s x d in
-    none_next x.now.at s.config.bound s.config (opening_in s) x.signal w last new.call (events_by s.config s.arrival.number x.output new) (goes_unoffered x.now.at d x.output.rows new (law.established s.config x.now x.signal d x.output refl)) t
+    none_next x.now.at s.config.bound s.config (opening_in s) x.signal w last new.call (events_by s.config s.arrival.number x.output new)
+    (goes_unoffered x.now.at d x.output.rows new (law.established s.config x.now x.signal d x.output refl)) t
 next_tied law (Detached detached) s x c last w own flown t =
     let d = record c { phase = Detached detached } in
     let new = next_step s x d in
-    none_next x.now.at s.config.bound s.config (opening_in s) x.signal w last new.call (events_by s.config s.arrival.number x.output new) (goes_unoffered x.now.at d x.output.rows new (law.established s.config x.now x.signal d x.output refl)) t
+    none_next x.now.at s.config.bound s.config (opening_in s) x.signal w last new.call (events_by s.config s.arrival.number x.output new)
+    (goes_unoffered x.now.at d x.output.rows new (law.established s.config x.now x.signal d x.output refl)) t
 next_tied law (Over cause) s x c last w own flown t =
     let d = record c { phase = Over cause } in
     let new = next_step s x d in
-    none_next x.now.at s.config.bound s.config (opening_in s) x.signal w last new.call (events_by s.config s.arrival.number x.output new) (ap is_offered (law.ended s.config x.now x.signal d x.output refl (flown refl)).phase) t
+    none_next x.now.at s.config.bound s.config (opening_in s) x.signal w last new.call (events_by s.config s.arrival.number x.output new)
+    (ap is_offered (law.ended s.config x.now x.signal d x.output refl (flown refl)).phase) t
 
 -- ---- every trace
 
@@ -366,14 +381,17 @@ opens_moves s =
     let o = opening_in s in
     let c = new_call s.config o in
     let a = adds_nothing s.config.sip s.arrival.number s.output in
-    begins_moves s.config s.output (opening_refusal s.config s.now.at o) s.now (s.config.bound + 1) c (with_status_to_caller s.config c 100 (after_draw s.output)) (first_room s.config.bound (diversions_in (received_history o.invite)))
+    begins_moves s.config s.output (opening_refusal s.config s.now.at o) s.now (s.config.bound + 1) c (with_status_to_caller s.config c 100 (after_draw s.output))
+    (first_room s.config.bound (diversions_in (received_history o.invite)))
     (notified_unseen s.config s.arrival.number s.output c 100 (after_draw s.output) (record { new = a.new; out = a.out; seen = a.seen }))
 
 tied_first : (s : TraceStart) → Ties s.config.bound (first_step s).call.phase (first_step s).call (first_last s) (after_events s.now.at (nothing_so s) (events_at_start s))
 tied_first s =
     let p = opens_moves s in
-    subst (λ marks. Ties s.config.bound (first_step s).call.phase (first_step s).call (first_last s) (after_events s.now.at (nothing_so s) marks)) (sym (observed_added s.config.sip s.arrival.number s.output (first_step s).output p.marks p.adds))
-    (came_ties s.now.at s.config.bound (s.config.bound + 1) (first_step s).call.phase 0 (nothing_so s).acks (first_last s) (first_step s).call (nothing_so s) p.marks p.came (one_room (s.config.bound + 1)) refl refl tt (omega arith))
+    subst (λ marks. Ties s.config.bound (first_step s).call.phase (first_step s).call (first_last s) (after_events s.now.at (nothing_so s) marks))
+    (sym (observed_added s.config.sip s.arrival.number s.output (first_step s).output p.marks p.adds))
+    (came_ties s.now.at s.config.bound (s.config.bound + 1) (first_step s).call.phase 0 (nothing_so s).acks (first_last s) (first_step s).call (nothing_so s) p.marks p.came
+    (one_room (s.config.bound + 1)) refl refl tt (omega arith))
 
 tied : CallsContinue → (s : TraceStart) (incoming : List TraceStep) → Ties s.config.bound (call_after s incoming).phase (call_after s incoming) (last_after_all s incoming) (observed_after s incoming)
 unfolding call_after last_after_all observed_after
@@ -388,7 +406,8 @@ few_alone attempts left bound most = omega (arith, most)
 enough_numbers : (attempts bound : ℕ) → attempts ≤ bound + 1 → bound < 2 ^ 64 - 2 → attempts < greatest
 enough_numbers attempts bound most less = omega (arith, most, less)
 
-is_observed : (bound : ℕ) (time : Option ℕ) (p : Phase) (c : Call) (last : Option ℕ) (w : ObservedAttempts) → ((x : OfferedAttempt) → p ≡ Offered x → its_time x ≡ time) → Ties bound p c last w → PhaseIsObserved bound time c.acks p w
+is_observed : (bound : ℕ) (time : Option ℕ) (p : Phase) (c : Call) (last : Option ℕ) (w : ObservedAttempts) → ((x : OfferedAttempt) → p ≡ Offered x → its_time x ≡ time) → Ties bound p c last w →
+    PhaseIsObserved bound time c.acks p w
 is_observed bound time (Offered x) c last w its t =
     let few : c.attempts ≤ bound + 1 = few_alone c.attempts c.diversions.remaining bound t.few in
     record {
@@ -411,11 +430,13 @@ is_observed bound time (Over cause) c last w its t = t
 
 pub attempts_are_observed : CallsContinue → AttemptsAreObserved
 attempts_are_observed law s incoming =
-    is_observed s.config.bound (no_reply_after s incoming) (call_after s incoming).phase (call_after s incoming) (last_after_all s incoming) (observed_after s incoming) (λ x offered. ap no_reply_time_of (law.sheet_of s incoming x offered)) (tied law s incoming)
+    is_observed s.config.bound (no_reply_after s incoming) (call_after s incoming).phase (call_after s incoming) (last_after_all s incoming) (observed_after s incoming)
+    (λ x offered. ap no_reply_time_of (law.sheet_of s incoming x offered)) (tied law s incoming)
 
 -- ---- the endings
 
-same_ending : (bound : ℕ) (p : Phase) (c : Call) (key : TKey) (last : Option ℕ) (w : ObservedAttempts) (incoming : Signal) → c.opening.key ≡ key → Ties bound p c last w → end_in p c incoming ≡ end_observed key last w incoming
+same_ending : (bound : ℕ) (p : Phase) (c : Call) (key : TKey) (last : Option ℕ) (w : ObservedAttempts) (incoming : Signal) → c.opening.key ≡ key → Ties bound p c last w →
+    end_in p c incoming ≡ end_observed key last w incoming
 same_ending bound (Offered x) c key last w incoming own t = sym (tied_end bound x c c key last w incoming own refl t) ∙ ap (λ o. observed_end_in key last o w.acks incoming) (sym t.in_progress)
 same_ending bound (Established x stage) c key last w incoming own t = ap (λ o. observed_end_in key last o w.acks incoming) (sym t)
 same_ending bound (Detached detached) c key last w incoming own t = ap (λ o. observed_end_in key last o w.acks incoming) (sym t)

@@ -14,17 +14,22 @@ use Rattle.mmtel_call_services.specs.declared.openings.Service.{Service}
 use Rattle.mmtel_call.specs.Answered.{acknowledges, at_stage, leg_of, with_leg}
 use Rattle.mmtel_call.specs.Awaiting.{expiries}
 use Rattle.mmtel_call.specs.Closing.{StepResult, established_call_end, step_result, with_past}
-use Rattle.mmtel_call.specs.Dismissal.{ends_by_bye, is_in_order, leaves_by_bye, leaves_by_bye_at, leaves_on_ack, leaves_on_ack_at, leaves_on_cancel, leaves_on_due, leaves_on_request, leaves_on_status, leaves_on_status_at, leaves_on_timeout, leaves_on_timeout_at, leaves_on_timer}
-use Rattle.mmtel_call.specs.Diverting.{after_attempt, at_target, call_after_diversion, call_refusal, diversion_refusal, diversion_step, diversion_unless_refused, divert, is_diverted, on_end, on_next_step, reach, relayed_refusal, with_notification_of, with_unoffered_meter}
+use Rattle.mmtel_call.specs.Dismissal.{ends_by_bye, is_in_order, leaves_by_bye, leaves_by_bye_at, leaves_on_ack, leaves_on_ack_at, leaves_on_cancel, leaves_on_due}
+use Rattle.mmtel_call.specs.Dismissal.{leaves_on_request, leaves_on_status, leaves_on_status_at, leaves_on_timeout, leaves_on_timeout_at, leaves_on_timer}
+use Rattle.mmtel_call.specs.Diverting.{after_attempt, at_target, call_after_diversion, call_refusal, diversion_refusal, diversion_step, diversion_unless_refused}
+use Rattle.mmtel_call.specs.Diverting.{divert, is_diverted, on_end, on_next_step, reach, relayed_refusal, with_notification_of, with_unoffered_meter}
 use Rattle.mmtel_call.specs.RelayedTransactions as flying
-use Rattle.mmtel_call.specs.RelayedTransactions.{is_in_flight, leg_after_request, on_final_relayed, on_response_in_flight, on_response_relayed, on_timeout_in_flight, on_timeout_relayed, relayed_transaction_of, service_in, updating_side, with_response_back, without_transaction}
-use Rattle.mmtel_call.specs.OtherRequests.{is_answered_invite, is_fork, is_success, on_forked_response, on_other_response, on_other_response_at, on_other_timeout, on_other_timeout_at, on_response_abandoned, on_response_answered, on_response_answered_at, on_retransmitted_success}
+use Rattle.mmtel_call.specs.RelayedTransactions.{is_in_flight, leg_after_request, on_final_relayed, on_response_in_flight, on_response_relayed, on_timeout_in_flight}
+use Rattle.mmtel_call.specs.RelayedTransactions.{on_timeout_relayed, relayed_transaction_of, service_in, updating_side, with_response_back, without_transaction}
+use Rattle.mmtel_call.specs.OtherRequests.{is_answered_invite, is_fork, is_success, on_forked_response, on_other_response, on_other_response_at, on_other_timeout}
+use Rattle.mmtel_call.specs.OtherRequests.{on_other_timeout_at, on_response_abandoned, on_response_answered, on_response_answered_at, on_retransmitted_success}
 use Rattle.mmtel_call.specs.Opening.{call_after_opening, caller_of, new_call, unless_refused}
 use Rattle.mmtel_call.specs.Reinvites.{ends_dialog, on_accepted_reinvite, on_provisional_across, on_response_across, with_byes, with_refusal_back}
 use Rattle.mmtel_call.specs.Reliable.{after_prack_across, named_rseq, on_named_prack, on_rack, on_refused_prack, own_rseq_for, rack_in}
 use Rattle.mmtel_call.specs.Requests.{is_bye, is_invite, is_prack, is_update, leg_after_receiving, request_check, with_refused_request, with_unlisted_response}
 use Rattle.mmtel_call.specs.Ringing as ringing
-use Rattle.mmtel_call.specs.Ringing.{attempt_after_request, call_without_attempt, offered_request_check, on_answer, on_attempt_timeout, on_caller_cancel, on_cancel, on_due, on_failure, on_numbered_provisional, on_other, on_prack_of, on_provisional_by, on_request_if, on_response, on_timeout, on_trying, on_valid_request, with_attempt_cancel}
+use Rattle.mmtel_call.specs.Ringing.{attempt_after_request, call_without_attempt, offered_request_check, on_answer, on_attempt_timeout, on_caller_cancel, on_cancel, on_due, on_failure}
+use Rattle.mmtel_call.specs.Ringing.{on_numbered_provisional, on_other, on_prack_of, on_provisional_by, on_request_if, on_response, on_timeout, on_trying, on_valid_request, with_attempt_cancel}
 use Rattle.mmtel_call.specs.Sending.{with_status_to, with_status_to_caller}
 use Rattle.mmtel_call.specs.Stages.{after_timer_at, busy_in, is_due_at, on_ack_at, on_bye, on_cancel_at, on_due_at, on_invite, on_request_at_if, on_response_at, on_timeout_at, on_valid_request_at}
 use Rattle.mmtel_call.specs.Table.{ack_in, cancel_in, due_in, is_current, leaves, leaves_on_response, leaves_on_timeout_of, on_response_to, on_timeout_of, request_in, response_in, timeout_in, transition}
@@ -142,7 +147,8 @@ module _ (config : CallConfigView) where
       next_step_leaves left now caller later (service_at config now c.opening cause target) cause target
       (decision_at config now c.opening (is_diverted c) cause target (service_at config now c.opening cause target) (peer_for config c.opening target)) c output
 
-  unless_leaves : (refusal : Option Cause) (go : Call → StepOutput → StepResult) (at : ℕ) (caller : Leg) (c : Call) (output : StepOutput) → Leaves c (go c output) → Leaves c (diversion_unless_refused refusal go config at caller c output)
+  unless_leaves : (refusal : Option Cause) (go : Call → StepOutput → StepResult) (at : ℕ) (caller : Leg) (c : Call) (output : StepOutput) → Leaves c (go c output) →
+      Leaves c (diversion_unless_refused refusal go config at caller c output)
   unless_leaves (Some why) go at caller c output is = inl refl
   unless_leaves None go at caller c output is = is
 
@@ -159,7 +165,8 @@ module _ (config : CallConfigView) where
   reach_leaves : (now : SnapshotView) (caller : Leg) (cause : Option ℕ) (target : Target) (c : Call) (output : StepOutput) → Leaves c (reach config now caller cause target c output)
   reach_leaves now caller cause target c output = target_leaves c.diversions.remaining now caller (divert_leaves c.diversions.remaining now caller) cause target c output
 
-  end_leaves : (now : SnapshotView) (caller : Leg) (service : Option Service) (m : Option MessageView) (after : StepAfterAttemptView) (c : Call) (output : StepOutput) → Leaves c (on_end config now caller service m after c output)
+  end_leaves : (now : SnapshotView) (caller : Leg) (service : Option Service) (m : Option MessageView) (after : StepAfterAttemptView) (c : Call) (output : StepOutput) →
+      Leaves c (on_end config now caller service m after c output)
   end_leaves now caller service m EndAnswered c output = inl refl
   end_leaves now caller service m (EndDivert due) c output = divert_leaves c.diversions.remaining now caller service due c output
   end_leaves now caller service m (EndRefuse cause) c output = refused_by_leaves now.at caller service m cause c output
@@ -173,18 +180,21 @@ module _ (config : CallConfigView) where
   offered x c = record c { phase = Offered x }
 
   module _ (received : Signal) where
-    relayed_quiet : (o : Option ℕ) (rseq at : ℕ) (x : OfferedAttempt) (key : TKey) (m : MessageView) (code : ℕ) (c : Call) (output : StepOutput) → IsQuiet (offered x c) (on_numbered_provisional o rseq config at x key m code (offered x c) output)
+    relayed_quiet : (o : Option ℕ) (rseq at : ℕ) (x : OfferedAttempt) (key : TKey) (m : MessageView) (code : ℕ) (c : Call) (output : StepOutput) →
+        IsQuiet (offered x c) (on_numbered_provisional o rseq config at x key m code (offered x c) output)
     relayed_quiet None rseq at x key m code c output = record { attempts = refl; over = refl; in_flight = refl }
     relayed_quiet (Some own) rseq at x key m code c output = record { attempts = refl; over = refl; in_flight = refl }
 
-    proceeding_by_quiet : (o : Option ℕ) (at : ℕ) (x : OfferedAttempt) (key : TKey) (m : MessageView) (code : ℕ) (c : Call) (output : StepOutput) → IsQuiet (offered x c) (on_provisional_by o config at x key m code (offered x c) output)
+    proceeding_by_quiet : (o : Option ℕ) (at : ℕ) (x : OfferedAttempt) (key : TKey) (m : MessageView) (code : ℕ) (c : Call) (output : StepOutput) →
+        IsQuiet (offered x c) (on_provisional_by o config at x key m code (offered x c) output)
     proceeding_by_quiet None at x key m code c output = record { attempts = refl; over = refl; in_flight = refl }
     proceeding_by_quiet (Some rseq) at x key m code c output = relayed_quiet (own_rseq_for rseq x m (offered x c)) rseq at x key m code c output
 
     proceeding_quiet : (at : ℕ) (x : OfferedAttempt) (key : TKey) (m : MessageView) (code : ℕ) (c : Call) (output : StepOutput) → IsQuiet (offered x c) (ringing.on_provisional config at x key m code (offered x c) output)
     proceeding_quiet at x key m code c output = proceeding_by_quiet (reliable_number config c.opening m) at x key m code c output
 
-    response_transition : (now : SnapshotView) (x : OfferedAttempt) (key : TKey) (m : MessageView) (code : ℕ) (c : Call) (output : StepOutput) → StepKind received (not (nat_lt code 300)) (offered x c) output (on_response config now x key m code (offered x c) output)
+    response_transition : (now : SnapshotView) (x : OfferedAttempt) (key : TKey) (m : MessageView) (code : ℕ) (c : Call) (output : StepOutput) →
+        StepKind received (not (nat_lt code 300)) (offered x c) output (on_response config now x key m code (offered x c) output)
     response_transition now x key m code c output = by (nat_lt code 300)
       where
         trying : IsQuiet (offered x c) (on_trying key x (offered x c) output)
@@ -218,7 +228,8 @@ module _ (config : CallConfigView) where
     timed_out_leaves : (now : SnapshotView) (x : OfferedAttempt) (how : AttemptEndView) (c : Call) (output : StepOutput) → Leaves c (on_attempt_timeout config now x how c output)
     timed_out_leaves now x how c output = goes_on_leaves now x how None (call_without_attempt x c) (with_attempt_cancel config x output)
 
-    due_transition : (now : SnapshotView) (x : OfferedAttempt) (what : DueWord) (c : Call) (output : StepOutput) → StepKind received (leaves_on_timer x what (offered x c)) (offered x c) output (on_due config now x what (offered x c) output)
+    due_transition : (now : SnapshotView) (x : OfferedAttempt) (what : DueWord) (c : Call) (output : StepOutput) →
+        StepKind received (leaves_on_timer x what (offered x c)) (offered x c) output (on_due config now x what (offered x c) output)
     due_transition now x (due.NoReply number) c output = transition_if received (number == x.attempt.number) (offered x c) output _ _ (timed_out_leaves now x NoReply (offered x c) output) (same x c output output)
     due_transition now x (due.NoPrack own) c output = transition_if received (has_own own c.acks.waiting) (offered x c) output _ _ (inl refl) (same x c output output)
     due_transition now x (due.Cap number) c output =
@@ -226,7 +237,8 @@ module _ (config : CallConfigView) where
     due_transition now x (due.NoAck number) c output = same x c output output
     due_transition now x (due.Expired number) c output = same x c output output
 
-    cancel_transition : (at : ℕ) (x : OfferedAttempt) (key : TKey) (m : MessageView) (invite : TKey) (c : Call) (output : StepOutput) → StepKind received (invite.0 == c.opening.key.0) (offered x c) output (on_cancel config at x key m invite (offered x c) output)
+    cancel_transition : (at : ℕ) (x : OfferedAttempt) (key : TKey) (m : MessageView) (invite : TKey) (c : Call) (output : StepOutput) →
+        StepKind received (invite.0 == c.opening.key.0) (offered x c) output (on_cancel config at x key m invite (offered x c) output)
     cancel_transition at x key m invite c output = transition_if received (invite.0 == c.opening.key.0) (offered x c) output _ _ (inl refl) (same x c output (with_status_to config (offered x c) key m 200 output))
 
   -- ---- requests
@@ -250,7 +262,8 @@ module _ (config : CallConfigView) where
     request = signal.Request side key m
 
     -- one more is in flight
-    asks : (flight : RelayedTransaction) (c : Call) (output : StepOutput) (s : StepResult) → IsRelayedAcross request c flight → s.call.attempts ≡ c.attempts → is_over s.call.phase ≡ is_over c.phase → s.call.relayed ≡ c.relayed ++ flight ∷ [] →
+    asks : (flight : RelayedTransaction) (c : Call) (output : StepOutput) (s : StepResult) → IsRelayedAcross request c flight → s.call.attempts ≡ c.attempts → is_over s.call.phase ≡ is_over c.phase →
+        s.call.relayed ≡ c.relayed ++ flight ∷ [] →
         Stays request c output s
     asks flight c output s is e f g = record { attempts = e; over = f; flies = dismissal.OneRelayed flight is g }
 
@@ -272,11 +285,13 @@ module _ (config : CallConfigView) where
     still_offered : (x y : OfferedAttempt) (c : Call) (output notified : StepOutput) → Stays request (offered x c) output (step_result (offered y c) notified)
     still_offered x y c output notified = quiet_stays request (offered x c) output _ (record { attempts = refl; over = refl; in_flight = refl })
 
-    update_stays : (x y : OfferedAttempt) (c : Call) (output : StepOutput) → other_dialogue (Offered x) side ≡ Some (other_leg side y).dialogue → Stays request (offered x c) output (on_update config y side key m (offered y c) output)
+    update_stays : (x y : OfferedAttempt) (c : Call) (output : StepOutput) → other_dialogue (Offered x) side ≡ Some (other_leg side y).dialogue →
+        Stays request (offered x c) output (on_update config y side key m (offered y c) output)
     update_stays x y c output across =
         let leg : Leg = other_leg side y in
         let flight : RelayedTransaction = relayed_transaction_of Update side key m (leg_after_request (codes "UPDATE") leg) output in
-        stays_if request (accepts_updates y) (offered x c) output (unless_updating (updating_side c.relayed) (on_early_update config y side key m) config side key m (offered y c) output) (on_early_retry config key m (offered y c) output)
+        stays_if request (accepts_updates y) (offered x c) output (unless_updating (updating_side c.relayed) (on_early_update config y side key m) config side key m (offered y c) output)
+        (on_early_retry config key m (offered y c) output)
         (unless_stays (updating_side c.relayed) (on_early_update config y side key m) (offered x c) (offered y c) output refl refl refl
         (asks flight (offered x c) output (on_early_update config y side key m (offered y c) output) (record { received = refl; dialogue = leg.dialogue; other = across; sent = refl }) refl refl refl))
         (still_offered x y c output _)
@@ -326,7 +341,8 @@ module _ (config : CallConfigView) where
         notified : StepOutput
         notified = with_status_to config (offered y c) key m 200 output
 
-        by : (bye : Bool) → StepKind received (bye && is_in_order x.caller.dialogue m) (offered x c) output (if bye then on_caller_cancel config at y (offered y c) notified else on_other config y Caller key m (offered y c) output)
+        by : (bye : Bool) → StepKind received (bye && is_in_order x.caller.dialogue m) (offered x c) output
+            (if bye then on_caller_cancel config at y (offered y c) notified else on_other config y Caller key m (offered y c) output)
         by true = subst (λ (b : Bool). StepKind received b (offered x c) output (on_caller_cancel config at y (offered y c) notified)) (sym ordered) (inl refl)
         by false = other_stays Caller x y c output refl
 
@@ -335,7 +351,8 @@ module _ (config : CallConfigView) where
     request_transition (Ok received) at Caller x c output e = received_transition at Caller x c output (inl (in_order (number_of m) x.caller.dialogue.remote_cseq _ fine received refl e))
     request_transition (Ok received) at Callee x c output e = received_transition at Callee x c output (inr refl)
     request_transition (Err fault) at side x c output e =
-        quiet_transition (signal.Request side key m) (leaves_by_bye x side m) (offered x c) output (step_result (offered x c) (with_refused_request config (offered x c) key m fault output)) (record { attempts = refl; over = refl; in_flight = refl })
+        quiet_transition (signal.Request side key m) (leaves_by_bye x side m) (offered x c) output (step_result (offered x c) (with_refused_request config (offered x c) key m fault output))
+        (record { attempts = refl; over = refl; in_flight = refl })
 
   -- ---- once it is answered
 
@@ -352,16 +369,19 @@ module _ (config : CallConfigView) where
     invite_quiet Stable x y c output = record { attempts = refl; over = refl; in_flight = refl }
     invite_quiet (Reinviting asking q) x y c output = record { attempts = refl; over = refl; in_flight = refl }
 
-    bye_transition : (stage : Stage) (at : ℕ) (x y : EstablishedLegs) (c : Call) (output : StepOutput) → StepKind (signal.Request side key m) (ends_by_bye stage side) (stood x stage c) output (on_bye stage config at y side key m (stood y stage c) output)
+    bye_transition : (stage : Stage) (at : ℕ) (x y : EstablishedLegs) (c : Call) (output : StepOutput) →
+        StepKind (signal.Request side key m) (ends_by_bye stage side) (stood x stage c) output (on_bye stage config at y side key m (stood y stage c) output)
     bye_transition (Answered waiting success) at x y c output =
-        transition_if (signal.Request side key m) (is_same_side waiting side) (stood x (Answered waiting success) c) output _ _ (inl refl) (still_established x y (Answered waiting success) (Departing waiting success) c output _)
+        transition_if (signal.Request side key m) (is_same_side waiting side) (stood x (Answered waiting success) c) output _ _ (inl refl)
+        (still_established x y (Answered waiting success) (Departing waiting success) c output _)
     bye_transition (Departing waiting success) at x y c output = by (is_same_side waiting side)
       where
         stage : Stage
         stage = Departing waiting success
 
         by : (t : Bool) → StepKind (signal.Request side key m) t (stood x stage c) output
-            (if not t then step_result (stood y stage c) (with_status_to config (stood y stage c) key m 481 output) else established_call_end at y (stood y stage c) (with_status_to config (stood y stage c) key m 200 output))
+            (if not t then step_result (stood y stage c) (with_status_to config (stood y stage c) key m 481 output)
+            else established_call_end at y (stood y stage c) (with_status_to config (stood y stage c) key m 200 output))
         by true = inl refl
         by false = still_established x y stage stage c output _
     bye_transition Stable at x y c output = inl refl
@@ -378,7 +398,8 @@ module _ (config : CallConfigView) where
         (record { received = refl; dialogue = leg.dialogue; other = across; sent = refl }) refl refl refl)
     update_at_stays (Reinviting asking q) x y c output across = still_established x y (Reinviting asking q) (Reinviting asking q) c output _
 
-    received_at_transition : (stage : Stage) (at : ℕ) (x y : EstablishedLegs) (c : Call) (output : StepOutput) → other_dialogue (Established x stage) side ≡ Some (leg_of (other_side side) y).dialogue → is_in_order (leg_of side x).dialogue m ≡ true →
+    received_at_transition : (stage : Stage) (at : ℕ) (x y : EstablishedLegs) (c : Call) (output : StepOutput) →
+        other_dialogue (Established x stage) side ≡ Some (leg_of (other_side side) y).dialogue → is_in_order (leg_of side x).dialogue m ≡ true →
         StepKind (signal.Request side key m) (leaves_by_bye_at stage x side m) (stood x stage c) output (on_valid_request_at stage config at y side key m (stood y stage c) output)
     received_at_transition stage at x y c output across ordered = by (is_invite m) (is_bye m)
       where
@@ -423,13 +444,15 @@ module _ (config : CallConfigView) where
         StepKind received (leaves_on_ack_at stage side m) (stood x stage c) output (on_ack_at stage config at x side m (stood x stage c) output)
     ack_transition (Answered waiting success) at x side m c output =
         stays_if received (acknowledges waiting success side m) (stood x (Answered waiting success) c) output _ _
-        (quiet_stays received (stood x (Answered waiting success) c) output _ (record { attempts = refl; over = refl; in_flight = refl })) (standing x (Answered waiting success) (Answered waiting success) c output output)
+        (quiet_stays received (stood x (Answered waiting success) c) output _ (record { attempts = refl; over = refl; in_flight = refl }))
+        (standing x (Answered waiting success) (Answered waiting success) c output output)
     ack_transition (Departing waiting success) at x side m c output =
         transition_if received (acknowledges waiting success side m) (stood x (Departing waiting success) c) output _ _ (inl refl) (standing x (Departing waiting success) (Departing waiting success) c output output)
     ack_transition Stable at x side m c output = standing x Stable Stable c output output
     ack_transition (Reinviting asking q) at x side m c output = standing x (Reinviting asking q) (Reinviting asking q) c output output
 
-    cancel_at_stays : (stage : Stage) (x : EstablishedLegs) (invite : TKey) (c : Call) (output notified : StepOutput) → Stays received (stood x stage c) output (on_cancel_at stage config x invite (stood x stage c) notified)
+    cancel_at_stays : (stage : Stage) (x : EstablishedLegs) (invite : TKey) (c : Call) (output notified : StepOutput) →
+        Stays received (stood x stage c) output (on_cancel_at stage config x invite (stood x stage c) notified)
     cancel_at_stays (Answered waiting success) x invite c output notified = standing x (Answered waiting success) (Answered waiting success) c output notified
     cancel_at_stays (Departing waiting success) x invite c output notified = standing x (Departing waiting success) (Departing waiting success) c output notified
     cancel_at_stays Stable x invite c output notified = standing x Stable Stable c output notified
@@ -461,7 +484,8 @@ module _ (config : CallConfigView) where
     response_at_transition Stable at x key m c output = standing x Stable Stable c output output
     response_at_transition (Reinviting asking q) at x key m c output = across_transition at x asking q key m (status_of m.parsed.start) c output
 
-    timeout_at_transition : (stage : Stage) (at : ℕ) (x : EstablishedLegs) (c : Call) (output : StepOutput) → StepKind received (leaves_on_timeout_at stage) (stood x stage c) output (on_timeout_at stage config at x (stood x stage c) output)
+    timeout_at_transition : (stage : Stage) (at : ℕ) (x : EstablishedLegs) (c : Call) (output : StepOutput) →
+        StepKind received (leaves_on_timeout_at stage) (stood x stage c) output (on_timeout_at stage config at x (stood x stage c) output)
     timeout_at_transition (Answered waiting success) at x c output = standing x (Answered waiting success) (Answered waiting success) c output output
     timeout_at_transition (Departing waiting success) at x c output = standing x (Departing waiting success) (Departing waiting success) c output output
     timeout_at_transition Stable at x c output = standing x Stable Stable c output output
@@ -473,7 +497,8 @@ module _ (config : CallConfigView) where
     rung_leaves Stable at x c output = inl refl
     rung_leaves (Reinviting asking q) at x c output = inl refl
 
-    due_at_transition : (stage : Stage) (at : ℕ) (x : EstablishedLegs) (what : DueWord) (c : Call) (output : StepOutput) → StepKind received (is_due_at stage c.successes what) (stood x stage c) output (on_due_at stage config at x what (stood x stage c) output)
+    due_at_transition : (stage : Stage) (at : ℕ) (x : EstablishedLegs) (what : DueWord) (c : Call) (output : StepOutput) →
+        StepKind received (is_due_at stage c.successes what) (stood x stage c) output (on_due_at stage config at x what (stood x stage c) output)
     due_at_transition stage at x what c output = transition_if received (is_due_at stage c.successes what) (stood x stage c) output _ _ (rung_leaves stage at x c output) (standing x stage stage c output output)
 
     -- ---- requests for which the call does not wait
@@ -489,7 +514,8 @@ module _ (config : CallConfigView) where
     answered_stays key m place None c output = onward_stays c output output
     answered_stays key m place (Some t) c output =
         stays_if received (not (is_success (status_of m.parsed.start))) c output _ _ (onward_stays c output output)
-        (stays_if received (is_fork t m) c output (on_forked_response config key m place t c output) (on_retransmitted_success t c output) (quiet_stays received c output _ (record { attempts = refl; over = refl; in_flight = refl }))
+        (stays_if received (is_fork t m) c output (on_forked_response config key m place t c output) (on_retransmitted_success t c output)
+        (quiet_stays received c output _ (record { attempts = refl; over = refl; in_flight = refl }))
         (quiet_stays received c output _ (record { attempts = refl; over = refl; in_flight = refl })))
 
     -- a request in flight gets its final response
@@ -513,7 +539,8 @@ module _ (config : CallConfigView) where
           });
         }
 
-    relayed_stays : (at : ℕ) (m : MessageView) (code place : ℕ) (o : Option RelayedTransaction) (c : Call) (output : StepOutput) → slice_get c.relayed place ≡ o → Stays received c output (on_response_relayed config at m code place o c output)
+    relayed_stays : (at : ℕ) (m : MessageView) (code place : ℕ) (o : Option RelayedTransaction) (c : Call) (output : StepOutput) → slice_get c.relayed place ≡ o →
+        Stays received c output (on_response_relayed config at m code place o c output)
     relayed_stays at m code place None c output there = onward_stays c output output
     relayed_stays at m code place (Some flight) c output there =
         let gone : Call = without_transaction place c in
@@ -572,13 +599,15 @@ module _ (config : CallConfigView) where
     response_in_transition (Detached detached) now key m c output = onward_stays (at_phase (Detached detached) c) output output
     response_in_transition (Over cause) now key m c output = onward_stays (at_phase (Over cause) c) output output
 
-    timeout_in_transition : (phase : Phase) (now : SnapshotView) (c : Call) (output : StepOutput) → StepKind received (leaves_on_timeout phase) (at_phase phase c) output (timeout_in phase config now (at_phase phase c) output)
+    timeout_in_transition : (phase : Phase) (now : SnapshotView) (c : Call) (output : StepOutput) →
+        StepKind received (leaves_on_timeout phase) (at_phase phase c) output (timeout_in phase config now (at_phase phase c) output)
     timeout_in_transition (Offered x) now c output = timeout_transition received now x c output
     timeout_in_transition (Established x stage) now c output = timeout_at_transition stage now.at x c output
     timeout_in_transition (Detached detached) now c output = onward_stays (at_phase (Detached detached) c) output output
     timeout_in_transition (Over cause) now c output = onward_stays (at_phase (Over cause) c) output output
 
-    ack_in_transition : (phase : Phase) (at : ℕ) (side : Side) (m : MessageView) (c : Call) (output : StepOutput) → StepKind received (leaves_on_ack phase side m) (at_phase phase c) output (ack_in phase config at side m (at_phase phase c) output)
+    ack_in_transition : (phase : Phase) (at : ℕ) (side : Side) (m : MessageView) (c : Call) (output : StepOutput) →
+        StepKind received (leaves_on_ack phase side m) (at_phase phase c) output (ack_in phase config at side m (at_phase phase c) output)
     ack_in_transition (Offered x) at side m c output = onward_stays (at_phase (Offered x) c) output output
     ack_in_transition (Established x stage) at side m c output = ack_transition stage at x side m c output
     ack_in_transition (Detached detached) at side m c output = onward_stays (at_phase (Detached detached) c) output output
@@ -598,11 +627,13 @@ module _ (config : CallConfigView) where
     due_in_transition (Detached detached) now what c output = onward_stays (at_phase (Detached detached) c) output output
     due_in_transition (Over cause) now what c output = onward_stays (at_phase (Over cause) c) output output
 
-    answer_transition : (branch : Option (List ℕ)) (now : SnapshotView) (key : TKey) (m : MessageView) (c : Call) (output : StepOutput) → StepKind received (leaves_on_response branch m c) c output (on_response_to branch config now key m c output)
+    answer_transition : (branch : Option (List ℕ)) (now : SnapshotView) (key : TKey) (m : MessageView) (c : Call) (output : StepOutput) →
+        StepKind received (leaves_on_response branch m c) c output (on_response_to branch config now key m c output)
     answer_transition None now key m c output = onward_stays c output output
     answer_transition (Some branch) now key m c output = by (is_current branch c)
       where
-        by : (t : Bool) → StepKind received (t && leaves_on_status (status_of m.parsed.start) c.phase) c output (if t then response_in c.phase config now key m c output else on_other_response config now.at key m branch c output)
+        by : (t : Bool) → StepKind received (t && leaves_on_status (status_of m.parsed.start) c.phase) c output
+            (if t then response_in c.phase config now key m c output else on_other_response config now.at key m branch c output)
         by true = response_in_transition c.phase now key m c output
         by false = answered_other_stays now.at key m branch c output
 

@@ -17,7 +17,8 @@ use Rattle.mmtel_message.specs.Fields.{after_blanks, before_rest, if_end, via_at
 use Rattle.mmtel_message.specs.Headers.{is_value_byte}
 use Rattle.mmtel_message.specs.Message.{Line, has_line, line, lines_named}
 use Rattle.mmtel_message.specs.Responses as responses
-use Rattle.mmtel_message.specs.Responses.{Reply, added_lines, call_lines, completed_line, completed_lines, copied_lines, has_tag, makes_dialog, names_contact, own_fields, party_lines, response, route_lines, tag_of_response, tagged_value, to_line, to_value, via_lines}
+use Rattle.mmtel_message.specs.Responses.{Reply, added_lines, call_lines, completed_line, completed_lines, copied_lines, has_tag, makes_dialog, names_contact}
+use Rattle.mmtel_message.specs.Responses.{own_fields, party_lines, response, route_lines, tag_of_response, tagged_value, to_line, to_value, via_lines}
 use Rattle.mmtel_message.specs.Vias.{asks_port, completed_by, completed_value, is_from, is_received, received_param, sourced_param, sourced_params, sourced_via, via_value, with_port}
 use Rattle.mmtel_message.specs.declared.fields.Via.{Via}
 use Rattle.mmtel_message.specs.declared.messages.Start.{Start}
@@ -106,7 +107,8 @@ content_no_injection method sip shown body e =
     (if_lines (is_contacting method && not (has_line (codes "Contact") shown)) (line (codes "Contact") (contact_text sip)) [] (one_no_injection (codes "Contact") (contact_text sip) refl (contact_no_injection sip)) refl)
     (lines_joined shown (line (codes "Content-Length") (decimal (length body))) e (one_no_injection (codes "Content-Length") (decimal (length body)) refl (decimal_no_injection (length body))))
 
-pub request_no_injection : (d : Dialogue) (number : ℕ) (method : List ℕ) (given : RequestPartsView) → DialogueHasNoInjection d → HasNoInjection method → RequestPartsHaveNoInjection given → MessageHasNoInjection (request_numbered d number method given)
+pub request_no_injection : (d : Dialogue) (number : ℕ) (method : List ℕ) (given : RequestPartsView) → DialogueHasNoInjection d → HasNoInjection method → RequestPartsHaveNoInjection given →
+    MessageHasNoInjection (request_numbered d number method given)
 request_no_injection d number method given is e had = record {
   start_in = (e, is.target_in);
   lines_in =
@@ -298,7 +300,8 @@ own_lines_no_injection passed named body e f =
     lines_joined passed (named ++ line (codes "Content-Length") (decimal (length body))) e
     (lines_joined named (line (codes "Content-Length") (decimal (length body))) f (one_no_injection (codes "Content-Length") (decimal (length body)) refl (decimal_no_injection (length body))))
 
-added_lines_no_injection : (code : ℕ) (start : Start) (ls : List Line) (contact : List ℕ) (passed named : List Line) (body : List ℕ) → LinesHaveNoInjection ls → HasNoInjection contact → LinesHaveNoInjection passed → LinesHaveNoInjection named → LinesHaveNoInjection (added_lines code start ls contact passed named body)
+added_lines_no_injection : (code : ℕ) (start : Start) (ls : List Line) (contact : List ℕ) (passed named : List Line) (body : List ℕ) → LinesHaveNoInjection ls → HasNoInjection contact →
+    LinesHaveNoInjection passed → LinesHaveNoInjection named → LinesHaveNoInjection (added_lines code start ls contact passed named body)
 unfolding added_lines
 added_lines_no_injection code start ls contact passed named body e f g h =
     lines_joined (route_lines code start ls) (responses.contact_lines code start contact ++ own_fields passed named body) (route_no_injection code start ls e)

@@ -97,7 +97,8 @@ onto_no_injection (suc k) n acc e =
     let more : HasNoInjection (digit_glyph false (n % 10) ∷ acc) = all_cons is_value_byte (digit_glyph false (n % 10)) acc (glyph_no_injection (n % 10)) e in
     by (n / 10 == 0) more (onto_no_injection k (n / 10) (digit_glyph false (n % 10) ∷ acc) more)
   where
-    by : (b : Bool) → HasNoInjection (digit_glyph false (n % 10) ∷ acc) → HasNoInjection (digits_onto k 10 false (n / 10) (digit_glyph false (n % 10) ∷ acc)) → HasNoInjection (if b then digit_glyph false (n % 10) ∷ acc else digits_onto k 10 false (n / 10) (digit_glyph false (n % 10) ∷ acc))
+    by : (b : Bool) → HasNoInjection (digit_glyph false (n % 10) ∷ acc) → HasNoInjection (digits_onto k 10 false (n / 10) (digit_glyph false (n % 10) ∷ acc)) →
+        HasNoInjection (if b then digit_glyph false (n % 10) ∷ acc else digits_onto k 10 false (n / 10) (digit_glyph false (n % 10) ∷ acc))
     by true f g = f
     by false f g = g
 
@@ -118,4 +119,5 @@ written_no_injection l e = let parts = line_parts l e in joined l.0 (codes ": " 
 
 pub start_no_injection : (s : Start) → StartHasNoInjection s → HasNoInjection (start_text s)
 start_no_injection (Request method uri) e = joined method (codes " " ++ (uri ++ codes " SIP/2.0")) e.0 (joined (codes " ") (uri ++ codes " SIP/2.0") refl (joined uri (codes " SIP/2.0") e.1 refl))
-start_no_injection (Status code phrase) e = joined (codes "SIP/2.0 ") (decimal code ++ (codes " " ++ phrase)) refl (joined (decimal code) (codes " " ++ phrase) (decimal_no_injection code) (joined (codes " ") phrase refl e))
+start_no_injection (Status code phrase) e =
+    joined (codes "SIP/2.0 ") (decimal code ++ (codes " " ++ phrase)) refl (joined (decimal code) (codes " " ++ phrase) (decimal_no_injection code) (joined (codes " ") phrase refl e))

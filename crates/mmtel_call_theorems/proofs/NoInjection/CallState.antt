@@ -129,10 +129,12 @@ pub record StepHasNoInjection (acks : List ReceivedAck) (s : StepResult) : Type 
   pub phase : PhaseHasNoInjection acks s.call.phase
   pub output : OutputHasNoInjection acks s.output
 
-pub onward_no_injection : (acks : List ReceivedAck) (c : Call) (output : StepOutput) → CallHasNoInjection acks c → PhaseHasNoInjection acks c.phase → OutputHasNoInjection acks output → StepHasNoInjection acks (step_result c output)
+pub onward_no_injection : (acks : List ReceivedAck) (c : Call) (output : StepOutput) → CallHasNoInjection acks c → PhaseHasNoInjection acks c.phase → OutputHasNoInjection acks output →
+    StepHasNoInjection acks (step_result c output)
 onward_no_injection acks c output k p had = record { kept = k; phase = p; output = had }
 
-pub over_no_injection : (acks : List ReceivedAck) (at : ℕ) (cause : Cause) (first last : Option MeterView) (c : Call) (output : StepOutput) → CallHasNoInjection acks c → OutputHasNoInjection acks output → StepHasNoInjection acks (call_end at cause first last c output)
+pub over_no_injection : (acks : List ReceivedAck) (at : ℕ) (cause : Cause) (first last : Option MeterView) (c : Call) (output : StepOutput) → CallHasNoInjection acks c →
+    OutputHasNoInjection acks output → StepHasNoInjection acks (call_end at cause first last c output)
 over_no_injection acks at cause first last c output k had = record { kept = with_in_flight acks [] c tt k; phase = tt; output = record { token_in = had.token_in; out_in = had.out_in } }
 
 pub if_step : (acks : List ReceivedAck) (b : Bool) (one two : StepResult) → StepHasNoInjection acks one → StepHasNoInjection acks two → StepHasNoInjection acks (if b then one else two)
@@ -162,36 +164,45 @@ list_no_injection d m e = by (status_of m.parsed.start == 181)
     by true = notified_no_injection d.hides_diverting d.hides_target d.history e
     by false = e
 
-pub copied_to_no_injection : (config : CallConfigView) (o : Opening) (d : DiversionsView) (service : Option Service) (side : Side) (peer : Peer) (m : MessageView) → EntriesHaveNoInjection d.history → ParsedMessageHasNoInjection m.parsed → LinesHaveNoInjection (copied_lines config o d service side peer m)
+pub copied_to_no_injection : (config : CallConfigView) (o : Opening) (d : DiversionsView) (service : Option Service) (side : Side) (peer : Peer) (m : MessageView) → EntriesHaveNoInjection d.history →
+    ParsedMessageHasNoInjection m.parsed → LinesHaveNoInjection (copied_lines config o d service side peer m)
 unfolding copied_lines
-copied_to_no_injection config o d service side peer m e is = copied_no_injection (facing_at config o service side m) (trusts config peer) (history_for d m) m.parsed.start m.parsed.lines (list_no_injection d m e) is.lines_in
+copied_to_no_injection config o d service side peer m e is =
+    copied_no_injection (facing_at config o service side m) (trusts config peer) (history_for d m) m.parsed.start m.parsed.lines (list_no_injection d m e) is.lines_in
 
-pub offered_to_no_injection : (config : CallConfigView) (o : Opening) (d : DiversionsView) (service : Option Service) (peer : Peer) → EntriesHaveNoInjection d.history → ParsedMessageHasNoInjection o.invite.parsed → LinesHaveNoInjection (attempt_lines config o d service peer)
+pub offered_to_no_injection : (config : CallConfigView) (o : Opening) (d : DiversionsView) (service : Option Service) (peer : Peer) → EntriesHaveNoInjection d.history →
+    ParsedMessageHasNoInjection o.invite.parsed → LinesHaveNoInjection (attempt_lines config o d service peer)
 unfolding attempt_lines
 offered_to_no_injection config o d service peer e is =
     copied_no_injection (attempt_facing config o service) (trusts config peer) (history_for d o.invite) o.invite.parsed.start o.invite.parsed.lines (list_no_injection d o.invite e) is.lines_in
 
 -- ---- responses
 
-pub replied_to_no_injection : (acks : List ReceivedAck) (config : CallConfigView) (c : Call) (key : TKey) (m : MessageView) (code : ℕ) (output : StepOutput) → CallHasNoInjection acks c → ParsedMessageHasNoInjection m.parsed → OutputHasNoInjection acks output → OutputHasNoInjection acks (with_status_to config c key m code output)
+pub replied_to_no_injection : (acks : List ReceivedAck) (config : CallConfigView) (c : Call) (key : TKey) (m : MessageView) (code : ℕ) (output : StepOutput) → CallHasNoInjection acks c →
+    ParsedMessageHasNoInjection m.parsed → OutputHasNoInjection acks output → OutputHasNoInjection acks (with_status_to config c key m code output)
 replied_to_no_injection acks config c key m code output k is had = replied_no_injection acks config.sip key m c.opening.tag code output is k.opening_in.tag_in had
 
-pub status_to_caller_no_injection : (acks : List ReceivedAck) (config : CallConfigView) (c : Call) (code : ℕ) (output : StepOutput) → CallHasNoInjection acks c → OutputHasNoInjection acks output → OutputHasNoInjection acks (with_status_to_caller config c code output)
+pub status_to_caller_no_injection : (acks : List ReceivedAck) (config : CallConfigView) (c : Call) (code : ℕ) (output : StepOutput) → CallHasNoInjection acks c → OutputHasNoInjection acks output →
+    OutputHasNoInjection acks (with_status_to_caller config c code output)
 status_to_caller_no_injection acks config c code output k had = replied_to_no_injection acks config c c.opening.key c.opening.invite code output k k.opening_in.invite_in had
 
-pub notification_no_injection : (acks : List ReceivedAck) (config : CallConfigView) (c : Call) (output : StepOutput) → CallHasNoInjection acks c → OutputHasNoInjection acks output → OutputHasNoInjection acks (with_diversion_notification config c output)
+pub notification_no_injection : (acks : List ReceivedAck) (config : CallConfigView) (c : Call) (output : StepOutput) → CallHasNoInjection acks c → OutputHasNoInjection acks output →
+    OutputHasNoInjection acks (with_diversion_notification config c output)
 notification_no_injection acks config c output k had =
     let h : List Entry = notified_history c.diversions in
     let t : Bool = trusts config c.opening.invite.peer in
     answered_no_injection acks config.sip c.opening.key c.opening.invite c.opening.tag 181 (history_lines (masks_all c.opening) t h) [] [] output k.opening_in.invite_in k.opening_in.tag_in
     (history_lines_no_injection (masks_all c.opening) t h (notified_no_injection c.diversions.hides_diverting c.diversions.hides_target c.diversions.history k.history_in)) refl had
 
-pub relayed_to_caller_no_injection : (acks : List ReceivedAck) (config : CallConfigView) (c : Call) (service : Option Service) (m : MessageView) (output : StepOutput) → CallHasNoInjection acks c → ParsedMessageHasNoInjection m.parsed → OutputHasNoInjection acks output → OutputHasNoInjection acks (with_relay_to_caller config c service m output)
+pub relayed_to_caller_no_injection : (acks : List ReceivedAck) (config : CallConfigView) (c : Call) (service : Option Service) (m : MessageView) (output : StepOutput) → CallHasNoInjection acks c →
+    ParsedMessageHasNoInjection m.parsed → OutputHasNoInjection acks output → OutputHasNoInjection acks (with_relay_to_caller config c service m output)
 relayed_to_caller_no_injection acks config c service m output k is had =
     relayed_no_injection acks config.sip c.opening.key c.opening.invite c.opening.tag (copied_lines config c.opening c.diversions service Callee c.opening.invite.peer m) m output
     k.opening_in.invite_in k.opening_in.tag_in (copied_to_no_injection config c.opening c.diversions service Callee c.opening.invite.peer m k.history_in is) is had
 
-pub answered_to_no_injection : (acks : List ReceivedAck) (config : CallConfigView) (c : Call) (key : TKey) (m : MessageView) (code : ℕ) (named : List Line) (output : StepOutput) → CallHasNoInjection acks c → ParsedMessageHasNoInjection m.parsed → LinesHaveNoInjection named → OutputHasNoInjection acks output → OutputHasNoInjection acks (with_response_to config c key m code named output)
+pub answered_to_no_injection : (acks : List ReceivedAck) (config : CallConfigView) (c : Call) (key : TKey) (m : MessageView) (code : ℕ) (named : List Line) (output : StepOutput) →
+    CallHasNoInjection acks c → ParsedMessageHasNoInjection m.parsed → LinesHaveNoInjection named → OutputHasNoInjection acks output →
+    OutputHasNoInjection acks (with_response_to config c key m code named output)
 answered_to_no_injection acks config c key m code named output k is e had = answered_no_injection acks config.sip key m c.opening.tag code [] named [] output is k.opening_in.tag_in refl e had
 
 -- the methods that a server lists, whichever it supports
@@ -204,13 +215,17 @@ allowed_by true true = refl
 pub allowed_no_injection : (methods : FurtherMethods) → LinesHaveNoInjection (allow_lines methods)
 allowed_no_injection methods = allowed_by methods.reliable methods.mwi
 
-pub refused_request_no_injection : (acks : List ReceivedAck) (config : CallConfigView) (c : Call) (key : TKey) (m : MessageView) (fault : DialogueFault) (output : StepOutput) → CallHasNoInjection acks c → ParsedMessageHasNoInjection m.parsed → OutputHasNoInjection acks output → OutputHasNoInjection acks (with_refused_request config c key m fault output)
+pub refused_request_no_injection : (acks : List ReceivedAck) (config : CallConfigView) (c : Call) (key : TKey) (m : MessageView) (fault : DialogueFault) (output : StepOutput) →
+    CallHasNoInjection acks c → ParsedMessageHasNoInjection m.parsed → OutputHasNoInjection acks output → OutputHasNoInjection acks (with_refused_request config c key m fault output)
 refused_request_no_injection acks config c key m (OldCSeq last) output k is had = replied_to_no_injection acks config c key m 500 output k is had
 refused_request_no_injection acks config c key m Pending output k is had = replied_to_no_injection acks config c key m 491 output k is had
 refused_request_no_injection acks config c key m Unfinished output k is had = answered_to_no_injection acks config c key m 500 retry_after_lines output k is refl had
 
-pub unlisted_no_injection : (acks : List ReceivedAck) (config : CallConfigView) (c : Call) (key : TKey) (m : MessageView) (output : StepOutput) → CallHasNoInjection acks c → ParsedMessageHasNoInjection m.parsed → OutputHasNoInjection acks output → OutputHasNoInjection acks (with_unlisted_response config c key m output)
+pub unlisted_no_injection : (acks : List ReceivedAck) (config : CallConfigView) (c : Call) (key : TKey) (m : MessageView) (output : StepOutput) → CallHasNoInjection acks c →
+    ParsedMessageHasNoInjection m.parsed → OutputHasNoInjection acks output → OutputHasNoInjection acks (with_unlisted_response config c key m output)
 unlisted_no_injection acks config c key m output k is had =
-    if_output acks (is_method (codes "OPTIONS") m.parsed.start) (with_response_to config c key m 200 (allow_lines (further_methods config)) output) (if is_method (codes "REFER") m.parsed.start then with_status_to config c key m 403 output else with_status_to config c key m 481 output)
+    if_output acks (is_method (codes "OPTIONS") m.parsed.start) (with_response_to config c key m 200 (allow_lines (further_methods config)) output)
+    (if is_method (codes "REFER") m.parsed.start then with_status_to config c key m 403 output else with_status_to config c key m 481 output)
     (answered_to_no_injection acks config c key m 200 (allow_lines (further_methods config)) output k is (allowed_no_injection (further_methods config)) had)
-    (if_output acks (is_method (codes "REFER") m.parsed.start) (with_status_to config c key m 403 output) (with_status_to config c key m 481 output) (replied_to_no_injection acks config c key m 403 output k is had) (replied_to_no_injection acks config c key m 481 output k is had))
+    (if_output acks (is_method (codes "REFER") m.parsed.start) (with_status_to config c key m 403 output) (with_status_to config c key m 481 output)
+    (replied_to_no_injection acks config c key m 403 output k is had) (replied_to_no_injection acks config c key m 481 output k is had))

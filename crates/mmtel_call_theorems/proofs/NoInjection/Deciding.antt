@@ -15,9 +15,11 @@ use Rattle.mmtel_message.specs.Headers.{is_value_byte}
 use Rattle.mmtel_precedence.specs.Attempts.{end_by_final, end_by_redirection, is_redirection, is_success, is_unreachable, is_user_busy}
 use Rattle.mmtel_precedence.specs.Calls.{Answer, AttemptEndView, Cancel, Deflection, NoReply, NotReachable, Other, ReachedTargetView, SnapshotView, Unacknowledged, UserBusy, sheet_at}
 use Rattle.mmtel_precedence.specs.Moves.{account_at}
-use Rattle.mmtel_precedence.specs.Services.{Diverts, DueDiversionView, Nothing, Refuses, ServedAccountView, ServiceDecision, bars_incoming, diverts_by, due_of, due_on, first_decision, own_bound, refuses_if, rejects_anonymous, services_after_barring, services_of_capacity, services_on_arrival}
+use Rattle.mmtel_precedence.specs.Services.{Diverts, DueDiversionView, Nothing, Refuses, ServedAccountView, ServiceDecision, bars_incoming, diverts_by, due_of, due_on}
+use Rattle.mmtel_precedence.specs.Services.{first_decision, own_bound, refuses_if, rejects_anonymous, services_after_barring, services_of_capacity, services_on_arrival}
 use Rattle.mmtel_precedence.specs.Targets.{deflection_to}
-use Rattle.mmtel_precedence.specs.NextSteps.{EndAnswered, EndDivert, EndRefuse, NextStepView, StepAfterAttemptView, StepDivert, StepOffer, StepRefuse, deflection_by, divert_or_refuse, next_step_at, next_step_by, offer_step, step_after_attempt}
+use Rattle.mmtel_precedence.specs.NextSteps.{EndAnswered, EndDivert, EndRefuse, NextStepView, StepAfterAttemptView, StepDivert, StepOffer}
+use Rattle.mmtel_precedence.specs.NextSteps.{StepRefuse, deflection_by, divert_or_refuse, next_step_at, next_step_by, offer_step, step_after_attempt}
 use Rattle.mmtel_precedence.specs.Verdicts.{decision_by}
 use Rattle.mmtel_rules.specs.Facts.{FactsView}
 use Rattle.mmtel_rules.specs.Rules.{first_that_holds}
@@ -53,7 +55,8 @@ ChosenHasNoInjection chosen = UriHasNoInjection chosen.forward.target
 by_rule : (place : ℕ) (rule : Rule) → rule_has_no_injection rule ≡ true → IfSome (diversion_by place rule) ChosenHasNoInjection
 by_rule place rule e = by rule.action e
   where
-    by : (action : Action) → action_has_no_injection action ≡ true → IfSome (option_map (λ forward. record { rule = place; forward = forward; cause = cause_of rule.condition.event }) (forward_of action)) ChosenHasNoInjection
+    by : (action : Action) → action_has_no_injection action ≡ true →
+        IfSome (option_map (λ forward. record { rule = place; forward = forward; cause = cause_of rule.condition.event }) (forward_of action)) ChosenHasNoInjection
     by (Forwarding forward) f = f
     by (Allow allowed) f = tt
 
@@ -62,7 +65,8 @@ rule_at [] place n e = tt
 rule_at (rule ∷ rules) zero n e = by_rule n rule (and_true (rule_has_no_injection rule) (list_all rule_has_no_injection rules) e).0
 rule_at (rule ∷ rules) (suc place) n e = rule_at rules place n (and_true (rule_has_no_injection rule) (list_all rule_has_no_injection rules) e).1
 
-among_no_injection : (rules : List Rule) (o : Option ℕ) → list_all rule_has_no_injection rules ≡ true → IfSome (option_and_then (λ place. option_and_then (diversion_by place) (slice_get rules place)) o) ChosenHasNoInjection
+among_no_injection : (rules : List Rule) (o : Option ℕ) → list_all rule_has_no_injection rules ≡ true →
+    IfSome (option_and_then (λ place. option_and_then (diversion_by place) (slice_get rules place)) o) ChosenHasNoInjection
 among_no_injection rules None e = tt
 among_no_injection rules (Some place) e = rule_at rules place place e
 
@@ -128,7 +132,8 @@ offer_next_step_no_injection true peer waiting = tt
 offer_next_step_no_injection false None waiting = tt
 offer_next_step_no_injection false (Some peer) waiting = tt
 
-next_step_by_no_injection : (says : ServiceDecision) (live : ℕ) (bound : Option ℕ) (unknown : Bool) (peer : Option Peer) → DecisionHasNoInjection says → NextStepHasNoInjection (next_step_by (decision_by says live) bound unknown peer)
+next_step_by_no_injection : (says : ServiceDecision) (live : ℕ) (bound : Option ℕ) (unknown : Bool) (peer : Option Peer) → DecisionHasNoInjection says →
+    NextStepHasNoInjection (next_step_by (decision_by says live) bound unknown peer)
 next_step_by_no_injection Nothing live bound unknown peer e = offer_next_step_no_injection unknown peer (nat_lt 0 live)
 next_step_by_no_injection (Refuses cause) live bound unknown peer e = tt
 next_step_by_no_injection (Diverts due) live bound unknown peer e = e

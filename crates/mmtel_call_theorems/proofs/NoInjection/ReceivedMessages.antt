@@ -11,7 +11,8 @@ use Rattle.mmtel_base.specs.Scanning.{split_once_at}
 use Rattle.mmtel_base.specs.declared.classes.Class.TheVariants.{UriByte}
 use Rattle.mmtel_base.proofs.Runs.{and_true, split_takes}
 use Rattle.mmtel_history.specs.EntryUri.{cause_text, has_headers, headers_from, host_part_without_causes, is_marked, mark_text, marked_uri, with_cause, with_host_part, without_cause}
-use Rattle.mmtel_history.specs.HistoryInfo.{anonymous, entries_of, entry_in, entry_of, entry_text, entry_with, history_for_caller, index_of, is_index, last_index, list_after_diversion, list_hidden_if, list_marked_at, masked_entry, masked_list, masked_uri, target_entry, with_first_entry, with_target, without_index, written_uri}
+use Rattle.mmtel_history.specs.HistoryInfo.{anonymous, entries_of, entry_in, entry_of, entry_text, entry_with, history_for_caller, index_of, is_index, last_index, list_after_diversion}
+use Rattle.mmtel_history.specs.HistoryInfo.{list_hidden_if, list_marked_at, masked_entry, masked_list, masked_uri, target_entry, with_first_entry, with_target, without_index, written_uri}
 use Rattle.mmtel_history.specs.declared.entries.Entry.{Entry}
 use Rattle.mmtel_history.proofs.HostPartTheorems.{plain_all}
 use Rattle.mmtel_lex.specs.Grammar.{param_text, params_text, uri_text}
@@ -41,7 +42,8 @@ use Rattle.mmtel_call_theorems.specs.NoInjection.Inputs.{ParsedHasNoInjection, U
 use Rattle.mmtel_call_theorems.specs.NoInjection.CallState.{EntriesHaveNoInjection, entry_has_no_injection}
 use Rattle.mmtel_call_theorems.proofs.NoInjection.Bytes.{all_append, all_cons, all_filter, all_flat, all_map, both, decimal_no_injection, joined, line_no_injection, parted as cut}
 use Rattle.mmtel_call_theorems.proofs.NoInjection.Building.{if_lines, lines_joined}
-use Rattle.mmtel_call_theorems.proofs.NoInjection.Reading.{NameHasNoInjection, first_no_injection, joined_by_no_injection, name_no_injection, name_text_no_injection, named_no_injection, or_no_injection, param_no_injection, texts_no_injection, values_named_no_injection}
+use Rattle.mmtel_call_theorems.proofs.NoInjection.Reading.{NameHasNoInjection, first_no_injection, joined_by_no_injection, name_no_injection, name_text_no_injection}
+use Rattle.mmtel_call_theorems.proofs.NoInjection.Reading.{named_no_injection, or_no_injection, param_no_injection, texts_no_injection, values_named_no_injection}
 
 -- ---- URIs
 
@@ -228,7 +230,8 @@ started_no_injection : (from : List ℕ) (h : List Entry) → HasNoInjection fro
 started_no_injection from [] e f = both (entry_has_no_injection (entry_with from (codes "1") [])) true (entry_no_injection (entry_with from (codes "1") []) e refl refl) refl
 started_no_injection from (x ∷ h) e f = f
 
-pub appended_no_injection : (h : List Entry) (from target : List ℕ) (cause : ℕ) (hide : Bool) → EntriesHaveNoInjection h → HasNoInjection from → HasNoInjection target → EntriesHaveNoInjection (list_after_diversion h from target cause hide)
+pub appended_no_injection : (h : List Entry) (from target : List ℕ) (cause : ℕ) (hide : Bool) → EntriesHaveNoInjection h → HasNoInjection from → HasNoInjection target →
+    EntriesHaveNoInjection (list_after_diversion h from target cause hide)
 unfolding list_after_diversion
 appended_no_injection h from target cause hide e f g = with_target_no_injection (with_first_entry from h) target cause hide (started_no_injection from h f e) g
 
@@ -236,7 +239,8 @@ appended_no_injection h from target cause hide e f g = with_target_no_injection 
 
 pub history_lines_no_injection : (mask to_trusted : Bool) (h : List Entry) → EntriesHaveNoInjection h → LinesHaveNoInjection (history_lines mask to_trusted h)
 history_lines_no_injection mask to_trusted h e =
-    all_map entry_has_no_injection line_has_no_injection history_line (λ x f. line_no_injection (codes "History-Info") (entry_text x) refl (entry_text_no_injection x f)) (if to_trusted then h else masked_list mask h) (by to_trusted)
+    all_map entry_has_no_injection line_has_no_injection history_line (λ x f. line_no_injection (codes "History-Info") (entry_text x) refl (entry_text_no_injection x f))
+    (if to_trusted then h else masked_list mask h) (by to_trusted)
   where
     by : (t : Bool) → EntriesHaveNoInjection (if t then h else masked_list mask h)
     by true = e
@@ -260,7 +264,8 @@ privacy_no_injection f to_trusted ls e = by (not to_trusted) f.restricted
     by false true = all_cons line_has_no_injection (codes "Privacy", restricted_text ls) [] (line_no_injection (codes "Privacy") (restricted_text ls) refl (restricted_no_injection ls e)) refl
     by false false = named_no_injection (codes "Privacy") ls e
 
-pub copied_no_injection : (f : Facing) (to_trusted : Bool) (h : List Entry) (start : Start) (ls : List Line) → EntriesHaveNoInjection h → LinesHaveNoInjection ls → LinesHaveNoInjection (shown_lines f to_trusted h start ls)
+pub copied_no_injection : (f : Facing) (to_trusted : Bool) (h : List Entry) (start : Start) (ls : List Line) → EntriesHaveNoInjection h → LinesHaveNoInjection ls →
+    LinesHaveNoInjection (shown_lines f to_trusted h start ls)
 copied_no_injection f to_trusted h start ls e is =
     lines_joined (asserted_lines f to_trusted ls) (privacy_lines f to_trusted ls ++ (carried_history f to_trusted h start ++ other_lines f to_trusted ls))
     (if_lines (f.from_trusted && f.present && (to_trusted || not f.restricted)) (lines_named (codes "P-Asserted-Identity") ls) [] (named_no_injection (codes "P-Asserted-Identity") ls is) refl)

@@ -12,7 +12,8 @@ use Rattle.mmtel_compose.specs.ReceivedMessages.{MessageView}
 use Rattle.mmtel_compose.specs.declared.attempts.Destination.{Destination}
 use Rattle.mmtel_output.specs.Outputs.{after_draw, token, with_emit}
 use Rattle.mmtel_output.specs.SentInvites.{is_cancellable}
-use Rattle.mmtel_output.specs.Sending.{ack_text, attempt_dialog, relayed_ack_text, with_ack, with_attempt_invite, with_bye, with_cancel, with_due_cancel, with_final_ack, with_own_request, with_relayed_ack, with_relayed_request, with_relayed_response, with_response, with_status_response}
+use Rattle.mmtel_output.specs.Sending.{ack_text, attempt_dialog, relayed_ack_text, with_ack, with_attempt_invite, with_bye, with_cancel, with_due_cancel, with_final_ack}
+use Rattle.mmtel_output.specs.Sending.{with_own_request, with_relayed_ack, with_relayed_request, with_relayed_response, with_response, with_status_response}
 use Rattle.mmtel_output.specs.declared.outputs.StepOutput.{StepOutput}
 use Rattle.mmtel_output.specs.declared.sent_invites.SentInvite.{SentInvite}
 use Rattle.mmtel_history.specs.EntryUri.{without_cause}
@@ -105,17 +106,20 @@ phrase_no_injection code = phrase_in_no_injection (first_phrases ++ further_phra
 -- ---- responses
 
 pub answered_no_injection : (acks : List ReceivedAck) (sip : Addr) (key : TKey) (m : MessageView) (tag : List ℕ) (code : ℕ) (passed named : List Line) (body : List ℕ) (output : StepOutput) →
-    ParsedMessageHasNoInjection m.parsed → HasNoInjection tag → LinesHaveNoInjection passed → LinesHaveNoInjection named → OutputHasNoInjection acks output → OutputHasNoInjection acks (with_response sip key m tag code passed named body output)
+    ParsedMessageHasNoInjection m.parsed → HasNoInjection tag → LinesHaveNoInjection passed → LinesHaveNoInjection named → OutputHasNoInjection acks output →
+    OutputHasNoInjection acks (with_response sip key m tag code passed named body output)
 answered_no_injection acks sip key m tag code passed named body output is e f g had =
     let r = own_reply (contact_text sip) m.source tag code passed named body in
     emit_no_injection acks (emit.Reply key (response m.parsed.start m.parsed.lines r)) output
     (response_no_injection m.parsed.start m.parsed.lines r is.lines_in (record { phrase_in = phrase_no_injection code; tag_in = e; contact_in = contact_no_injection sip; passed_in = f; named_in = g })) had
 
-pub replied_no_injection : (acks : List ReceivedAck) (sip : Addr) (key : TKey) (m : MessageView) (tag : List ℕ) (code : ℕ) (output : StepOutput) → ParsedMessageHasNoInjection m.parsed → HasNoInjection tag → OutputHasNoInjection acks output → OutputHasNoInjection acks (with_status_response sip key m tag code output)
+pub replied_no_injection : (acks : List ReceivedAck) (sip : Addr) (key : TKey) (m : MessageView) (tag : List ℕ) (code : ℕ) (output : StepOutput) → ParsedMessageHasNoInjection m.parsed →
+    HasNoInjection tag → OutputHasNoInjection acks output → OutputHasNoInjection acks (with_status_response sip key m tag code output)
 replied_no_injection acks sip key m tag code output is e had = answered_no_injection acks sip key m tag code [] [] [] output is e refl refl had
 
 pub relayed_no_injection : (acks : List ReceivedAck) (sip : Addr) (key : TKey) (m : MessageView) (tag : List ℕ) (passed : List Line) (r : MessageView) (output : StepOutput) →
-    ParsedMessageHasNoInjection m.parsed → HasNoInjection tag → LinesHaveNoInjection passed → ParsedMessageHasNoInjection r.parsed → OutputHasNoInjection acks output → OutputHasNoInjection acks (with_relayed_response sip key m tag passed r output)
+    ParsedMessageHasNoInjection m.parsed → HasNoInjection tag → LinesHaveNoInjection passed → ParsedMessageHasNoInjection r.parsed → OutputHasNoInjection acks output →
+    OutputHasNoInjection acks (with_relayed_response sip key m tag passed r output)
 relayed_no_injection acks sip key m tag passed r output is e f received had =
     let reply = relayed_reply (contact_text sip) m.source tag passed r.parsed in
     emit_no_injection acks (emit.Reply key (response m.parsed.start m.parsed.lines reply)) output
@@ -145,7 +149,8 @@ asked_for_no_injection acks sip method d passed m output is e f had =
 
 -- ---- ACKs of a 2xx
 
-ack_no_injection : (acks : List ReceivedAck) (d : Dialogue) (given : RequestPartsView) → IsPassedTo acks d given → DialogueHasNoInjection d → RequestPartsHaveNoInjection given → IsTextOfAck acks (message_text (ack_of d given))
+ack_no_injection : (acks : List ReceivedAck) (d : Dialogue) (given : RequestPartsView) → IsPassedTo acks d given → DialogueHasNoInjection d → RequestPartsHaveNoInjection given →
+    IsTextOfAck acks (message_text (ack_of d given))
 ack_no_injection acks d given passes is had = record { dialogue = d; parts = given; passes = passes; no_injection = request_no_injection d (unwrap_or d.invite_cseq 0) (codes "ACK") given is refl had; is = refl }
 
 pub ack_text_no_injection : (acks : List ReceivedAck) (sip : Addr) (d : Dialogue) (branch : List ℕ) → DialogueHasNoInjection d → HasNoInjection branch → IsTextOfAck acks (ack_text sip d branch)
@@ -158,12 +163,15 @@ unfolding relayed_ack_text
 relayed_ack_no_injection acks sip d branch passed m passes is e f = ack_no_injection acks d (relayed_parts sip branch passed m) passes is (given_no_injection (relayed_parts sip branch passed m) e f)
 
 pub acked_no_injection : (acks : List ReceivedAck) (sip : Addr) (d : Dialogue) (output : StepOutput) → DialogueHasNoInjection d → OutputHasNoInjection acks output → OutputHasNoInjection acks (with_ack sip d output)
-acked_no_injection acks sip d output is had = emit_no_injection acks (emit.Plain d.peer (ack_text sip d (token output))) (after_draw output) (ack_text_no_injection acks sip d (token output) is (token_no_injection acks output had)) had
+acked_no_injection acks sip d output is had =
+    emit_no_injection acks (emit.Plain d.peer (ack_text sip d (token output))) (after_draw output) (ack_text_no_injection acks sip d (token output) is (token_no_injection acks output had)) had
 
 pub acked_for_no_injection : (acks : List ReceivedAck) (sip : Addr) (d : Dialogue) (passed : List Line) (m : ParsedMessage) (output : StepOutput) →
-    IsPassedTo acks d (relayed_parts sip (token output) passed m) → DialogueHasNoInjection d → LinesHaveNoInjection passed → OutputHasNoInjection acks output → OutputHasNoInjection acks (with_relayed_ack sip d passed m output)
+    IsPassedTo acks d (relayed_parts sip (token output) passed m) → DialogueHasNoInjection d → LinesHaveNoInjection passed → OutputHasNoInjection acks output →
+    OutputHasNoInjection acks (with_relayed_ack sip d passed m output)
 acked_for_no_injection acks sip d passed m output passes is f had =
-    emit_no_injection acks (emit.Plain d.peer (relayed_ack_text sip d (token output) passed m)) (after_draw output) (relayed_ack_no_injection acks sip d (token output) passed m passes is (token_no_injection acks output had) f) had
+    emit_no_injection acks (emit.Plain d.peer (relayed_ack_text sip d (token output) passed m)) (after_draw output)
+    (relayed_ack_no_injection acks sip d (token output) passed m passes is (token_no_injection acks output had) f) had
 
 -- ---- messages that copy parts of an INVITE
 
@@ -184,26 +192,36 @@ pub record SentHaveNoInjection (acks : List ReceivedAck) (d : Dialogue) (branch 
 abbrev pub InvitationHasNoInjection : (acks : List ReceivedAck) → SentInvite → Type 0
 InvitationHasNoInjection acks i = SentHaveNoInjection acks i.dialogue i.branch i.ack i.forks i.early
 
-pub cancel_no_injection : (acks : List ReceivedAck) (sip : Addr) (i : SentInvite) (output : StepOutput) → InvitationHasNoInjection acks i → OutputHasNoInjection acks output → OutputHasNoInjection acks (with_cancel sip i output)
+pub cancel_no_injection : (acks : List ReceivedAck) (sip : Addr) (i : SentInvite) (output : StepOutput) → InvitationHasNoInjection acks i → OutputHasNoInjection acks output →
+    OutputHasNoInjection acks (with_cancel sip i output)
 cancel_no_injection acks sip i output is had =
     emit_no_injection acks (emit.Ask i.dialogue.peer (request_numbered i.dialogue i.number (codes "CANCEL") (bare_parts sip i.branch))) output
     (request_no_injection i.dialogue i.number (codes "CANCEL") (bare_parts sip i.branch) is.dialogue_in refl (given_no_injection (bare_parts sip i.branch) is.branch_in refl)) had
 
-pub cancelled_no_injection : (acks : List ReceivedAck) (sip : Addr) (i : SentInvite) (output : StepOutput) → InvitationHasNoInjection acks i → OutputHasNoInjection acks output → OutputHasNoInjection acks (with_due_cancel sip i output)
+pub cancelled_no_injection : (acks : List ReceivedAck) (sip : Addr) (i : SentInvite) (output : StepOutput) → InvitationHasNoInjection acks i → OutputHasNoInjection acks output →
+    OutputHasNoInjection acks (with_due_cancel sip i output)
 cancelled_no_injection acks sip i output is had = if_output acks (is_cancellable i) (with_cancel sip i output) output (cancel_no_injection acks sip i output is had) had
 
 pub field_no_injection : (name : List ℕ) (ls : List Line) → LinesHaveNoInjection ls → HasNoInjection (field name ls)
 unfolding field
 field_no_injection name ls e = or_no_injection (first_value name ls) (first_no_injection name ls e)
 
-pub final_acked_no_injection : (acks : List ReceivedAck) (sip : Addr) (key : TKey) (i : SentInvite) (m : ParsedMessage) (output : StepOutput) → InvitationHasNoInjection acks i → ParsedMessageHasNoInjection m → OutputHasNoInjection acks output → OutputHasNoInjection acks (with_final_ack sip key i m output)
+pub final_acked_no_injection : (acks : List ReceivedAck) (sip : Addr) (key : TKey) (i : SentInvite) (m : ParsedMessage) (output : StepOutput) → InvitationHasNoInjection acks i →
+    ParsedMessageHasNoInjection m → OutputHasNoInjection acks output → OutputHasNoInjection acks (with_final_ack sip key i m output)
 final_acked_no_injection acks sip key i m output is received had =
     let to : List ℕ = field (codes "To") m.lines in
     let d : Dialogue = with_to i.dialogue to in
     let had_parts = is.dialogue_in in
     emit_no_injection acks (emit.Ack key (request_numbered d i.number (codes "ACK") (bare_parts sip i.branch))) output
     (request_no_injection d i.number (codes "ACK") (bare_parts sip i.branch)
-    (record { call_id_in = had_parts.call_id_in; local_in = had_parts.local_in; remote_in = field_no_injection (codes "To") m.lines received.lines_in; tag_in = refl; target_in = had_parts.target_in; routes_in = had_parts.routes_in })
+    (record {
+      call_id_in = had_parts.call_id_in;
+      local_in = had_parts.local_in;
+      remote_in = field_no_injection (codes "To") m.lines received.lines_in;
+      tag_in = refl;
+      target_in = had_parts.target_in;
+      routes_in = had_parts.routes_in;
+    })
     refl (given_no_injection (bare_parts sip i.branch) is.branch_in refl)) had
 
 -- ---- the remote side in a message
@@ -260,7 +278,14 @@ met_no_injection d r is had = record {
 pub opened_no_injection : (peer : Peer) (ls : List Line) (tag : List ℕ) → LinesHaveNoInjection ls → HasNoInjection tag → DialogueHasNoInjection (opened_dialog peer ls tag)
 opened_no_injection peer ls tag e f =
     met_no_injection (caller_dialogue peer ls tag) (remote_of Caller ls)
-    (record { call_id_in = field_no_injection (codes "Call-ID") ls e; local_in = tagged_no_injection (field (codes "To") ls) tag (field_no_injection (codes "To") ls e) f; remote_in = field_no_injection (codes "From") ls e; tag_in = refl; target_in = refl; routes_in = refl })
+    (record {
+      call_id_in = field_no_injection (codes "Call-ID") ls e;
+      local_in = tagged_no_injection (field (codes "To") ls) tag (field_no_injection (codes "To") ls e) f;
+      remote_in = field_no_injection (codes "From") ls e;
+      tag_in = refl;
+      target_in = refl;
+      routes_in = refl;
+    })
     (remote_no_injection Caller ls e)
 
 -- ---- an attempt
@@ -278,20 +303,23 @@ without_params_no_injection (Some v) e = by (name_addr_of v) refl
     by None f = refl
     by (Some n) f = let is = name_no_injection v n f e in name_text_no_injection (record n { params = [] }) is.display is.uri refl
 
-pub first_destination_no_injection : (peer : Peer) (routes : List (List ℕ)) (m : ParsedMessage) → HaveNoInjection routes → HasNoInjection (request_uri m.start) → ParsedMessageHasNoInjection m → DestinationHasNoInjection (first_destination peer routes m)
+pub first_destination_no_injection : (peer : Peer) (routes : List (List ℕ)) (m : ParsedMessage) → HaveNoInjection routes → HasNoInjection (request_uri m.start) → ParsedMessageHasNoInjection m →
+    DestinationHasNoInjection (first_destination peer routes m)
 first_destination_no_injection peer routes m e uri is = record { uri_in = uri; to_in = without_params_no_injection m.to is.to_in; routes_in = e }
 
 bracketed_no_injection : (uri : List ℕ) → HasNoInjection uri → HasNoInjection (uri_in_brackets uri)
 bracketed_no_injection uri e = name_text_no_injection (record { display = []; uri = uri; params = [] }) refl e refl
 
-pub diverted_dest_no_injection : (peer : Peer) (routes : List (List ℕ)) (target : Uri) (cause : ℕ) → HaveNoInjection routes → UriHasNoInjection target → DestinationHasNoInjection (diverted_destination peer routes target cause)
+pub diverted_dest_no_injection : (peer : Peer) (routes : List (List ℕ)) (target : Uri) (cause : ℕ) → HaveNoInjection routes → UriHasNoInjection target →
+    DestinationHasNoInjection (diverted_destination peer routes target cause)
 diverted_dest_no_injection peer routes target cause e f = record {
   uri_in = caused_no_injection cause (uri_text target) f;
   to_in = bracketed_no_injection (without_cause (uri_text target)) (uncaused_no_injection (uri_text target) f);
   routes_in = e;
 }
 
-pub attempt_no_injection : (acks : List ReceivedAck) (destination : Destination) (m : ParsedMessage) (restricted : Bool) (output : StepOutput) → DestinationHasNoInjection destination → ParsedMessageHasNoInjection m → OutputHasNoInjection acks output → DialogueHasNoInjection (attempt_dialog destination m restricted output)
+pub attempt_no_injection : (acks : List ReceivedAck) (destination : Destination) (m : ParsedMessage) (restricted : Bool) (output : StepOutput) → DestinationHasNoInjection destination →
+    ParsedMessageHasNoInjection m → OutputHasNoInjection acks output → DialogueHasNoInjection (attempt_dialog destination m restricted output)
 attempt_no_injection acks destination m restricted output is received had = record {
   call_id_in = token_no_injection acks output had;
   local_in = from_no_injection restricted (token (after_draw output)) m.lines (token_no_injection acks (after_draw output) had) received.lines_in;
@@ -306,7 +334,8 @@ alert_no_injection true = refl
 alert_no_injection false = refl
 
 pub offered_no_injection : (acks : List ReceivedAck) (sip : Addr) (destination : Destination) (m : ParsedMessage) (restricted : Bool) (passed : List Line) (waiting : Bool) (output : StepOutput) →
-    DestinationHasNoInjection destination → ParsedMessageHasNoInjection m → LinesHaveNoInjection passed → OutputHasNoInjection acks output → OutputHasNoInjection acks (with_attempt_invite sip destination m restricted passed waiting output)
+    DestinationHasNoInjection destination → ParsedMessageHasNoInjection m → LinesHaveNoInjection passed → OutputHasNoInjection acks output →
+    OutputHasNoInjection acks (with_attempt_invite sip destination m restricted passed waiting output)
 offered_no_injection acks sip destination m restricted passed waiting output is received e had =
     let d : Dialogue = attempt_dialog destination m restricted output in
     let given = relayed_parts sip (token (after_draw (after_draw output))) (passed ++ alert_lines waiting) m in

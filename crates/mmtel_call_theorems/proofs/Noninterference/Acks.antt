@@ -44,7 +44,9 @@ module _ (known : Peer → Bool) (branch u v : List ℕ) (trusted : Bool) (same 
   texts : (t : AnsweredInvite) → known t.invite.dialogue.peer ≡ trusted → blank_if (known t.invite.dialogue.peer) u ≡ blank_if (known t.invite.dialogue.peer) v
   texts t tie = ap (λ (b : Bool). blank_if b u) tie ∙ (same ∙ ap (λ (b : Bool). blank_if b v) (sym tie))
 
-  kept_if : (b : Bool) (t : AnsweredInvite) → (b ≡ true → known t.invite.dialogue.peer ≡ trusted) → public_answered known (cond b (record (public_answered known t) { invite = record (public_answered known t).invite { ack = Some u } }) (public_answered known t)) ≡ public_answered known (cond b (record t { invite = record t.invite { ack = Some v } }) t)
+  kept_if : (b : Bool) (t : AnsweredInvite) → (b ≡ true → known t.invite.dialogue.peer ≡ trusted) →
+      public_answered known (cond b (record (public_answered known t) { invite = record (public_answered known t).invite { ack = Some u } }) (public_answered known t))
+      ≡ public_answered known (cond b (record t { invite = record t.invite { ack = Some v } }) t)
   kept_if false t tie = answered_again known t
   kept_if true t tie =
       ap (λ (z : AnsweredInvite). record z { invite = record z.invite { ack = Some (blank_if (known t.invite.dialogue.peer) u) } }) (answered_again known t)
@@ -65,15 +67,23 @@ module _ (heads : Heads) (config : CallConfigView) (keys : TKey → Bool) where
   known = λ peer. trusts config peer
 
   -- in the other leg's dialog d
-  across-by : (who : Identities2) (x : EstablishedLegs) (side : Side) (d : Dialogue) (success : Success) (role : Role) (m : MessageView) (c : Call) (out : List Emit) (y : StepOutput) → Fits c.opening x.service side m role →
+  across-by : (who : Identities2) (x : EstablishedLegs) (side : Side) (d : Dialogue) (success : Success) (role : Role) (m : MessageView) (c : Call) (out : List Emit) (y : StepOutput) →
+      Fits c.opening x.service side m role →
       ((t : AnsweredInvite) → IsIn t c.answered_invites → is_answered_invite success.branch t ≡ true → known t.invite.dialogue.peer ≡ known d.peer) → observations T out ≡ observations T y.out →
       EquivalentSteps T
       (record {
-        call = record (at_stage (public_established known x) Stable (public_call known who c)) { answered_invites = map (with_kept_ack success.branch (relayed_ack_text config.sip (public_dialog_by (known d.peer) d) (token y) (copied_lines config (public_opening who c.opening) (public_diverted (masks_all c.opening) c.diversions) x.service side d.peer (without_private role m)) m.parsed)) (map (public_answered known) c.answered_invites) };
-        output = with_relayed_ack config.sip (public_dialog_by (known d.peer) d) (copied_lines config (public_opening who c.opening) (public_diverted (masks_all c.opening) c.diversions) x.service side d.peer (without_private role m)) m.parsed (with_out out y);
+        call = record (at_stage (public_established known x) Stable (public_call known who c)) {
+          answered_invites = map (with_kept_ack success.branch (relayed_ack_text config.sip (public_dialog_by (known d.peer) d) (token y)
+              (copied_lines config (public_opening who c.opening) (public_diverted (masks_all c.opening) c.diversions) x.service side d.peer (without_private role m)) m.parsed))
+              (map (public_answered known) c.answered_invites);
+        };
+        output = with_relayed_ack config.sip (public_dialog_by (known d.peer) d)
+            (copied_lines config (public_opening who c.opening) (public_diverted (masks_all c.opening) c.diversions) x.service side d.peer (without_private role m)) m.parsed (with_out out y);
       })
       (record {
-        call = record (at_stage x Stable c) { answered_invites = map (with_kept_ack success.branch (relayed_ack_text config.sip d (token y) (copied_lines config c.opening c.diversions x.service side d.peer m) m.parsed)) c.answered_invites };
+        call = record (at_stage x Stable c) {
+          answered_invites = map (with_kept_ack success.branch (relayed_ack_text config.sip d (token y) (copied_lines config c.opening c.diversions x.service side d.peer m) m.parsed)) c.answered_invites;
+        };
         output = with_relayed_ack config.sip d (copied_lines config c.opening c.diversions x.service side d.peer m) m.parsed y;
       })
   across-by who x side d success role m c out y fits ties s =
@@ -85,31 +95,40 @@ module _ (heads : Heads) (config : CallConfigView) (keys : TKey → Bool) where
       let shown : known d.peer ≡ false → ls ≡ ks = λ strange. copied-same config who c.opening c.diversions x.service side d.peer role m fits strange in
       record {
         call =
-            ap (λ (ts : List AnsweredInvite). record (public_part known (public_call known who talks)) { answered_invites = ts }) (kept_all known success.branch u v (known d.peer) (relayed_bytes heads T config.sip d ls ks m.parsed (token y) shown) c.answered_invites ties)
+            ap (λ (ts : List AnsweredInvite). record (public_part known (public_call known who talks)) { answered_invites = ts })
+            (kept_all known success.branch u v (known d.peer) (relayed_bytes heads T config.sip d ls ks m.parsed (token y) shown) c.answered_invites ties)
             ∙ ap (λ (z : Call). record z { answered_invites = map (public_answered known) (map (with_kept_ack success.branch v) c.answered_invites) }) (call_once known nobody who talks);
         output = acked_for-equivalent heads T config.sip d ls ks m.parsed (with_out out y) y shown (record { tokens = refl; rows = refl; out = s });
       }
 
-  across-equivalent : (who : Identities2) (x : EstablishedLegs) (side : Side) (success : Success) (role : Role) (m : MessageView) (c : Call) (one other : StepOutput) → Fits c.opening x.service side m role → SentAcross T c x side success → EquivalentOutputs T one other →
+  across-equivalent : (who : Identities2) (x : EstablishedLegs) (side : Side) (success : Success) (role : Role) (m : MessageView) (c : Call) (one other : StepOutput) →
+      Fits c.opening x.service side m role → SentAcross T c x side success → EquivalentOutputs T one other →
       EquivalentSteps T (after_ack_across config (public_established known x) side success (without_private role m) (public_call known who c) one) (after_ack_across config x side success m c other)
   unfolding relayed_ack_text
   across-equivalent who x Caller success role m c one other fits ties a =
-      step-brings heads config keys (λ (d : StepOutput). after_ack_across config (public_established known x) Caller success (without_private role m) (public_call known who c) d) (λ (d : StepOutput). after_ack_across config x Caller success m c d)
+      step-brings heads config keys (λ (d : StepOutput). after_ack_across config (public_established known x) Caller success (without_private role m) (public_call known who c) d)
+      (λ (d : StepOutput). after_ack_across config x Caller success m c d)
       (λ out y s. across-by who x Caller x.callee.dialogue success role m c out y fits ties s) one other a
   across-equivalent who x Callee success role m c one other fits ties a =
-      step-brings heads config keys (λ (d : StepOutput). after_ack_across config (public_established known x) Callee success (without_private role m) (public_call known who c) d) (λ (d : StepOutput). after_ack_across config x Callee success m c d)
+      step-brings heads config keys (λ (d : StepOutput). after_ack_across config (public_established known x) Callee success (without_private role m) (public_call known who c) d)
+      (λ (d : StepOutput). after_ack_across config x Callee success m c d)
       (λ out y s. across-by who x Callee x.caller.dialogue success role m c out y fits ties s) one other a
 
-  parts-equivalent : (who : Identities2) (at : ℕ) (x : EstablishedLegs) (side : Side) (c : Call) (one other : StepOutput) → EquivalentOutputs T one other → EquivalentSteps T (after_departure config at (public_established known x) side (public_call known who c) one) (after_departure config at x side c other)
-  parts-equivalent who at x side c one other a = ended-equivalent heads config keys who at x c (with_bye_to config (public_established known x) side one) (with_bye_to config x side other) (bye-equivalent heads config keys x side one other a)
+  parts-equivalent : (who : Identities2) (at : ℕ) (x : EstablishedLegs) (side : Side) (c : Call) (one other : StepOutput) → EquivalentOutputs T one other →
+      EquivalentSteps T (after_departure config at (public_established known x) side (public_call known who c) one) (after_departure config at x side c other)
+  parts-equivalent who at x side c one other a =
+      ended-equivalent heads config keys who at x c (with_bye_to config (public_established known x) side one) (with_bye_to config x side other) (bye-equivalent heads config keys x side one other a)
 
-  ack_at-equivalent : (stage : Stage) (who : Identities2) (at : ℕ) (x : EstablishedLegs) (side : Side) (role : Role) (m : MessageView) (c : Call) (one other : StepOutput) → Fits c.opening x.service side m role → stage_is_sent T c x side m stage → EquivalentOutputs T one other →
+  ack_at-equivalent : (stage : Stage) (who : Identities2) (at : ℕ) (x : EstablishedLegs) (side : Side) (role : Role) (m : MessageView) (c : Call) (one other : StepOutput) →
+      Fits c.opening x.service side m role → stage_is_sent T c x side m stage → EquivalentOutputs T one other →
       EquivalentSteps T (on_ack_at (public_stage known stage) config at (public_established known x) side (without_private role m) (public_call known who c) one) (on_ack_at stage config at x side m c other)
   ack_at-equivalent (Answered waiting success) who at x side role m c one other fits sent a =
-      step-where T (acknowledges waiting success side m) (after_ack_across config (public_established known x) side success (without_private role m) (public_call known who c) one) (step_result (public_call known who c) one) (after_ack_across config x side success m c other) (step_result c other)
+      step-where T (acknowledges waiting success side m) (after_ack_across config (public_established known x) side success (without_private role m) (public_call known who c) one)
+      (step_result (public_call known who c) one) (after_ack_across config x side success m c other) (step_result c other)
       (λ is. across-equivalent who x side success role m c one other fits (sent is) a) (λ is. on-equivalent heads config keys who c one other a)
   ack_at-equivalent (Departing waiting success) who at x side role m c one other fits sent a =
-      step-if T (acknowledges waiting success side m) (after_departure config at (public_established known x) side (public_call known who c) one) (step_result (public_call known who c) one) (after_departure config at x side c other) (step_result c other)
+      step-if T (acknowledges waiting success side m) (after_departure config at (public_established known x) side (public_call known who c) one) (step_result (public_call known who c) one)
+      (after_departure config at x side c other) (step_result c other)
       (parts-equivalent who at x side c one other a) (on-equivalent heads config keys who c one other a)
   ack_at-equivalent Stable who at x side role m c one other fits sent a = on-equivalent heads config keys who c one other a
   ack_at-equivalent (Reinviting asking q) who at x side role m c one other fits sent a = on-equivalent heads config keys who c one other a

@@ -19,7 +19,9 @@ use Rattle.mmtel_call.specs.declared.calls.Phase.TheVariants.{Detached, Establis
 use Rattle.mmtel_call.specs.declared.signals.Signal.{Signal}
 use Rattle.mmtel_call.specs.declared.signals.Signal.TheVariants as signal
 use Rattle.mmtel_sheet_values.specs.declared.values.Sheet.{Sheet}
-use Rattle.mmtel_call_theorems.specs.Noninterference.Configurations.{AllReceiveEquivalentInBoth, CallsStayEquivalentInBoth, EqualButForAccounts, OneIsEquivalent, OpeningsAreEquivalentInBoth, PhaseRedirectsEqually, RecordsDivertEqually, RedirectsEqually, ResponseRedirectsEqually, SignalRedirectsEqually, StepRedirectsEqually, StepsKeepEquivalenceInBoth, TracesStayEquivalentInBoth}
+use Rattle.mmtel_call_theorems.specs.Noninterference.Configurations.{AllReceiveEquivalentInBoth, CallsStayEquivalentInBoth, EqualButForAccounts, OneIsEquivalent}
+use Rattle.mmtel_call_theorems.specs.Noninterference.Configurations.{OpeningsAreEquivalentInBoth, PhaseRedirectsEqually, RecordsDivertEqually, RedirectsEqually, ResponseRedirectsEqually}
+use Rattle.mmtel_call_theorems.specs.Noninterference.Configurations.{SignalRedirectsEqually, StepRedirectsEqually, StepsKeepEquivalenceInBoth, TracesStayEquivalentInBoth}
 use Rattle.mmtel_call_theorems.specs.Noninterference.Traces.{StepPair, next, one_after, other_after}
 use Rattle.mmtel_call_theorems.specs.Noninterference.Roles.{Role, private_fields, without_private}
 use Rattle.mmtel_call_theorems.specs.Noninterference.Observations.{EquivalentSteps, Trust, trust_of}
@@ -67,22 +69,26 @@ step_leads one other t role (signal.Ended key) c receives looks = tt
 
 pub steps_in_both : Heads → VerdictsDependOnMatches → StepsKeepEquivalenceInBoth
 steps_in_both heads law records config far keys now x y role second c d one other equal lead looks stand alike said first then a =
-    subst (λ (s : StepResult). EquivalentSteps (trust_of config keys) (step config now x c one) s) (steps_see_lookups_alone records config far now y d other equal lead stand then.served (step_leads config far (trust_of config keys) second y d then.may_receive looks))
+    subst (λ (s : StepResult). EquivalentSteps (trust_of config keys) (step config now x c one) s)
+    (steps_see_lookups_alone records config far now y d other equal lead stand then.served (step_leads config far (trust_of config keys) second y d then.may_receive looks))
     (steps_keep_equivalence heads law records config keys now x y role second c d one other stand alike said first then a)
 
 pub calls_in_both : Heads → VerdictsDependOnMatches → CallsStayEquivalentInBoth
 calls_in_both heads law records config far keys now x y role second c d one other equal lead looks stand alike said first then a =
-    subst (λ (s : StepResult). EquivalentCalls records (trusts config) (step config now x c one).call s.call) (steps_see_lookups_alone records config far now y d other equal lead stand then.served (step_leads config far (trust_of config keys) second y d then.may_receive looks))
+    subst (λ (s : StepResult). EquivalentCalls records (trusts config) (step config now x c one).call s.call)
+    (steps_see_lookups_alone records config far now y d other equal lead stand then.served (step_leads config far (trust_of config keys) second y d then.may_receive looks))
     (calls_stay_equivalent heads law records config keys now x y role second c d one other stand alike said first then a)
 
 pub openings_in_both : Heads → VerdictsDependOnMatches → OpeningsAreEquivalentInBoth
 openings_in_both heads law records config far keys now a b one other equal lead looks first then stand alike same d =
-    subst (λ (s : StepResult). EquivalentSteps (trust_of config keys) (call_after_opening config now a one) s × EquivalentCalls records (trusts config) (call_after_opening config now a one).call s.call) (openings_see_lookups_alone records config far now b other equal lead stand looks)
+    subst (λ (s : StepResult). EquivalentSteps (trust_of config keys) (call_after_opening config now a one) s × EquivalentCalls records (trusts config) (call_after_opening config now a one).call s.call)
+    (openings_see_lookups_alone records config far now b other equal lead stand looks)
     (openings_are_equivalent heads law records config keys now a b one other first then stand alike same d, openings_give_equivalent_calls heads law records config keys now a b one other first then stand alike same d)
 
 -- ---- traces
 
-module _ (heads : Heads) (law : VerdictsDependOnMatches) (records : List Sheet) (config far : CallConfigView) (keys : TKey → Bool) (c d : Call) (equal : EqualButForAccounts config far) (lead : RecordsDivertEqually records config far) (alike : EquivalentCalls records (trusts config) c d) where
+module _ (heads : Heads) (law : VerdictsDependOnMatches) (records : List Sheet) (config far : CallConfigView) (keys : TKey → Bool) (c d : Call) (equal : EqualButForAccounts config far)
+    (lead : RecordsDivertEqually records config far) (alike : EquivalentCalls records (trusts config) c d) where
   calls : (trace : List StepPair) → AllReceiveEquivalentInBoth records config far keys c d trace → EquivalentCalls records (trusts config) (one_after config c trace) (other_after far d trace)
   calls [] receive = alike
   calls (both ∷ earlier) receive =
@@ -90,7 +96,8 @@ module _ (heads : Heads) (law : VerdictsDependOnMatches) (records : List Sheet) 
       calls_in_both heads law records config far keys both.now both.one.signal both.other.signal both.one.role both.other.role (one_after config c earlier) (other_after far d earlier) both.one.output both.other.output
       equal lead receive.0.1 first.covered (calls earlier receive.1) first.signals first.one first.other first.outputs
 
-  steps : (both : StepPair) (earlier : List StepPair) → AllReceiveEquivalentInBoth records config far keys c d (both ∷ earlier) → EquivalentSteps (trust_of config keys) (next config both.now both.one (one_after config c earlier)) (next far both.now both.other (other_after far d earlier))
+  steps : (both : StepPair) (earlier : List StepPair) → AllReceiveEquivalentInBoth records config far keys c d (both ∷ earlier) →
+      EquivalentSteps (trust_of config keys) (next config both.now both.one (one_after config c earlier)) (next far both.now both.other (other_after far d earlier))
   steps both earlier receive =
       let first = receive.0.0 in
       steps_in_both heads law records config far keys both.now both.one.signal both.other.signal both.one.role both.other.role (one_after config c earlier) (other_after far d earlier) both.one.output both.other.output

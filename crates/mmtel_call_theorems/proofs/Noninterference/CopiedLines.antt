@@ -48,16 +48,19 @@ true_false e = cc
 pub entries_placed : (start : Start) (es : Entries) → private_fields_in start (only_entries es) ≡ only_entries es
 entries_placed start es = rw (same_if (is_request start) false, same_if (redirects start) false) refl
 
-passed_as : (role : Role) (m : ParsedMessage) (f : Facing) (row ls : List Line) → (hides role ≡ true → f.restricted ≡ true) → passed_lines f false row (masked_lines (private_fields_in m.start (private_fields role m)) ls) ≡ passed_lines f false row ls
+passed_as : (role : Role) (m : ParsedMessage) (f : Facing) (row ls : List Line) → (hides role ≡ true → f.restricted ≡ true) →
+    passed_lines f false row (masked_lines (private_fields_in m.start (private_fields role m)) ls) ≡ passed_lines f false row ls
 passed_as Opens m f row ls fits = passed-masked (private_fields_in m.start (private_fields Opens m)) f row ls (fits refl)
 passed_as (Sends side) m f row ls fits = passed-masked (private_fields_in m.start (private_fields (Sends side) m)) f row ls (fits refl)
 passed_as Plain m f row ls fits = ap (λ (p : PrivateFields). passed_lines f false row (masked_lines p ls)) (entries_placed m.start (private_entries m)) ∙ passed-entries (private_entries m) f false row ls
 
-passed_by : (b : Bool) (role : Role) (m : ParsedMessage) (f : Facing) (row : List Line) → (hides role ≡ true → f.restricted ≡ true) → passed_lines f false row (hidden_by b (private_fields role m) m).lines ≡ passed_lines f false row m.lines
+passed_by : (b : Bool) (role : Role) (m : ParsedMessage) (f : Facing) (row : List Line) → (hides role ≡ true → f.restricted ≡ true) →
+    passed_lines f false row (hidden_by b (private_fields role m) m).lines ≡ passed_lines f false row m.lines
 passed_by true role m f row fits = passed_as role m f row m.lines fits
 passed_by false role m f row fits = refl
 
-copied_by : (known : Bool) → known ≡ false → (b : Bool) (role : Role) (m : ParsedMessage) (f : Facing) (h k : List Entry) → (hides role ≡ true → f.restricted ≡ true) → masked_list f.mask_all h ≡ masked_list f.mask_all k →
+copied_by : (known : Bool) → known ≡ false → (b : Bool) (role : Role) (m : ParsedMessage) (f : Facing) (h k : List Entry) → (hides role ≡ true → f.restricted ≡ true) →
+    masked_list f.mask_all h ≡ masked_list f.mask_all k →
     shown_lines f known h m.start (hidden_by b (private_fields role m) m).lines ≡ shown_lines f known k m.start m.lines
 copied_by true e b role m f h k fits lists = absurd (true_false e)
 copied_by false e b role m f h k fits lists = passed_by b role m f (carried_history f false h m.start) fits ∙ shown_equal f h k m.start m.lines lists
@@ -78,7 +81,8 @@ mask_facing : (o : Opening) (service : Option Service) (side : Side) (m : Messag
 mask_facing o service Caller m = refl
 mask_facing o service Callee m = refl
 
-pub copied-same : (config : CallConfigView) (who : Identities2) (o : Opening) (d : DiversionsView) (service : Option Service) (side : Side) (peer : Peer) (role : Role) (m : MessageView) → Fits o service side m role → trusts config peer ≡ false →
+pub copied-same : (config : CallConfigView) (who : Identities2) (o : Opening) (d : DiversionsView) (service : Option Service) (side : Side) (peer : Peer) (role : Role) (m : MessageView) →
+    Fits o service side m role → trusts config peer ≡ false →
     copied_lines config (public_opening who o) (public_diverted (masks_all o) d) service side peer (without_private role m) ≡ copied_lines config o d service side peer m
 unfolding copied_lines
 copied-same config who o d service side peer role m fits strange =
@@ -106,7 +110,8 @@ copied-number config o p d e service side peer m n = copied-none config o d serv
 
 -- ---- what is copied to the target of an attempt from the INVITE that opened the call
 
-pub offered-same : (config : CallConfigView) (who : Identities2) (o : Opening) (d : DiversionsView) (service : Option Service) (peer : Peer) → Fits o service Caller o.invite (opening_role o.restricted) → trusts config peer ≡ false →
+pub offered-same : (config : CallConfigView) (who : Identities2) (o : Opening) (d : DiversionsView) (service : Option Service) (peer : Peer) →
+    Fits o service Caller o.invite (opening_role o.restricted) → trusts config peer ≡ false →
     attempt_lines config (public_opening who o) (public_diverted (masks_all o) d) service peer ≡ attempt_lines config o d service peer
 unfolding attempt_lines
 offered-same config who o d service peer fits strange =
@@ -133,7 +138,8 @@ target_by : (b : Bool) (r s v : List ℕ) → (b ≡ false → r ≡ s) → blan
 target_by true r s v e = refl
 target_by false r s v e = ap (λ (u : List ℕ). target_or u v) (e refl)
 
-met_by : (b : Bool) (d : Dialogue) (r s : Remote) → r.tag ≡ s.tag → r.routes ≡ s.routes → (b ≡ false → r.target ≡ s.target) → public_dialog_by b (with_remote (public_dialog_by b d) r) ≡ public_dialog_by b (with_remote d s)
+met_by : (b : Bool) (d : Dialogue) (r s : Remote) → r.tag ≡ s.tag → r.routes ≡ s.routes → (b ≡ false → r.target ≡ s.target) →
+    public_dialog_by b (with_remote (public_dialog_by b d) r) ≡ public_dialog_by b (with_remote d s)
 met_by b d r s tag routes target = rw (tag, routes, target_by b r.target s.target d.target target, remote_again b d.side d.remote) refl
 
 -- the remote side in a response, of which nothing is hidden if the dialog's peer is not trusted
@@ -158,7 +164,8 @@ said_by b r s tag routes target =
     ∙ (ap (λ (v : List ℕ). remote_with s.tag v r.routes) (blank_by b r.target s.target target)
     ∙ ap (λ (v : List (List ℕ)). remote_with s.tag (blank_if b s.target) v) routes)
 
-pub said-same : (b trusted : Bool) (p : PrivateFields) (h : ParsedMessage) → (b ≡ false → hidden_by trusted p h ≡ h) → public_remote_side b (remote_of Callee (hidden_by trusted p h).lines) ≡ public_remote_side b (remote_of Callee h.lines)
+pub said-same : (b trusted : Bool) (p : PrivateFields) (h : ParsedMessage) → (b ≡ false → hidden_by trusted p h ≡ h) →
+    public_remote_side b (remote_of Callee (hidden_by trusted p h).lines) ≡ public_remote_side b (remote_of Callee h.lines)
 said-same b trusted p h same =
     said_by b (remote_of Callee (hidden_by trusted p h).lines) (remote_of Callee h.lines) (tag_by trusted (private_fields_in h.start p) h.lines) (route_by trusted (private_fields_in h.start p) h.lines)
     (λ e. ap (λ (x : ParsedMessage). contact_uri x.lines) (same e))

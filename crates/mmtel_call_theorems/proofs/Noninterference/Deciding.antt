@@ -52,7 +52,8 @@ module _ (law : VerdictsDependOnMatches) (records : List Sheet) (one other : Ide
   abbrev account_of : Sheet → ServedAccountView
   account_of sheet = record { sheet = sheet; registered = true; live = 0 }
 
-  pub next_step_on_same : (sheet : Option Sheet) (how : AttemptEndView) → ((s : Sheet) → sheet ≡ Some s → IsAmong records s) → step_after_attempt (call_facts one o at diverted false) sheet how ≡ step_after_attempt (call_facts other o at diverted false) sheet how
+  pub next_step_on_same : (sheet : Option Sheet) (how : AttemptEndView) → ((s : Sheet) → sheet ≡ Some s → IsAmong records s) →
+      step_after_attempt (call_facts one o at diverted false) sheet how ≡ step_after_attempt (call_facts other o at diverted false) sheet how
   next_step_on_same sheet Answer is = refl
   next_step_on_same sheet Cancel is = refl
   next_step_on_same sheet Unacknowledged is = refl

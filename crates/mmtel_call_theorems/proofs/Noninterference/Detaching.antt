@@ -96,7 +96,8 @@ module _ (known : Peer → Bool) where
   with_left (released.Caller leg) left detached c = at_stage (record { caller = with_meter detached.meter leg; callee = left; service = detached.service }) Stable c
   with_left (released.Callee leg) left detached c = at_stage (record { caller = left; callee = with_meter detached.meter leg; service = detached.service }) Stable c
 
-  put_public : (p : Phase) (leg : Released) (who : Identities2) (c : Call) → with_leg_restored (public_phase known p) (public_released known leg) (public_call known who c) ≡ public_call known who (with_leg_restored p leg c)
+  put_public : (p : Phase) (leg : Released) (who : Identities2) (c : Call) →
+      with_leg_restored (public_phase known p) (public_released known leg) (public_call known who c) ≡ public_call known who (with_leg_restored p leg c)
   put_public (Offered x) leg who c = refl
   put_public (Established x stage) leg who c = refl
   put_public (Detached detached) (released.Caller leg) who c =
@@ -105,12 +106,14 @@ module _ (known : Peer → Bool) where
       ap (λ (l : Leg). with_left (released.Callee (public_leg known leg)) l (public_detached known detached) (public_call known who c)) (left_leg detached.remaining)
   put_public (Over cause) leg who c = refl
 
-  callers_stay : (records : List Sheet) (c d x y : Call) → x.opening ≡ c.opening → y.opening ≡ d.opening → AreDecidedEqually records c.opening.identities d.opening.identities → AreDecidedEqually records x.opening.identities y.opening.identities
+  callers_stay : (records : List Sheet) (c d x y : Call) → x.opening ≡ c.opening → y.opening ≡ d.opening → AreDecidedEqually records c.opening.identities d.opening.identities →
+      AreDecidedEqually records x.opening.identities y.opening.identities
   callers_stay records c d x y e f a =
       subst (λ (o : Opening). AreDecidedEqually records o.identities y.opening.identities) (sym e)
       (subst (λ (o : Opening). AreDecidedEqually records c.opening.identities o.identities) (sym f) a)
 
-  legs_equivalent : (records : List Sheet) (side : Side) (c d : Call) → EquivalentCalls records known c d → option_map (public_released known) (removed_leg_in c.phase side) ≡ option_map (public_released known) (removed_leg_in d.phase side)
+  legs_equivalent : (records : List Sheet) (side : Side) (c d : Call) → EquivalentCalls records known c d →
+      option_map (public_released known) (removed_leg_in c.phase side) ≡ option_map (public_released known) (removed_leg_in d.phase side)
   legs_equivalent records side c d alike =
       sym (leg_out c.phase side) ∙ (ap (λ (z : Call). removed_leg_in z.phase side) alike.same ∙ leg_out d.phase side)
 
@@ -120,7 +123,8 @@ module _ (known : Peer → Bool) where
     callers = callers_stay records c d (detached_in c.phase side c) (detached_in d.phase side d) (detached_stays c.phase side c) (detached_stays d.phase side d) alike.callers;
   }
 
-  back_equivalent : (records : List Sheet) (leg other : Released) (c d : Call) → public_released known leg ≡ public_released known other → EquivalentCalls records known c d → EquivalentCalls records known (with_leg_restored c.phase leg c) (with_leg_restored d.phase other d)
+  back_equivalent : (records : List Sheet) (leg other : Released) (c d : Call) → public_released known leg ≡ public_released known other → EquivalentCalls records known c d →
+      EquivalentCalls records known (with_leg_restored c.phase leg c) (with_leg_restored d.phase other d)
   back_equivalent records leg other c d e alike = record {
     same =
         sym (put_public c.phase leg nobody c)
@@ -141,19 +145,23 @@ module _ (heads : Heads) (config : CallConfigView) (keys : TKey → Bool) where
 
   -- without this leg
   without-equivalent : (left : Released) (meter : Option MeterView) (who : Identities2) (at : ℕ) (c : Call) (one other : StepOutput) → EquivalentOutputs T one other →
-      EquivalentSteps T (call_end at Ended (caller_meter_of (public_released known2 left) meter) (target_meter_of (public_released known2 left) meter) (public_call known2 who c) (with_bye config.sip (released_leg (public_released known2 left)).dialogue one))
+      EquivalentSteps T (call_end at Ended (caller_meter_of (public_released known2 left) meter) (target_meter_of (public_released known2 left) meter) (public_call known2 who c)
+      (with_bye config.sip (released_leg (public_released known2 left)).dialogue one))
       (call_end at Ended (caller_meter_of left meter) (target_meter_of left meter) c (with_bye config.sip (released_leg left).dialogue other))
   without-equivalent (released.Caller leg) meter who at c one other a =
-      over-equivalent heads config keys who at Ended leg.meter meter c (with_bye config.sip (public_leg known2 leg).dialogue one) (with_bye config.sip leg.dialogue other) (asked-equivalent heads T config.sip (codes "BYE") leg.dialogue [] [] one other a)
+      over-equivalent heads config keys who at Ended leg.meter meter c (with_bye config.sip (public_leg known2 leg).dialogue one) (with_bye config.sip leg.dialogue other)
+      (asked-equivalent heads T config.sip (codes "BYE") leg.dialogue [] [] one other a)
   without-equivalent (released.Callee leg) meter who at c one other a =
-      over-equivalent heads config keys who at Ended meter leg.meter c (with_bye config.sip (public_leg known2 leg).dialogue one) (with_bye config.sip leg.dialogue other) (asked-equivalent heads T config.sip (codes "BYE") leg.dialogue [] [] one other a)
+      over-equivalent heads config keys who at Ended meter leg.meter c (with_bye config.sip (public_leg known2 leg).dialogue one) (with_bye config.sip leg.dialogue other)
+      (asked-equivalent heads T config.sip (codes "BYE") leg.dialogue [] [] one other a)
 
   ends-equivalent : (p : Phase) (who : Identities2) (at : ℕ) (c : Call) (one other : StepOutput) → in_flight_is_from_own_peers T c.relayed → EquivalentOutputs T one other →
       EquivalentSteps T (finish_of_phase (public_phase known2 p) config at (public_call known2 who c) one) (finish_of_phase p config at c other)
   ends-equivalent (Offered x) who at c one other asked a = on-equivalent heads config keys who c one other a
   ends-equivalent (Established x stage) who at c one other asked a = on-equivalent heads config keys who c one other a
   ends-equivalent (Detached detached) who at c one other asked a =
-      without-equivalent detached.remaining detached.meter who at (without_in_flight c) (output_after_dismissal config (public_call known2 who c) one) (output_after_dismissal config c other) (dismissals heads config keys who c one other asked a)
+      without-equivalent detached.remaining detached.meter who at (without_in_flight c) (output_after_dismissal config (public_call known2 who c) one) (output_after_dismissal config c other)
+      (dismissals heads config keys who c one other asked a)
   ends-equivalent (Over cause) who at c one other asked a = on-equivalent heads config keys who c one other a
 
   finishes-equivalent : (who : Identities2) (at : ℕ) (c : Call) (one other : StepOutput) → in_flight_is_from_own_peers T c.relayed → EquivalentOutputs T one other →
@@ -173,7 +181,8 @@ module _ (heads : Heads) (config : CallConfigView) (keys : TKey → Bool) where
   unfolding call_finish
   finish_same who at c one other = end_same c.phase who at c one other
 
-  both-end : (records : List Sheet) (at : ℕ) (c d : Call) (one other : StepOutput) → EquivalentCalls records known2 c d → in_flight_is_from_own_peers T c.relayed → in_flight_is_from_own_peers T d.relayed → EquivalentOutputs T one other →
+  both-end : (records : List Sheet) (at : ℕ) (c d : Call) (one other : StepOutput) → EquivalentCalls records known2 c d → in_flight_is_from_own_peers T c.relayed →
+      in_flight_is_from_own_peers T d.relayed → EquivalentOutputs T one other →
       EquivalentSteps T (call_finish config at c one) (call_finish config at d other)
   both-end records at c d one other alike first then a =
       let q : StepResult = call_finish config at (public_part known2 d) one in
@@ -181,7 +190,8 @@ module _ (heads : Heads) (config : CallConfigView) (keys : TKey → Bool) where
       subst (λ (z : Call). EquivalentSteps T (call_finish config at z one) (call_finish config at c one)) alike.same (finishes-equivalent nobody at c one one first (same_output T one)) in
       steps-then T (call_finish config at c one) q (call_finish config at d other) (steps-back T q (call_finish config at c one) moved) (finishes-equivalent nobody at d one other then a)
 
-  both-ended : (records : List Sheet) (at : ℕ) (c d : Call) (one other : StepOutput) → EquivalentCalls records known2 c d → EquivalentCalls records known2 (call_finish config at c one).call (call_finish config at d other).call
+  both-ended : (records : List Sheet) (at : ℕ) (c d : Call) (one other : StepOutput) → EquivalentCalls records known2 c d →
+      EquivalentCalls records known2 (call_finish config at c one).call (call_finish config at d other).call
   both-ended records at c d one other alike = record {
     same = sym (finish_same nobody at c one one) ∙ (ap (λ (z : Call). public_part known2 (call_finish config at z one).call) alike.same ∙ finish_same nobody at d one other);
     callers = callers_stay known2 records c d (call_finish config at c one).call (call_finish config at d other).call (finished_stays config at c one) (finished_stays config at d other) alike.callers;

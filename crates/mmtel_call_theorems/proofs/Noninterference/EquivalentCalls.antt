@@ -29,7 +29,8 @@ steps_keep_equivalence heads law records config keys now x y role second c d one
     let p : StepResult = step config now (public_signal role x) (public_call (trusts config) who c) one in
     let q : StepResult = step config now (public_signal second y) (public_call (trusts config) who d) one in
     let left : EquivalentSteps T p (step config now x c one) =
-    steps_see_public_parts heads law records config keys now who x role c one one (record { opening = first.opening; caller = self-equivalent records who; covered = stand }) first.kept first.served first.may_receive (same_output T one) in
+    steps_see_public_parts heads law records config keys now who x role c one one
+    (record { opening = first.opening; caller = self-equivalent records who; covered = stand }) first.kept first.served first.may_receive (same_output T one) in
     let right : EquivalentSteps T q (step config now y d other) =
     steps_see_public_parts heads law records config keys now who y second d one other (record { opening = then.opening; caller = alike.callers; covered = stand }) then.kept then.served then.may_receive a in
     let moved : EquivalentSteps T q (step config now x c one) =

@@ -43,10 +43,13 @@ use Rattle.mmtel_call.specs.declared.calls.OfferedAttempt.{OfferedAttempt}
 use Rattle.mmtel_call.specs.declared.calls.Phase.TheVariants.{Detached, Established, Offered, Over}
 use Rattle.mmtel_call.specs.declared.calls.Stage.TheVariants.{Answered, Departing, Reinviting, Stable}
 use Rattle.mmtel_call.specs.Closing.{StepResult, established_call_end, step_result}
-use Rattle.mmtel_call.specs.Diverting.{after_attempt, at_target, call_after_diversion, call_refusal, diversion_refusal, diversion_step, diversion_unless_refused, divert, is_diverted, on_end, on_next_step, relayed_refusal, with_notification_of, with_unoffered_meter}
-use Rattle.mmtel_call.specs.RelayedTransactions.{is_in_flight, on_accepted_in_flight as agreed_to, on_final_relayed, on_response_in_flight, on_response_relayed, output_after_dismissal, with_response_back, without_in_flight}
+use Rattle.mmtel_call.specs.Diverting.{after_attempt, at_target, call_after_diversion, call_refusal, diversion_refusal, diversion_step, diversion_unless_refused}
+use Rattle.mmtel_call.specs.Diverting.{divert, is_diverted, on_end, on_next_step, relayed_refusal, with_notification_of, with_unoffered_meter}
+use Rattle.mmtel_call.specs.RelayedTransactions.{is_in_flight, on_accepted_in_flight as agreed_to, on_final_relayed, on_response_in_flight}
+use Rattle.mmtel_call.specs.RelayedTransactions.{on_response_relayed, output_after_dismissal, with_response_back, without_in_flight}
 use Rattle.mmtel_call.specs.RelayedTransactions.{on_timeout_in_flight, on_timeout_relayed, updating_side, without_transaction}
-use Rattle.mmtel_call.specs.OtherRequests.{is_answered_invite, is_fork, is_success, on_forked_response, on_other_response, on_other_response_at, on_other_timeout, on_other_timeout_at, on_response_abandoned, on_response_answered, on_response_answered_at, on_retransmitted_success}
+use Rattle.mmtel_call.specs.OtherRequests.{is_answered_invite, is_fork, is_success, on_forked_response, on_other_response, on_other_response_at, on_other_timeout}
+use Rattle.mmtel_call.specs.OtherRequests.{on_other_timeout_at, on_response_abandoned, on_response_answered, on_response_answered_at, on_retransmitted_success}
 use Rattle.mmtel_call.specs.Opening.{call_after_opening, caller_of, new_call, unless_refused}
 use Rattle.mmtel_call.specs.Reinvites.{ends_dialog, on_accepted_reinvite, on_provisional_across, on_response_across, with_byes, with_refusal_back}
 use Rattle.mmtel_call.specs.Reliable.{named_rseq, on_named_prack, on_rack, on_refused_prack, own_rseq_for, rack_in}
@@ -74,16 +77,21 @@ module _ (config : CallConfigView) (now : SnapshotView) where
   abbrev Diverts : (f : Option Service → DueDiversionView → Call → StepOutput → StepResult) → Type 0
   Diverts f = (service : Option Service) (due : DueDiversionView) (c : Call) (output : StepOutput) → Keeps c.opening (f service due c output)
 
-  next-step-stays : (f : Option Service → DueDiversionView → Call → StepOutput → StepResult) → Diverts f → (turn : NextStepView) (caller : Leg) (service : Option Service) (cause : Option ℕ) (target : Target) (c : Call) (output : StepOutput) → Keeps c.opening (on_next_step f config now.at caller service cause target turn c output)
+  next-step-stays : (f : Option Service → DueDiversionView → Call → StepOutput → StepResult) → Diverts f →
+      (turn : NextStepView) (caller : Leg) (service : Option Service) (cause : Option ℕ) (target : Target) (c : Call) (output : StepOutput) →
+      Keeps c.opening (on_next_step f config now.at caller service cause target turn c output)
   next-step-stays f stays (StepOffer peer waiting) caller service cause target c output = refl
   next-step-stays f stays (StepDivert due) caller service cause target c output = stays service due (with_unoffered_meter now.at service c) output
   next-step-stays f stays (StepRefuse why) caller service cause target c output = refl
 
-  target-stays : (f : Option Service → DueDiversionView → Call → StepOutput → StepResult) → Diverts f → (caller : Leg) (cause : Option ℕ) (target : Target) (c : Call) (output : StepOutput) → Keeps c.opening (at_target f config now caller cause target c output)
+  target-stays : (f : Option Service → DueDiversionView → Call → StepOutput → StepResult) → Diverts f → (caller : Leg) (cause : Option ℕ) (target : Target) (c : Call) (output : StepOutput) →
+      Keeps c.opening (at_target f config now caller cause target c output)
   target-stays f stays caller cause target c output =
-      next-step-stays f stays (decision_at config now c.opening (is_diverted c) cause target (service_at config now c.opening cause target) (peer_for config c.opening target)) caller (service_at config now c.opening cause target) cause target c output
+      next-step-stays f stays (decision_at config now c.opening (is_diverted c) cause target (service_at config now c.opening cause target) (peer_for config c.opening target)) caller
+      (service_at config now c.opening cause target) cause target c output
 
-  unless-stays : (refusal : Option Cause) (onward : Call → StepOutput → StepResult) (caller : Leg) (c : Call) (output : StepOutput) → Keeps c.opening (onward c output) → Keeps c.opening (diversion_unless_refused refusal onward config now.at caller c output)
+  unless-stays : (refusal : Option Cause) (onward : Call → StepOutput → StepResult) (caller : Leg) (c : Call) (output : StepOutput) → Keeps c.opening (onward c output) →
+      Keeps c.opening (diversion_unless_refused refusal onward config now.at caller c output)
   unless-stays None onward caller c output h = h
   unless-stays (Some cause) onward caller c output h = refl
 
@@ -110,7 +118,8 @@ module _ (config : CallConfigView) (now : SnapshotView) where
 
   -- ---- while it is offered
 
-  numbered-stays : (own : Option ℕ) (rseq : ℕ) (x : OfferedAttempt) (key : TKey) (m : MessageView) (code : ℕ) (c : Call) (output : StepOutput) → Keeps c.opening (on_numbered_provisional own rseq config now.at x key m code c output)
+  numbered-stays : (own : Option ℕ) (rseq : ℕ) (x : OfferedAttempt) (key : TKey) (m : MessageView) (code : ℕ) (c : Call) (output : StepOutput) →
+      Keeps c.opening (on_numbered_provisional own rseq config now.at x key m code c output)
   numbered-stays None rseq x key m code c output = refl
   numbered-stays (Some own) rseq x key m code c output = refl
 
@@ -138,7 +147,8 @@ module _ (config : CallConfigView) (now : SnapshotView) where
   prack-stays Caller x key m c output = rack-stays (rack_in m) x key m c output
   prack-stays Callee x key m c output = refl
 
-  unless-flies : (o : Option Side) (f : Call → StepOutput → StepResult) (side : Side) (key : TKey) (m : MessageView) (c : Call) (output : StepOutput) → Keeps c.opening (f c output) → Keeps c.opening (unless_updating o f config side key m c output)
+  unless-flies : (o : Option Side) (f : Call → StepOutput → StepResult) (side : Side) (key : TKey) (m : MessageView) (c : Call) (output : StepOutput) → Keeps c.opening (f c output) →
+      Keeps c.opening (unless_updating o f config side key m c output)
   unless-flies None f side key m c output h = h
   unless-flies (Some flies) f side key m c output h = keep-if c.opening _ _ _ refl refl
 
@@ -155,14 +165,16 @@ module _ (config : CallConfigView) (now : SnapshotView) where
 
   other-received : (x : OfferedAttempt) (side : Side) (key : TKey) (m : MessageView) (c : Call) (output : StepOutput) → Keeps c.opening (on_other config x side key m c output)
   other-received x side key m c output =
-      keep-if c.opening (is_prack m) (on_prack_of side config x key m c output) (cond (is_update m) (on_update config x side key m c output) (step_result c (with_unlisted_response config c key m output))) (prack-stays side x key m c output)
+      keep-if c.opening (is_prack m) (on_prack_of side config x key m c output)
+      (cond (is_update m) (on_update config x side key m c output) (step_result c (with_unlisted_response config c key m output))) (prack-stays side x key m c output)
       (keep-if c.opening (is_update m) (on_update config x side key m c output) (step_result c (with_unlisted_response config c key m output)) (update-stays side x key m c output) refl)
 
   offered-received : (x : OfferedAttempt) (side : Side) (key : TKey) (m : MessageView) (c : Call) (output : StepOutput) → Keeps c.opening (on_valid_request config now.at x side key m c output)
   offered-received x Caller key m c output = keep-if c.opening (is_bye m) _ (on_other config x Caller key m c output) refl (other-received x Caller key m c output)
   offered-received x Callee key m c output = other-received x Callee key m c output
 
-  offered-request : (r : Result (Unit {0}) DialogueFault) (x : OfferedAttempt) (side : Side) (key : TKey) (m : MessageView) (c : Call) (output : StepOutput) → Keeps c.opening (on_request_if r config now.at x side key m c output)
+  offered-request : (r : Result (Unit {0}) DialogueFault) (x : OfferedAttempt) (side : Side) (key : TKey) (m : MessageView) (c : Call) (output : StepOutput) →
+      Keeps c.opening (on_request_if r config now.at x side key m c output)
   offered-request (Ok received) x Caller key m c output = offered-received (attempt_after_request Caller m x) Caller key m (record c { phase = Offered (attempt_after_request Caller m x) }) output
   offered-request (Ok received) x Callee key m c output = offered-received (attempt_after_request Callee m x) Callee key m (record c { phase = Offered (attempt_after_request Callee m x) }) output
   offered-request (Err fault) x side key m c output = refl
@@ -190,7 +202,8 @@ module _ (config : CallConfigView) (now : SnapshotView) where
 
   bye-stays : (stage : Stage) (x : EstablishedLegs) (side : Side) (key : TKey) (m : MessageView) (c : Call) (output : StepOutput) → Keeps c.opening (on_bye stage config now.at x side key m c output)
   bye-stays stage x side key m c output =
-      keep-if c.opening (has_departed stage side) (step_result c (with_status_to config c key m 481 output)) (after_bye_at stage config now.at x side m c (with_status_to config c key m 200 output)) refl (left-stays stage x side m c (with_status_to config c key m 200 output))
+      keep-if c.opening (has_departed stage side) (step_result c (with_status_to config c key m 481 output))
+      (after_bye_at stage config now.at x side m c (with_status_to config c key m 200 output)) refl (left-stays stage x side m c (with_status_to config c key m 200 output))
 
   received-stays : (stage : Stage) (x : EstablishedLegs) (side : Side) (key : TKey) (m : MessageView) (c : Call) (output : StepOutput) → Keeps c.opening (on_valid_request_at stage config now.at x side key m c output)
   received-stays stage x side key m c output =
@@ -203,7 +216,8 @@ module _ (config : CallConfigView) (now : SnapshotView) where
       (keep-if c.opening (is_update m) (on_update_at stage config x side key m c output) acks (update_at-stays stage side x key m c output)
       (keep-if c.opening (is_prack m) (on_refused_prack config key m c output) none refl refl)))
 
-  request-stays : (r : Result (Unit {0}) DialogueFault) (stage : Stage) (x : EstablishedLegs) (side : Side) (key : TKey) (m : MessageView) (c : Call) (output : StepOutput) → Keeps c.opening (on_request_at_if r stage config now.at x side key m c output)
+  request-stays : (r : Result (Unit {0}) DialogueFault) (stage : Stage) (x : EstablishedLegs) (side : Side) (key : TKey) (m : MessageView) (c : Call) (output : StepOutput) →
+      Keeps c.opening (on_request_at_if r stage config now.at x side key m c output)
   request-stays (Ok received) stage x side key m c output =
       received-stays stage (with_leg side (leg_after_receiving (leg_of side x) m) x) side key m (at_stage (with_leg side (leg_after_receiving (leg_of side x) m) x) stage c) output
   request-stays (Err fault) stage x side key m c output = refl
@@ -220,7 +234,8 @@ module _ (config : CallConfigView) (now : SnapshotView) where
   cancel-stays Stable x invite c output = refl
   cancel-stays (Reinviting asking q) x invite c output = keep-if c.opening _ _ _ refl refl
 
-  across-stays : (asking : Side) (q : Reinvite) (x : EstablishedLegs) (key : TKey) (m : MessageView) (code : ℕ) (c : Call) (output : StepOutput) → Keeps c.opening (on_response_across config now.at x asking q key m code c output)
+  across-stays : (asking : Side) (q : Reinvite) (x : EstablishedLegs) (key : TKey) (m : MessageView) (code : ℕ) (c : Call) (output : StepOutput) →
+      Keeps c.opening (on_response_across config now.at x asking q key m code c output)
   across-stays asking q x key m code c output =
       let back : StepOutput = with_refusal_back config x asking q key m c output in
       let over : StepResult = established_call_end now.at x c (with_byes config x back) in
@@ -270,7 +285,8 @@ module _ (config : CallConfigView) (now : SnapshotView) where
       let d : Call = without_transaction place c in
       let back : StepOutput = with_response_back config flight m d output in
       keep-if c.opening (nat_lt code 200) (step_result c output) (on_final_relayed config now.at flight m code d output) refl
-      (keep-if c.opening (is_success code) (agreed_to flight.kind config now.at flight.side flight.exchange.request m d back) (step_result d back) (agreed-stays flight.kind flight.side flight.exchange.request m d back) refl)
+      (keep-if c.opening (is_success code) (agreed_to flight.kind config now.at flight.side flight.exchange.request m d back) (step_result d back)
+      (agreed-stays flight.kind flight.side flight.exchange.request m d back) refl)
 
   in-flight-stays : (o : Option ℕ) (m : MessageView) (c : Call) (output : StepOutput) → Keeps c.opening (on_response_in_flight config now.at m o c output)
   in-flight-stays None m c output = refl
@@ -341,12 +357,14 @@ module _ (config : CallConfigView) (now : SnapshotView) where
   to-answer : (o : Option (List ℕ)) (key : TKey) (m : MessageView) (c : Call) (output : StepOutput) → Keeps c.opening (on_response_to o config now key m c output)
   to-answer None key m c output = refl
   to-answer (Some branch) key m c output =
-      keep-if c.opening (is_current branch c) (response_in c.phase config now key m c output) (on_other_response config now.at key m branch c output) (in-response c.phase key m c output) (other-stays key m branch c output)
+      keep-if c.opening (is_current branch c) (response_in c.phase config now key m c output) (on_other_response config now.at key m branch c output) (in-response c.phase key m c output)
+      (other-stays key m branch c output)
 
   to-timeout : (o : Option (List ℕ)) (c : Call) (output : StepOutput) → Keeps c.opening (on_timeout_of o config now c output)
   to-timeout None c output = refl
   to-timeout (Some branch) c output =
-      keep-if c.opening (is_current branch c) (timeout_in c.phase config now c output) (on_other_timeout config branch c output) (in-timeout c.phase c output) (timed-out-at-stays (position (is_of_branch branch) c.abandoned) branch c output)
+      keep-if c.opening (is_current branch c) (timeout_in c.phase config now c output) (on_other_timeout config branch c output) (in-timeout c.phase c output)
+      (timed-out-at-stays (position (is_of_branch branch) c.abandoned) branch c output)
 
   -- ---- the opening
 
@@ -374,4 +392,5 @@ transition-stays config now (signal.Ended key) c output = refl
 pub openings_stay : OpeningsStay
 unfolding step
 openings_stay config now x c output =
-    keep-if c.opening (leaves x c) (transition config now x (without_in_flight c) (output_after_dismissal config c output)) (transition config now x c output) (transition-stays config now x (without_in_flight c) (output_after_dismissal config c output)) (transition-stays config now x c output)
+    keep-if c.opening (leaves x c) (transition config now x (without_in_flight c) (output_after_dismissal config c output)) (transition config now x c output)
+    (transition-stays config now x (without_in_flight c) (output_after_dismissal config c output)) (transition-stays config now x c output)

@@ -38,7 +38,9 @@ use Rattle.mmtel_call.specs.declared.calls.OfferedAttempt.{OfferedAttempt}
 use Rattle.mmtel_call.specs.declared.calls.Phase.TheVariants.{Detached, Established, Offered, Over}
 use Rattle.mmtel_call.specs.declared.calls.Stage.TheVariants.{Answered, Departing, Reinviting, Stable}
 use Rattle.mmtel_call_theorems.specs.Noninterference.PublicParts.{PublicPartsAreIdempotent}
-use Rattle.mmtel_call_theorems.specs.Noninterference.PublicCall.{all_fields, public_abandoned, public_answered, public_attempt, public_call, public_callee, public_dialog, public_dialog_by, public_established, public_leg, public_offered, public_opening, public_phase, public_reinvite, public_relayed, public_released, public_remote, public_remote_side, public_request, public_sent_invite, public_stage}
+use Rattle.mmtel_call_theorems.specs.Noninterference.PublicCall.{all_fields, public_abandoned, public_answered, public_attempt, public_call, public_callee, public_dialog}
+use Rattle.mmtel_call_theorems.specs.Noninterference.PublicCall.{public_dialog_by, public_established, public_leg, public_offered, public_opening, public_phase, public_reinvite}
+use Rattle.mmtel_call_theorems.specs.Noninterference.PublicCall.{public_relayed, public_released, public_remote, public_remote_side, public_request, public_sent_invite, public_stage}
 use Rattle.mmtel_call_theorems.specs.Noninterference.Roles.{Role, hidden_by, opening_role, private_fields, without_private}
 
 -- ---- messages
@@ -185,7 +187,8 @@ module _ (t : Peer → Bool) where
 
   pub phase_again : (p : Phase) → public_phase t (public_phase t p) ≡ public_phase t p
   phase_again (Offered x) = ap (λ (y : OfferedAttempt). Offered y) (offered_again x)
-  phase_again (Established x stage) = ap (λ (y : EstablishedLegs). Established y (public_stage t (public_stage t stage))) (established_again x) ∙ ap (λ (s : Stage). Established (public_established t x) s) (stage_again stage)
+  phase_again (Established x stage) =
+      ap (λ (y : EstablishedLegs). Established y (public_stage t (public_stage t stage))) (established_again x) ∙ ap (λ (s : Stage). Established (public_established t x) s) (stage_again stage)
   phase_again (Detached detached) = ap (λ (r : Released). Detached (record detached { remaining = r })) (released_again detached.remaining)
   phase_again (Over cause) = refl
 
@@ -204,7 +207,8 @@ module _ (t : Peer → Bool) where
       let ls : List AbandonedInvite = map (public_abandoned t) c.abandoned in
       let ts : List AnsweredInvite = map (public_answered t) c.answered_invites in
       let p : Phase = public_phase t c.phase in
-      ap (λ (m : MessageView). call_with c (record o { invite = m }) (masked_list all h) (map (public_relayed t) fs) (map (public_abandoned t) ls) (map (public_answered t) ts) (public_phase t p)) (remote_side_again (opening_role c.opening.restricted) c.opening.invite)
+      ap (λ (m : MessageView). call_with c (record o { invite = m }) (masked_list all h) (map (public_relayed t) fs) (map (public_abandoned t) ls) (map (public_answered t) ts) (public_phase t p))
+      (remote_side_again (opening_role c.opening.restricted) c.opening.invite)
       ∙ (ap (λ (x : List Entry). call_with c o x (map (public_relayed t) fs) (map (public_abandoned t) ls) (map (public_answered t) ts) (public_phase t p)) (masked_once all c.diversions.history)
       ∙ (ap (λ (x : List RelayedTransaction). call_with c o h x (map (public_abandoned t) ls) (map (public_answered t) ts) (public_phase t p)) (map_again (public_relayed t) relayed_again c.relayed)
       ∙ (ap (λ (x : List AbandonedInvite). call_with c o h fs x (map (public_answered t) ts) (public_phase t p)) (map_again (public_abandoned t) abandoned_again c.abandoned)

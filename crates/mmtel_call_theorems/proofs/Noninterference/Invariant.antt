@@ -48,14 +48,18 @@ use Rattle.mmtel_call.specs.declared.calls.OfferedAttempt.{OfferedAttempt}
 use Rattle.mmtel_call.specs.declared.calls.Phase.TheVariants.{Detached, Established, Offered, Over}
 use Rattle.mmtel_call.specs.declared.calls.Stage.TheVariants.{Answered, Departing, Reinviting, Stable}
 use Rattle.mmtel_call.specs.Closing.{StepResult, call_end, established_call_end, step_result, with_past}
-use Rattle.mmtel_call.specs.Diverting.{after_attempt, at_target, call_after_diversion, call_refusal, diversion_refusal, diversion_step, diversion_unless_refused, divert, is_diverted, on_end, on_next_step, relayed_refusal, with_notification_of, with_unoffered_meter}
-use Rattle.mmtel_call.specs.RelayedTransactions.{is_in_flight, leg_after_request, on_accepted_in_flight as agreed_to, on_final_relayed, on_response_in_flight, on_response_relayed, output_after_dismissal, relayed_transaction_of, without_in_flight}
+use Rattle.mmtel_call.specs.Diverting.{after_attempt, at_target, call_after_diversion, call_refusal, diversion_refusal, diversion_step, diversion_unless_refused}
+use Rattle.mmtel_call.specs.Diverting.{divert, is_diverted, on_end, on_next_step, relayed_refusal, with_notification_of, with_unoffered_meter}
+use Rattle.mmtel_call.specs.RelayedTransactions.{is_in_flight, leg_after_request, on_accepted_in_flight as agreed_to, on_final_relayed, on_response_in_flight}
+use Rattle.mmtel_call.specs.RelayedTransactions.{on_response_relayed, output_after_dismissal, relayed_transaction_of, without_in_flight}
 use Rattle.mmtel_call.specs.RelayedTransactions.{on_timeout_in_flight, on_timeout_relayed, updating_side, with_response_back, with_transaction, without_transaction}
-use Rattle.mmtel_call.specs.OtherRequests.{is_answered_invite, is_fork, is_success, on_forked_response, on_other_response, on_other_response_at, on_other_timeout, on_other_timeout_at, on_response_abandoned, on_response_answered, on_response_answered_at, on_retransmitted_success}
+use Rattle.mmtel_call.specs.OtherRequests.{is_answered_invite, is_fork, is_success, on_forked_response, on_other_response, on_other_response_at, on_other_timeout}
+use Rattle.mmtel_call.specs.OtherRequests.{on_other_timeout_at, on_response_abandoned, on_response_answered, on_response_answered_at, on_retransmitted_success}
 use Rattle.mmtel_call.specs.Opening.{call_after_opening, caller_of, new_call, unless_refused}
 use Rattle.mmtel_call.specs.Reinvites.{ends_dialog, on_accepted_reinvite, on_cancel_across, on_provisional_across, on_response_across, with_byes, with_refusal_back}
 use Rattle.mmtel_call.specs.Reliable.{named_rseq, on_named_prack, on_rack, on_refused_prack, own_rseq_for, rack_in}
-use Rattle.mmtel_call.specs.Ringing.{on_answer, with_attempt_cancel, on_failure, on_caller_cancel, end_before_answer, attempt_after_request, call_without_attempt, on_provisional, on_provisional_by, on_numbered_provisional, on_attempt_timeout, on_trying, on_due, on_valid_request, on_other}
+use Rattle.mmtel_call.specs.Ringing.{on_answer, with_attempt_cancel, on_failure, on_caller_cancel, end_before_answer, attempt_after_request, call_without_attempt}
+use Rattle.mmtel_call.specs.Ringing.{on_provisional, on_provisional_by, on_numbered_provisional, on_attempt_timeout, on_trying, on_due, on_valid_request, on_other}
 use Rattle.mmtel_call.specs.Ringing.{offered_request_check, on_prack_of, on_request_if, on_response}
 use Rattle.mmtel_call.specs.Requests.{is_bye, is_invite, is_prack, is_update, leg_after_receiving, request_check, with_unlisted_response}
 use Rattle.mmtel_call.specs.Sending.{with_relay_to_caller, with_status_to, with_status_to_caller}
@@ -146,10 +150,12 @@ module _ (request : TKey → MessageView → Type 0) (service : Option Service �
     target-keeps : (f : Option Service → DueDiversionView → Call → StepOutput → StepResult) → Diverts f → (caller : Leg) (cause : Option ℕ) (target : Target) (c : Call) (output : StepOutput) → Flies c →
         Keeps (at_target f config now caller cause target c output)
     target-keeps f keeps caller cause target c output flies =
-        next-step-keeps f keeps (decision_at config now c.opening (is_diverted c) cause target (service_at config now c.opening cause target) (peer_for config c.opening target)) caller (service_at config now c.opening cause target)
+        next-step-keeps f keeps (decision_at config now c.opening (is_diverted c) cause target (service_at config now c.opening cause target) (peer_for config c.opening target)) caller
+        (service_at config now c.opening cause target)
         (stands (served_at config c.opening cause target)) cause target c output flies
 
-    unless-keeps : (refusal : Option Cause) (onward : Call → StepOutput → StepResult) (caller : Leg) (c : Call) (output : StepOutput) → Keeps (onward c output) → Keeps (diversion_unless_refused refusal onward config now.at caller c output)
+    unless-keeps : (refusal : Option Cause) (onward : Call → StepOutput → StepResult) (caller : Leg) (c : Call) (output : StepOutput) → Keeps (onward c output) →
+        Keeps (diversion_unless_refused refusal onward config now.at caller c output)
     unless-keeps None onward caller c output h = h
     unless-keeps (Some cause) onward caller c output h = (tt, tt)
 
@@ -165,7 +171,8 @@ module _ (request : TKey → MessageView → Type 0) (service : Option Service �
     refused_by-keeps : (caller : Leg) (its : Option Service) (m : Option MessageView) (cause : Cause) (c : Call) (output : StepOutput) → Keeps (relayed_refusal config now.at caller its m cause c output)
     refused_by-keeps caller its None cause c output = (tt, tt)
     refused_by-keeps caller its (Some m) cause c output =
-        keep-if (is_status (status_of m.parsed.start) (relayed_status cause)) (call_end now.at cause caller.meter None c (with_relay_to_caller config c its m output)) (call_refusal config now.at caller cause c output) (tt, tt) (tt, tt)
+        keep-if (is_status (status_of m.parsed.start) (relayed_status cause)) (call_end now.at cause caller.meter None c (with_relay_to_caller config c its m output))
+        (call_refusal config now.at caller cause c output) (tt, tt) (tt, tt)
 
     end-keeps : (after : StepAfterAttemptView) (caller : Leg) (its : Option Service) (m : Option MessageView) (c : Call) (output : StepOutput) → Flies c → Keeps (on_end config now caller its m after c output)
     end-keeps EndAnswered caller its m c output flies = (tt, tt)
@@ -177,11 +184,13 @@ module _ (request : TKey → MessageView → Type 0) (service : Option Service �
 
     -- ---- while it is offered
 
-    numbered-keeps : (own : Option ℕ) (rseq : ℕ) (x : OfferedAttempt) (key : TKey) (m : MessageView) (code : ℕ) (c : Call) (output : StepOutput) → service x.attempt.service → Flies c → Keeps (on_numbered_provisional own rseq config now.at x key m code c output)
+    numbered-keeps : (own : Option ℕ) (rseq : ℕ) (x : OfferedAttempt) (key : TKey) (m : MessageView) (code : ℕ) (c : Call) (output : StepOutput) → service x.attempt.service → Flies c →
+        Keeps (on_numbered_provisional own rseq config now.at x key m code c output)
     numbered-keeps None rseq x key m code c output h flies = (h, flies)
     numbered-keeps (Some own) rseq x key m code c output h flies = (h, flies)
 
-    proceeding-keeps : (rseq : Option ℕ) (x : OfferedAttempt) (key : TKey) (m : MessageView) (code : ℕ) (c : Call) (output : StepOutput) → service x.attempt.service → Flies c → Keeps (on_provisional_by rseq config now.at x key m code c output)
+    proceeding-keeps : (rseq : Option ℕ) (x : OfferedAttempt) (key : TKey) (m : MessageView) (code : ℕ) (c : Call) (output : StepOutput) → service x.attempt.service → Flies c →
+        Keeps (on_provisional_by rseq config now.at x key m code c output)
     proceeding-keeps None x key m code c output h flies = (h, flies)
     proceeding-keeps (Some rseq) x key m code c output h flies = numbered-keeps (own_rseq_for rseq x m c) rseq x key m code c output h flies
 
@@ -195,7 +204,8 @@ module _ (request : TKey → MessageView → Type 0) (service : Option Service �
         (keep-if (nat_lt code 200) second (cond (nat_lt code 300) third last) (proceeding-keeps (reliable_number config c.opening m) x key m code c output h flies)
         (keep-if (nat_lt code 300) third last (tt, flies) (goes-keeps x (end_by_final code (redirect_of m) x.attempt.rang) (Some m) c (with_final_ack config.sip key x.attempt.invite m.parsed output) flies)))
 
-    named-keeps : (answer : Option ℕ) (x : OfferedAttempt) (key : TKey) (m : MessageView) (rack : Rack) (c : Call) (output : StepOutput) → request key m → service x.attempt.service → Has c → Keeps (on_named_prack config x key m rack answer c output)
+    named-keeps : (answer : Option ℕ) (x : OfferedAttempt) (key : TKey) (m : MessageView) (rack : Rack) (c : Call) (output : StepOutput) → request key m → service x.attempt.service → Has c →
+        Keeps (on_named_prack config x key m rack answer c output)
     named-keeps None x key m rack c output r its h = h
     named-keeps (Some answer) x key m rack c output r its h = (its, more (relayed_transaction_of Prack Caller key m (leg_after_request (codes "PRACK") x.callee.leg) output) c r h.1)
 
@@ -207,11 +217,13 @@ module _ (request : TKey → MessageView → Type 0) (service : Option Service �
     prack-keeps Caller x key m c output r its h = rack-keeps (rack_in m) x key m c output r its h
     prack-keeps Callee x key m c output r its h = h
 
-    unless-flies : (o : Option Side) (f : Call → StepOutput → StepResult) (side : Side) (key : TKey) (m : MessageView) (c : Call) (output : StepOutput) → Has c → Keeps (f c output) → Keeps (unless_updating o f config side key m c output)
+    unless-flies : (o : Option Side) (f : Call → StepOutput → StepResult) (side : Side) (key : TKey) (m : MessageView) (c : Call) (output : StepOutput) → Has c → Keeps (f c output) →
+        Keeps (unless_updating o f config side key m c output)
     unless-flies None f side key m c output h goes = goes
     unless-flies (Some flying) f side key m c output h goes = keep-if (is_same_side flying side) (on_early_retry config key m c output) (on_glare config key m c output) h h
 
-    early-keeps : (side : Side) (x : OfferedAttempt) (key : TKey) (m : MessageView) (c : Call) (output : StepOutput) → request key m → service x.attempt.service → Flies c → Keeps (on_early_update config x side key m c output)
+    early-keeps : (side : Side) (x : OfferedAttempt) (key : TKey) (m : MessageView) (c : Call) (output : StepOutput) → request key m → service x.attempt.service → Flies c →
+        Keeps (on_early_update config x side key m c output)
     early-keeps Caller x key m c output r its flies = (its, more (relayed_transaction_of Update Caller key m (leg_after_request (codes "UPDATE") x.callee.leg) output) c r flies)
     early-keeps Callee x key m c output r its flies = (its, more (relayed_transaction_of Update Callee key m (leg_after_request (codes "UPDATE") x.caller) output) c r flies)
 
@@ -226,22 +238,27 @@ module _ (request : TKey → MessageView → Type 0) (service : Option Service �
         (prack-keeps side x key m c output r its h)
         (keep-if (is_update m) (on_update config x side key m c output) (step_result c (with_unlisted_response config c key m output)) (update-keeps side x key m c output r its h) h)
 
-    offered-received : (x : OfferedAttempt) (side : Side) (key : TKey) (m : MessageView) (c : Call) (output : StepOutput) → request key m → service x.attempt.service → Has c → Keeps (on_valid_request config now.at x side key m c output)
+    offered-received : (x : OfferedAttempt) (side : Side) (key : TKey) (m : MessageView) (c : Call) (output : StepOutput) → request key m → service x.attempt.service → Has c →
+        Keeps (on_valid_request config now.at x side key m c output)
     offered-received x Caller key m c output r its h =
         keep-if (is_bye m) (on_caller_cancel config now.at x c (with_status_to config c key m 200 output)) (on_other config x Caller key m c output) (tt, tt) (offered-other x Caller key m c output r its h)
     offered-received x Callee key m c output r its h = offered-other x Callee key m c output r its h
 
     offered-request : (r : Result (Unit {0}) DialogueFault) (x : OfferedAttempt) (side : Side) (key : TKey) (m : MessageView) (c : Call) (output : StepOutput) → request key m → service x.attempt.service → Has c →
         Keeps (on_request_if r config now.at x side key m c output)
-    offered-request (Ok received) x Caller key m c output r its h = offered-received (attempt_after_request Caller m x) Caller key m (record c { phase = Offered (attempt_after_request Caller m x) }) output r its (its, h.1)
-    offered-request (Ok received) x Callee key m c output r its h = offered-received (attempt_after_request Callee m x) Callee key m (record c { phase = Offered (attempt_after_request Callee m x) }) output r its (its, h.1)
+    offered-request (Ok received) x Caller key m c output r its h =
+        offered-received (attempt_after_request Caller m x) Caller key m (record c { phase = Offered (attempt_after_request Caller m x) }) output r its (its, h.1)
+    offered-request (Ok received) x Callee key m c output r its h =
+        offered-received (attempt_after_request Callee m x) Callee key m (record c { phase = Offered (attempt_after_request Callee m x) }) output r its (its, h.1)
     offered-request (Err fault) x side key m c output r its h = h
 
     offered-due : (x : OfferedAttempt) (what : DueWord) (c : Call) (output : StepOutput) → Has c → Keeps (on_due config now x what c output)
-    offered-due x (due.NoReply number) c output h = keep-if (number == x.attempt.number) (on_attempt_timeout config now x NoReply c output) (step_result c output) (goes-keeps x NoReply None (call_without_attempt x c) (with_attempt_cancel config x output) h.1) h
+    offered-due x (due.NoReply number) c output h = keep-if (number == x.attempt.number) (on_attempt_timeout config now x NoReply c output) (step_result c output)
+        (goes-keeps x NoReply None (call_without_attempt x c) (with_attempt_cancel config x output) h.1) h
     offered-due x (due.NoPrack own) c output h = keep-if (has_own own c.acks.waiting) (end_before_answer causes.Unacknowledged config now.at x c output) (step_result c output) (tt, tt) h
     offered-due x (due.Cap number) c output h =
-        keep-if (number == x.attempt.number) (on_attempt_timeout config now x (end_by_time x.attempt.rang) c output) (step_result c output) (goes-keeps x (end_by_time x.attempt.rang) None (call_without_attempt x c) (with_attempt_cancel config x output) h.1) h
+        keep-if (number == x.attempt.number) (on_attempt_timeout config now x (end_by_time x.attempt.rang) c output) (step_result c output)
+        (goes-keeps x (end_by_time x.attempt.rang) None (call_without_attempt x c) (with_attempt_cancel config x output) h.1) h
     offered-due x (due.NoAck number) c output h = h
     offered-due x (due.Expired number) c output h = h
 
@@ -262,16 +279,19 @@ module _ (request : TKey → MessageView → Type 0) (service : Option Service �
 
     bye-keeps : (stage : Stage) (x : EstablishedLegs) (side : Side) (key : TKey) (m : MessageView) (c : Call) (output : StepOutput) → Has c → Keeps (on_bye stage config now.at x side key m c output)
     bye-keeps stage x side key m c output h =
-        keep-if (has_departed stage side) (step_result c (with_status_to config c key m 481 output)) (after_bye_at stage config now.at x side m c (with_status_to config c key m 200 output)) h (left-keeps stage x side m c (with_status_to config c key m 200 output) h.1)
+        keep-if (has_departed stage side) (step_result c (with_status_to config c key m 481 output)) (after_bye_at stage config now.at x side m c (with_status_to config c key m 200 output)) h
+        (left-keeps stage x side m c (with_status_to config c key m 200 output) h.1)
 
     update_at-keeps : (stage : Stage) (side : Side) (x : EstablishedLegs) (key : TKey) (m : MessageView) (c : Call) (output : StepOutput) → request key m → Has c → Keeps (on_update_at stage config x side key m c output)
     update_at-keeps (Answered waiting success) side x key m c output r h = h
     update_at-keeps (Departing waiting success) side x key m c output r h = h
     update_at-keeps Stable side x key m c output r h =
-        unless-flies (updating_side c.relayed) (on_stable_update config x side key m) side key m c output h (tt, more (relayed_transaction_of Update side key m (leg_after_request (codes "UPDATE") (leg_of (other_side side) x)) output) c r h.1)
+        unless-flies (updating_side c.relayed) (on_stable_update config x side key m) side key m c output h
+        (tt, more (relayed_transaction_of Update side key m (leg_after_request (codes "UPDATE") (leg_of (other_side side) x)) output) c r h.1)
     update_at-keeps (Reinviting asking q) side x key m c output r h = h
 
-    received-keeps : (stage : Stage) (x : EstablishedLegs) (side : Side) (key : TKey) (m : MessageView) (c : Call) (output : StepOutput) → request key m → Has c → Keeps (on_valid_request_at stage config now.at x side key m c output)
+    received-keeps : (stage : Stage) (x : EstablishedLegs) (side : Side) (key : TKey) (m : MessageView) (c : Call) (output : StepOutput) → request key m → Has c →
+        Keeps (on_valid_request_at stage config now.at x side key m c output)
     received-keeps stage x side key m c output r h =
         let none : StepResult = step_result c (with_unlisted_response config c key m output) in
         let acks : StepResult = cond (is_prack m) (on_refused_prack config key m c output) none in
@@ -281,7 +301,8 @@ module _ (request : TKey → MessageView → Type 0) (service : Option Service �
         (keep-if (is_update m) (on_update_at stage config x side key m c output) acks (update_at-keeps stage side x key m c output r h)
         (keep-if (is_prack m) (on_refused_prack config key m c output) none h h)))
 
-    request-keeps : (r : Result (Unit {0}) DialogueFault) (stage : Stage) (x : EstablishedLegs) (side : Side) (key : TKey) (m : MessageView) (c : Call) (output : StepOutput) → request key m → StageKeeps request stage → Has c →
+    request-keeps : (r : Result (Unit {0}) DialogueFault) (stage : Stage) (x : EstablishedLegs) (side : Side) (key : TKey) (m : MessageView) (c : Call) (output : StepOutput) → request key m →
+        StageKeeps request stage → Has c →
         Keeps (on_request_at_if r stage config now.at x side key m c output)
     request-keeps (Ok received) stage x side key m c output r s h =
         received-keeps stage (with_leg side (leg_after_receiving (leg_of side x) m) x) side key m (at_stage (with_leg side (leg_after_receiving (leg_of side x) m) x) stage c) output r (s, h.1)
@@ -353,7 +374,8 @@ module _ (request : TKey → MessageView → Type 0) (service : Option Service �
         let d : Call = without_transaction place c in
         let back : StepOutput = with_response_back config flight m d output in
         keep-if (nat_lt code 200) (step_result c output) (on_final_relayed config now.at flight m code d output) h
-        (keep-if (is_success code) (agreed_to flight.kind config now.at flight.side flight.exchange.request m d back) (step_result d back) (agreed-keeps flight.kind flight.side flight.exchange.request m d back (less place c h)) (less place c h))
+        (keep-if (is_success code) (agreed_to flight.kind config now.at flight.side flight.exchange.request m d back) (step_result d back)
+        (agreed-keeps flight.kind flight.side flight.exchange.request m d back (less place c h)) (less place c h))
 
     in-flight-keeps : (o : Option ℕ) (m : MessageView) (c : Call) (output : StepOutput) → Has c → Keeps (on_response_in_flight config now.at m o c output)
     in-flight-keeps None m c output h = h
@@ -425,12 +447,14 @@ module _ (request : TKey → MessageView → Type 0) (service : Option Service �
     to-answer : (o : Option (List ℕ)) (key : TKey) (m : MessageView) (c : Call) (output : StepOutput) → Has c → Keeps (on_response_to o config now key m c output)
     to-answer None key m c output h = h
     to-answer (Some branch) key m c output h =
-        keep-if (is_current branch c) (response_in c.phase config now key m c output) (on_other_response config now.at key m branch c output) (in-response c.phase key m c output h.0 h) (other-keeps key m branch c output h)
+        keep-if (is_current branch c) (response_in c.phase config now key m c output) (on_other_response config now.at key m branch c output) (in-response c.phase key m c output h.0 h)
+        (other-keeps key m branch c output h)
 
     to-timeout : (o : Option (List ℕ)) (c : Call) (output : StepOutput) → Has c → Keeps (on_timeout_of o config now c output)
     to-timeout None c output h = h
     to-timeout (Some branch) c output h =
-        keep-if (is_current branch c) (timeout_in c.phase config now c output) (on_other_timeout config branch c output) (in-timeout c.phase c output h) (timed-out-at-keeps (position (is_of_branch branch) c.abandoned) branch c output h)
+        keep-if (is_current branch c) (timeout_in c.phase config now c output) (on_other_timeout config branch c output) (in-timeout c.phase c output h)
+        (timed-out-at-keeps (position (is_of_branch branch) c.abandoned) branch c output h)
 
     transition-keeps : (x : Signal) (c : Call) (output : StepOutput) → Brings request x → Has c → Keeps (transition config now x c output)
     unfolding transition
@@ -445,7 +469,8 @@ module _ (request : TKey → MessageView → Type 0) (service : Option Service �
     step-keeps : (x : Signal) (c : Call) (output : StepOutput) → Brings request x → Has c → Keeps (step config now x c output)
     unfolding step
     step-keeps x c output r h =
-        keep-if (leaves x c) (transition config now x (without_in_flight c) (output_after_dismissal config c output)) (transition config now x c output) (transition-keeps x (without_in_flight c) (output_after_dismissal config c output) r (h.0, tt)) (transition-keeps x c output r h)
+        keep-if (leaves x c) (transition config now x (without_in_flight c) (output_after_dismissal config c output)) (transition config now x c output)
+        (transition-keeps x (without_in_flight c) (output_after_dismissal config c output) r (h.0, tt)) (transition-keeps x c output r h)
 
     -- ---- the opening
 
@@ -545,13 +570,17 @@ calls_keep = record {
       kept_by records t c (step config now x c output).call (openings_stay config now x c output) k.opening
       (step-keeps (λ key m. IsFromOwnPeer t key m) (λ its. RecordsCoverService records its) config now (served_stands records t now stand) x c output (brings records t x asks) (keeps_of records t c k));
   openings = λ records t config now a output stand asked.
-      let h : Has (λ key m. IsFromOwnPeer t key m) (λ its. RecordsCoverService records its) (call_after_opening config now a output).call = opening-keeps (λ key m. IsFromOwnPeer t key m) (λ its. RecordsCoverService records its) config now (served_stands records t now stand) a output in
+      let h : Has (λ key m. IsFromOwnPeer t key m) (λ its. RecordsCoverService records its) (call_after_opening config now a output).call =
+      opening-keeps (λ key m. IsFromOwnPeer t key m) (λ its. RecordsCoverService records its) config now (served_stands records t now stand) a output in
       record {
         opening = subst (λ (o : Opening). IsFromOwnPeer t o.key o.invite) (sym (opened-keeps config now a output)) asked;
         kept = (asked_of records t (call_after_opening config now a output).call.phase h.0, h.1);
         served = served_of records t (call_after_opening config now a output).call.phase h.0;
       };
-  out = λ records t side c k. kept_by records t c (detached_in c.phase side c) (detached_stays c.phase side c) k.opening (detached-keeps (λ key m. IsFromOwnPeer t key m) (λ its. RecordsCoverService records its) c.phase side c (keeps_of records t c k));
-  back = λ records t leg c k. kept_by records t c (with_leg_restored c.phase leg c) (put_stays c.phase leg c) k.opening (put-keeps (λ key m. IsFromOwnPeer t key m) (λ its. RecordsCoverService records its) c.phase leg c (keeps_of records t c k));
-  ended = λ records t config at c output k. kept_by records t c (call_finish config at c output).call (finished_stays config at c output) k.opening (finished-keeps (λ key m. IsFromOwnPeer t key m) (λ its. RecordsCoverService records its) config at c output (keeps_of records t c k));
+  out = λ records t side c k. kept_by records t c (detached_in c.phase side c) (detached_stays c.phase side c) k.opening
+      (detached-keeps (λ key m. IsFromOwnPeer t key m) (λ its. RecordsCoverService records its) c.phase side c (keeps_of records t c k));
+  back = λ records t leg c k. kept_by records t c (with_leg_restored c.phase leg c) (put_stays c.phase leg c) k.opening
+      (put-keeps (λ key m. IsFromOwnPeer t key m) (λ its. RecordsCoverService records its) c.phase leg c (keeps_of records t c k));
+  ended = λ records t config at c output k. kept_by records t c (call_finish config at c output).call (finished_stays config at c output) k.opening
+      (finished-keeps (λ key m. IsFromOwnPeer t key m) (λ its. RecordsCoverService records its) config at c output (keeps_of records t c k));
 }

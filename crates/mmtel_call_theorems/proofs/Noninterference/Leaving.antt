@@ -8,7 +8,8 @@ use Rattle.mmtel_compose.specs.Attempts.{as_callee}
 use Rattle.mmtel_compose.specs.ReceivedMessages.{MessageView, status_of}
 use Rattle.mmtel_output.specs.SentInvites.{early_remote, with_key}
 use Rattle.mmtel_output.specs.AbandonedInvites as abandoned_invites
-use Rattle.mmtel_output.specs.AbandonedInvites.{AfterResponse, after_due_cancel, after_provisional, dialogue_of_success, ended_dialog, fork_at, is_dialog_of_tag, is_of_branch, on_response, on_success, on_success_in, with_invite}
+use Rattle.mmtel_output.specs.AbandonedInvites.{AfterResponse, after_due_cancel, after_provisional, dialogue_of_success, ended_dialog}
+use Rattle.mmtel_output.specs.AbandonedInvites.{fork_at, is_dialog_of_tag, is_of_branch, on_response, on_success, on_success_in, with_invite}
 use Rattle.mmtel_output.specs.Sending.{with_ack, with_bye, with_cancel, with_final_ack}
 use Rattle.mmtel_output.specs.declared.outputs.StepOutput.{StepOutput}
 use Rattle.mmtel_output.specs.declared.sent_invites.SentInvite.{SentInvite}
@@ -34,7 +35,9 @@ use Rattle.mmtel_call.specs.declared.calls.Phase.TheVariants.{Detached, Establis
 use Rattle.mmtel_call.specs.declared.calls.Stage.TheVariants.{Answered, Departing, Reinviting, Stable}
 use Rattle.mmtel_call.specs.Closing.{StepResult, step_result}
 use Rattle.mmtel_call.specs.RelayedTransactions.{is_in_flight, on_response_in_flight, on_timeout_in_flight, service_in}
-use Rattle.mmtel_call.specs.OtherRequests.{answered_after, as_abandoned, is_answered_invite, is_fork, is_stable, is_success, on_forked_response, on_other_response, on_other_response_at, on_other_timeout, on_other_timeout_at, on_response_abandoned, on_response_answered, on_response_answered_at, on_retransmitted_success, with_abandoned_rest, with_answered_rest, with_retransmitted_ack, without, without_at, without_timed_out}
+use Rattle.mmtel_call.specs.OtherRequests.{answered_after, as_abandoned, is_answered_invite, is_fork, is_stable, is_success, on_forked_response, on_other_response}
+use Rattle.mmtel_call.specs.OtherRequests.{on_other_response_at, on_other_timeout, on_other_timeout_at, on_response_abandoned, on_response_answered, on_response_answered_at}
+use Rattle.mmtel_call.specs.OtherRequests.{on_retransmitted_success, with_abandoned_rest, with_answered_rest, with_retransmitted_ack, without, without_at, without_timed_out}
 use Rattle.mmtel_call_theorems.specs.Noninterference.PublicCall.{nobody, public_abandoned, public_answered, public_call, public_dialog, public_part, public_phase, public_relayed, public_remote_side, public_sent_invite}
 use Rattle.mmtel_call_theorems.specs.Noninterference.Premises.{Fits, HasNothingPrivate, IsResponseOf, MayReceiveOther, in_flight_is_from_own_peers}
 use Rattle.mmtel_call_theorems.specs.Noninterference.Roles.{Role, private_fields, without_private}
@@ -114,7 +117,8 @@ module _ (heads : Heads) (config : CallConfigView) (keys : TKey → Bool) where
 
   -- the early dialog, or the one that the INVITE began
   begun_if : (b : Bool) (asked : ℕ) (said : Remote) (d : Dialogue) (role : Role) (m : MessageView) → (known d.peer ≡ false → HasNothingPrivate role m) →
-      public_dialog known (with_remote (cond b (with_remote (record (as_callee (public_dialog known d)) { local_cseq = asked }) (public_remote_side (known d.peer) said)) (as_callee (public_dialog known d))) (remote_of Callee (without_private role m).parsed.lines))
+      public_dialog known (with_remote (cond b (with_remote (record (as_callee (public_dialog known d)) { local_cseq = asked }) (public_remote_side (known d.peer) said)) (as_callee (public_dialog known d)))
+      (remote_of Callee (without_private role m).parsed.lines))
       ≡ public_dialog known (with_remote (cond b (with_remote (record (as_callee d) { local_cseq = asked }) said) (as_callee d)) (remote_of Callee m.parsed.lines))
   begun_if true asked said d role m told =
       ap (λ (z : Dialogue). public_dialog known (with_remote z (remote_of Callee (without_private role m).parsed.lines))) (met_public (known d.peer) (record (as_callee d) { local_cseq = asked }) said)
@@ -127,7 +131,8 @@ module _ (heads : Heads) (config : CallConfigView) (keys : TKey → Bool) where
   made_same true early asked d role m told = dialog_again known d
   made_same false None asked d role m told = met_equivalent heads config keys (as_callee d) role m told
   made_same false (Some said) asked d role m told =
-      ap (λ (tag : List ℕ). public_dialog known (with_remote (cond (bytes_eq said.tag tag) (with_remote (record (as_callee (public_dialog known d)) { local_cseq = asked }) (public_remote_side (known d.peer) said)) (as_callee (public_dialog known d))) (remote_of Callee (without_private role m).parsed.lines)))
+      ap (λ (tag : List ℕ). public_dialog known (with_remote (cond (bytes_eq said.tag tag) (with_remote (record (as_callee (public_dialog known d)) { local_cseq = asked }) (public_remote_side (known d.peer) said))
+      (as_callee (public_dialog known d))) (remote_of Callee (without_private role m).parsed.lines)))
       (tag_same role m)
       ∙ begun_if (bytes_eq said.tag (remote_of Callee m.parsed.lines).tag) asked said d role m told
 
@@ -147,10 +152,12 @@ module _ (heads : Heads) (config : CallConfigView) (keys : TKey → Bool) where
       }
 
   success-by : (o : Option Dialogue) (l : AbandonedInvite) (role : Role) (m : MessageView) (one other : StepOutput) → (known l.invite.dialogue.peer ≡ false → HasNothingPrivate role m) → EquivalentOutputs T one other →
-      RestsEquivalent T (on_success_in config.sip (public_abandoned known l) (remote_of Callee (without_private role m).parsed.lines) (option_map (public_dialog known) o) one) (on_success_in config.sip l (remote_of Callee m.parsed.lines) o other)
+      RestsEquivalent T (on_success_in config.sip (public_abandoned known l) (remote_of Callee (without_private role m).parsed.lines) (option_map (public_dialog known) o) one)
+      (on_success_in config.sip l (remote_of Callee m.parsed.lines) o other)
   success-by None l role m one other told a =
       let i : SentInvite = l.invite in
-      ends-equivalent l (dialogue_of_success l.in_dialog (public_sent_invite known i).early i.early_cseq (public_dialog known i.dialogue) (remote_of Callee (without_private role m).parsed.lines)) (dialogue_of_success l.in_dialog i.early i.early_cseq i.dialogue (remote_of Callee m.parsed.lines)) one other
+      ends-equivalent l (dialogue_of_success l.in_dialog (public_sent_invite known i).early i.early_cseq (public_dialog known i.dialogue) (remote_of Callee (without_private role m).parsed.lines))
+      (dialogue_of_success l.in_dialog i.early i.early_cseq i.dialogue (remote_of Callee m.parsed.lines)) one other
       (made_same l.in_dialog i.early i.early_cseq i.dialogue role m told) a
   success-by (Some d) l role m one other told a = record {
     remaining = ap (λ (x : AbandonedInvite). Some x) (abandoned_again known l);
@@ -192,7 +199,8 @@ module _ (heads : Heads) (config : CallConfigView) (keys : TKey → Bool) where
   rests-then : (x y z : AfterResponse) → RestsEquivalent T x y → RestsEquivalent T y z → RestsEquivalent T x z
   rests-then x y z a b = record { remaining = a.remaining ∙ b.remaining; output = outputs-then T x.output y.output z.output a.output b.output }
 
-  late-like : (l m : AbandonedInvite) (one other : StepOutput) → public_abandoned known l ≡ public_abandoned known m → EquivalentOutputs T one other → RestsEquivalent T (after_due_cancel config.sip l one) (after_due_cancel config.sip m other)
+  late-like : (l m : AbandonedInvite) (one other : StepOutput) → public_abandoned known l ≡ public_abandoned known m → EquivalentOutputs T one other →
+      RestsEquivalent T (after_due_cancel config.sip l one) (after_due_cancel config.sip m other)
   late-like l m one other same a =
       rests-then (after_due_cancel config.sip l one) (after_due_cancel config.sip (public_abandoned known l) one) (after_due_cancel config.sip m other)
       (rests-back (after_due_cancel config.sip (public_abandoned known l) one) (after_due_cancel config.sip l one) (late-equivalent l one one (same_output T one)))
@@ -223,21 +231,25 @@ module _ (heads : Heads) (config : CallConfigView) (keys : TKey → Bool) where
       let over : AfterResponse = record { remaining = None; output = with_final_ack config.sip key l.invite m.parsed other } in
       let p : AfterResponse = on_success config.sip (public_abandoned known told) (remote_of Callee n.parsed.lines) one in
       let q : AfterResponse = on_success config.sip told (remote_of Callee m.parsed.lines) other in
-      rest-if (nat_lt (status_of m.parsed.start) 200) (after_due_cancel config.sip one_after one) (cond (nat_lt (status_of m.parsed.start) 300) p gone) (after_due_cancel config.sip other_after other) (cond (nat_lt (status_of m.parsed.start) 300) q over)
+      rest-if (nat_lt (status_of m.parsed.start) 200) (after_due_cancel config.sip one_after one) (cond (nat_lt (status_of m.parsed.start) 300) p gone) (after_due_cancel config.sip other_after other)
+      (cond (nat_lt (status_of m.parsed.start) 300) q over)
       (late-like one_after other_after one other (provisional_same key l role m answer.nothing_private) a)
       (rest-if (nat_lt (status_of m.parsed.start) 300) p gone q over
       (success-equivalent told role m one other answer.nothing_private a)
       (record { remaining = refl; output = acked-final heads config keys key l.invite role m one other answer a }))
 
-  abandoned-equivalent : (at : ℕ) (o : Option AbandonedInvite) (who : Identities2) (key : TKey) (role : Role) (m : MessageView) (c : Call) (one other : StepOutput) → ((l : AbandonedInvite) → o ≡ Some l → IsResponseOf T key l.invite.dialogue.peer role m) → EquivalentOutputs T one other →
+  abandoned-equivalent : (at : ℕ) (o : Option AbandonedInvite) (who : Identities2) (key : TKey) (role : Role) (m : MessageView) (c : Call) (one other : StepOutput) →
+      ((l : AbandonedInvite) → o ≡ Some l → IsResponseOf T key l.invite.dialogue.peer role m) → EquivalentOutputs T one other →
       EquivalentSteps T (on_response_abandoned config key (without_private role m) at (option_map (public_abandoned known) o) (public_call known who c) one) (on_response_abandoned config key m at o c other)
   abandoned-equivalent at None who key role m c one other answer a = on-equivalent heads config keys who c one other a
   abandoned-equivalent at (Some l) who key role m c one other answer a =
-      let rests : RestsEquivalent T (on_response config.sip key (without_private role m).parsed (public_abandoned known l) one) (on_response config.sip key m.parsed l other) = response-equivalent key l role m one other (answer l refl) a in
+      let rests : RestsEquivalent T (on_response config.sip key (without_private role m).parsed (public_abandoned known l) one) (on_response config.sip key m.parsed l other) =
+      response-equivalent key l role m one other (answer l refl) a in
       record {
         call =
             ap (λ (ls : List AbandonedInvite). record (public_part known (public_call known who c)) { abandoned = ls })
-            (left_over (public_abandoned known) (abandoned_again known) at c.abandoned (on_response config.sip key (without_private role m).parsed (public_abandoned known l) one).remaining (on_response config.sip key m.parsed l other).remaining rests.remaining)
+            (left_over (public_abandoned known) (abandoned_again known) at c.abandoned (on_response config.sip key (without_private role m).parsed (public_abandoned known l) one).remaining
+            (on_response config.sip key m.parsed l other).remaining rests.remaining)
             ∙ ap (λ (z : Call). record z { abandoned = map (public_abandoned known) (with_abandoned_rest at (on_response config.sip key m.parsed l other) c).call.abandoned }) (call_once known nobody who c);
         output = rests.output;
       }
@@ -262,35 +274,47 @@ module _ (heads : Heads) (config : CallConfigView) (keys : TKey → Bool) where
   stable_same (Detached detached) = refl
   stable_same (Over cause) = refl
 
-  again-equivalent : (t : AnsweredInvite) (o : Option (List ℕ)) (one other : StepOutput) → EquivalentOutputs T one other → EquivalentOutputs T (with_retransmitted_ack (public_answered known t) (blank_maybe (known t.invite.dialogue.peer) o) one) (with_retransmitted_ack t o other)
+  again-equivalent : (t : AnsweredInvite) (o : Option (List ℕ)) (one other : StepOutput) → EquivalentOutputs T one other →
+      EquivalentOutputs T (with_retransmitted_ack (public_answered known t) (blank_maybe (known t.invite.dialogue.peer) o) one) (with_retransmitted_ack t o other)
   again-equivalent t None one other a = a
   again-equivalent t (Some text) one other a =
       emitted-equivalent T (emit.Plain t.invite.dialogue.peer (blank_if (known t.invite.dialogue.peer) text)) (emit.Plain t.invite.dialogue.peer text) one other
       (ap (λ (v : List ℕ). TextSent t.invite.dialogue.peer v) (once.text_again (known t.invite.dialogue.peer) text)) a
 
-  again-if : (b : Bool) (t : AnsweredInvite) (one other : StepOutput) → EquivalentOutputs T one other → EquivalentOutputs T (cond b (with_retransmitted_ack (public_answered known t) (public_answered known t).invite.ack one) one) (cond b (with_retransmitted_ack t t.invite.ack other) other)
+  again-if : (b : Bool) (t : AnsweredInvite) (one other : StepOutput) → EquivalentOutputs T one other →
+      EquivalentOutputs T (cond b (with_retransmitted_ack (public_answered known t) (public_answered known t).invite.ack one) one) (cond b (with_retransmitted_ack t t.invite.ack other) other)
   again-if true t one other a = again-equivalent t t.invite.ack one other a
   again-if false t one other a = a
 
-  repeats-equivalent : (t : AnsweredInvite) (who : Identities2) (c : Call) (one other : StepOutput) → EquivalentOutputs T one other → EquivalentSteps T (on_retransmitted_success (public_answered known t) (public_call known who c) one) (on_retransmitted_success t c other)
+  repeats-equivalent : (t : AnsweredInvite) (who : Identities2) (c : Call) (one other : StepOutput) → EquivalentOutputs T one other →
+      EquivalentSteps T (on_retransmitted_success (public_answered known t) (public_call known who c) one) (on_retransmitted_success t c other)
   repeats-equivalent t who c one other a =
-      subst (λ (b : Bool). EquivalentSteps T (step_result (public_call known who c) (cond b (with_retransmitted_ack (public_answered known t) (public_answered known t).invite.ack one) one)) (on_retransmitted_success t c other)) (sym (stable_same c.phase))
-      (on-equivalent heads config keys who c (cond (is_stable c.phase) (with_retransmitted_ack (public_answered known t) (public_answered known t).invite.ack one) one) (cond (is_stable c.phase) (with_retransmitted_ack t t.invite.ack other) other) (again-if (is_stable c.phase) t one other a))
+      subst (λ (b : Bool). EquivalentSteps T (step_result (public_call known who c) (cond b (with_retransmitted_ack (public_answered known t) (public_answered known t).invite.ack one) one))
+      (on_retransmitted_success t c other)) (sym (stable_same c.phase))
+      (on-equivalent heads config keys who c (cond (is_stable c.phase) (with_retransmitted_ack (public_answered known t) (public_answered known t).invite.ack one) one)
+      (cond (is_stable c.phase) (with_retransmitted_ack t t.invite.ack other) other) (again-if (is_stable c.phase) t one other a))
 
-  forks-equivalent : (at : ℕ) (t : AnsweredInvite) (who : Identities2) (key : TKey) (role : Role) (m : MessageView) (c : Call) (one other : StepOutput) → IsResponseOf T key t.invite.dialogue.peer role m → EquivalentOutputs T one other →
+  forks-equivalent : (at : ℕ) (t : AnsweredInvite) (who : Identities2) (key : TKey) (role : Role) (m : MessageView) (c : Call) (one other : StepOutput) →
+      IsResponseOf T key t.invite.dialogue.peer role m → EquivalentOutputs T one other →
       EquivalentSteps T (on_forked_response config key (without_private role m) at (public_answered known t) (public_call known who c) one) (on_forked_response config key m at t c other)
   forks-equivalent at t who key role m c one other answer a =
-      let rests : RestsEquivalent T (on_response config.sip key (without_private role m).parsed (public_abandoned known (as_abandoned t)) one) (on_response config.sip key m.parsed (as_abandoned t) other) = response-equivalent key (as_abandoned t) role m one other answer a in
+      let rests : RestsEquivalent T (on_response config.sip key (without_private role m).parsed (public_abandoned known (as_abandoned t)) one) (on_response config.sip key m.parsed (as_abandoned t) other) =
+      response-equivalent key (as_abandoned t) role m one other answer a in
       record {
         call =
             ap (λ (ts : List AnsweredInvite). record (public_part known (public_call known who c)) { answered_invites = ts })
-            (left_over (public_answered known) (once.answered_again known) at c.answered_invites (answered_after (public_answered known t) (on_response config.sip key (without_private role m).parsed (public_abandoned known (as_abandoned t)) one).remaining) (answered_after t (on_response config.sip key m.parsed (as_abandoned t) other).remaining)
-            (answered_left t (on_response config.sip key (without_private role m).parsed (public_abandoned known (as_abandoned t)) one).remaining (on_response config.sip key m.parsed (as_abandoned t) other).remaining rests.remaining))
-            ∙ ap (λ (z : Call). record z { answered_invites = map (public_answered known) (with_answered_rest at t (on_response config.sip key m.parsed (as_abandoned t) other) c).call.answered_invites }) (call_once known nobody who c);
+            (left_over (public_answered known) (once.answered_again known) at c.answered_invites
+            (answered_after (public_answered known t) (on_response config.sip key (without_private role m).parsed (public_abandoned known (as_abandoned t)) one).remaining)
+            (answered_after t (on_response config.sip key m.parsed (as_abandoned t) other).remaining)
+            (answered_left t (on_response config.sip key (without_private role m).parsed (public_abandoned known (as_abandoned t)) one).remaining
+            (on_response config.sip key m.parsed (as_abandoned t) other).remaining rests.remaining))
+            ∙ ap (λ (z : Call). record z { answered_invites = map (public_answered known) (with_answered_rest at t (on_response config.sip key m.parsed (as_abandoned t) other) c).call.answered_invites })
+            (call_once known nobody who c);
         output = rests.output;
       }
 
-  answered-equivalent : (at : ℕ) (o : Option AnsweredInvite) (who : Identities2) (key : TKey) (role : Role) (m : MessageView) (c : Call) (one other : StepOutput) → ((t : AnsweredInvite) → o ≡ Some t → IsResponseOf T key t.invite.dialogue.peer role m) → EquivalentOutputs T one other →
+  answered-equivalent : (at : ℕ) (o : Option AnsweredInvite) (who : Identities2) (key : TKey) (role : Role) (m : MessageView) (c : Call) (one other : StepOutput) →
+      ((t : AnsweredInvite) → o ≡ Some t → IsResponseOf T key t.invite.dialogue.peer role m) → EquivalentOutputs T one other →
       EquivalentSteps T (on_response_answered config key (without_private role m) at (option_map (public_answered known) o) (public_call known who c) one) (on_response_answered config key m at o c other)
   answered-equivalent at None who key role m c one other answer a = on-equivalent heads config keys who c one other a
   answered-equivalent at (Some t) who key role m c one other answer a =
@@ -312,14 +336,17 @@ module _ (heads : Heads) (config : CallConfigView) (keys : TKey → Bool) where
       (place : ℕ) (flight : RelayedTransaction) → position (is_in_flight branch) c.relayed ≡ Some place → slice_get c.relayed place ≡ Some flight → Fits c.opening (service_in c.phase) (other_side flight.side) m role
 
   answered_at-equivalent : (o : Option ℕ) (who : Identities2) (at : ℕ) (key : TKey) (role : Role) (m : MessageView) (branch : List ℕ) (c : Call) (one other : StepOutput) → in_flight_is_from_own_peers T c.relayed →
-      ((place : ℕ) (t : AnsweredInvite) → o ≡ Some place → slice_get c.answered_invites place ≡ Some t → IsResponseOf T key t.invite.dialogue.peer role m) → (o ≡ None → FitsInFlight branch role m c) → EquivalentOutputs T one other →
+      ((place : ℕ) (t : AnsweredInvite) → o ≡ Some place → slice_get c.answered_invites place ≡ Some t → IsResponseOf T key t.invite.dialogue.peer role m) → (o ≡ None → FitsInFlight branch role m c) →
+      EquivalentOutputs T one other →
       EquivalentSteps T (on_response_answered_at config at key (without_private role m) branch o (public_call known who c) one) (on_response_answered_at config at key m branch o c other)
   answered_at-equivalent None who at key role m branch c one other asked answer fits a =
-      subst (λ (o : Option ℕ). EquivalentSteps T (on_response_in_flight config at (without_private role m) o (public_call known who c) one) (on_response_in_flight config at m (position (is_in_flight branch) c.relayed) c other))
+      subst (λ (o : Option ℕ). EquivalentSteps T (on_response_in_flight config at (without_private role m) o (public_call known who c) one)
+      (on_response_in_flight config at m (position (is_in_flight branch) c.relayed) c other))
       (sym (found (public_relayed known) (is_in_flight branch) (λ flight. refl) c.relayed))
       (landed-equivalent heads config keys (position (is_in_flight branch) c.relayed) who at role m c one other asked (fits refl) a)
   answered_at-equivalent (Some place) who at key role m branch c one other asked answer fits a =
-      subst (λ (o : Option AnsweredInvite). EquivalentSteps T (on_response_answered config key (without_private role m) place o (public_call known who c) one) (on_response_answered config key m place (slice_get c.answered_invites place) c other)) (sym (got (public_answered known) c.answered_invites place))
+      subst (λ (o : Option AnsweredInvite). EquivalentSteps T (on_response_answered config key (without_private role m) place o (public_call known who c) one)
+      (on_response_answered config key m place (slice_get c.answered_invites place) c other)) (sym (got (public_answered known) c.answered_invites place))
       (answered-equivalent place (slice_get c.answered_invites place) who key role m c one other (λ t e. answer place t refl e) a)
 
   at-equivalent : (o : Option ℕ) (who : Identities2) (at : ℕ) (key : TKey) (role : Role) (m : MessageView) (branch : List ℕ) (c : Call) (one other : StepOutput) → in_flight_is_from_own_peers T c.relayed →
@@ -328,19 +355,23 @@ module _ (heads : Heads) (config : CallConfigView) (keys : TKey → Bool) where
       (o ≡ None → position (is_answered_invite branch) c.answered_invites ≡ None → FitsInFlight branch role m c) → EquivalentOutputs T one other →
       EquivalentSteps T (on_other_response_at config at key (without_private role m) branch o (public_call known who c) one) (on_other_response_at config at key m branch o c other)
   at-equivalent None who at key role m branch c one other asked abandoned taken fits a =
-      subst (λ (o : Option ℕ). EquivalentSteps T (on_response_answered_at config at key (without_private role m) branch o (public_call known who c) one) (on_response_answered_at config at key m branch (position (is_answered_invite branch) c.answered_invites) c other))
+      subst (λ (o : Option ℕ). EquivalentSteps T (on_response_answered_at config at key (without_private role m) branch o (public_call known who c) one)
+      (on_response_answered_at config at key m branch (position (is_answered_invite branch) c.answered_invites) c other))
       (sym (found (public_answered known) (is_answered_invite branch) (λ t. refl) c.answered_invites))
       (answered_at-equivalent (position (is_answered_invite branch) c.answered_invites) who at key role m branch c one other asked taken (fits refl) a)
   at-equivalent (Some place) who at key role m branch c one other asked abandoned taken fits a =
-      subst (λ (o : Option AbandonedInvite). EquivalentSteps T (on_response_abandoned config key (without_private role m) place o (public_call known who c) one) (on_response_abandoned config key m place (slice_get c.abandoned place) c other)) (sym (got (public_abandoned known) c.abandoned place))
+      subst (λ (o : Option AbandonedInvite). EquivalentSteps T (on_response_abandoned config key (without_private role m) place o (public_call known who c) one)
+      (on_response_abandoned config key m place (slice_get c.abandoned place) c other)) (sym (got (public_abandoned known) c.abandoned place))
       (abandoned-equivalent place (slice_get c.abandoned place) who key role m c one other (λ l e. abandoned place l refl e) a)
 
-  other-equivalent : (who : Identities2) (at : ℕ) (key : TKey) (role : Role) (m : MessageView) (branch : List ℕ) (c : Call) (one other : StepOutput) → in_flight_is_from_own_peers T c.relayed → MayReceiveOther T key branch role m c →
+  other-equivalent : (who : Identities2) (at : ℕ) (key : TKey) (role : Role) (m : MessageView) (branch : List ℕ) (c : Call) (one other : StepOutput) → in_flight_is_from_own_peers T c.relayed →
+      MayReceiveOther T key branch role m c →
       EquivalentOutputs T one other →
       EquivalentSteps T (on_other_response config at key (without_private role m) branch (public_call known who c) one) (on_other_response config at key m branch c other)
   unfolding on_other_response
   other-equivalent who at key role m branch c one other asked receives a =
-      subst (λ (o : Option ℕ). EquivalentSteps T (on_other_response_at config at key (without_private role m) branch o (public_call known who c) one) (on_other_response_at config at key m branch (position (is_of_branch branch) c.abandoned) c other))
+      subst (λ (o : Option ℕ). EquivalentSteps T (on_other_response_at config at key (without_private role m) branch o (public_call known who c) one)
+      (on_other_response_at config at key m branch (position (is_of_branch branch) c.abandoned) c other))
       (sym (found (public_abandoned known) (is_of_branch branch) (λ l. refl) c.abandoned))
       (at-equivalent (position (is_of_branch branch) c.abandoned) who at key role m branch c one other asked receives.abandoned receives.answered receives.in_flight a)
 
@@ -355,7 +386,8 @@ module _ (heads : Heads) (config : CallConfigView) (keys : TKey → Bool) where
       subst (λ (o : Option ℕ). EquivalentSteps T (on_timeout_in_flight config o (public_call known who c) one) (on_timeout_in_flight config (position (is_in_flight branch) c.relayed) c other))
       (sym (found (public_relayed known) (is_in_flight branch) (λ flight. refl) c.relayed))
       (timed-out-equivalent heads config keys (position (is_in_flight branch) c.relayed) who c one other asked a)
-  timed-out_at-equivalent (Some place) who branch c one other asked a = on-equivalent-by heads config keys who (without_timed_out branch (public_call known who c)) (without_timed_out branch c) one other (timed_out_public branch who c) a
+  timed-out_at-equivalent (Some place) who branch c one other asked a =
+      on-equivalent-by heads config keys who (without_timed_out branch (public_call known who c)) (without_timed_out branch c) one other (timed_out_public branch who c) a
 
   silences-equivalent : (who : Identities2) (branch : List ℕ) (c : Call) (one other : StepOutput) → in_flight_is_from_own_peers T c.relayed → EquivalentOutputs T one other →
       EquivalentSteps T (on_other_timeout config branch (public_call known who c) one) (on_other_timeout config branch c other)

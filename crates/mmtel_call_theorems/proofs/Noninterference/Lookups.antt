@@ -60,14 +60,18 @@ use Rattle.mmtel_call.specs.declared.calls.OfferedAttempt.{OfferedAttempt}
 use Rattle.mmtel_call.specs.declared.calls.Phase.TheVariants.{Detached, Established, Offered, Over}
 use Rattle.mmtel_call.specs.declared.calls.Stage.TheVariants.{Answered, Departing, Reinviting, Stable}
 use Rattle.mmtel_call.specs.Closing.{StepResult, step_result}
-use Rattle.mmtel_call.specs.Diverting.{after_attempt, at_target, call_after_diversion, call_refusal, diversion_refusal, diversion_step, diversion_unless_refused, divert, is_diverted, on_end, on_next_step, relayed_refusal, with_notification_of, with_unoffered_meter}
-use Rattle.mmtel_call.specs.RelayedTransactions.{is_in_flight, is_updating, on_accepted_in_flight, on_final_relayed, on_response_in_flight, on_response_relayed, output_after_dismissal, with_all_dismissals, with_dismissal, with_dismissals, without_in_flight}
+use Rattle.mmtel_call.specs.Diverting.{after_attempt, at_target, call_after_diversion, call_refusal, diversion_refusal, diversion_step, diversion_unless_refused}
+use Rattle.mmtel_call.specs.Diverting.{divert, is_diverted, on_end, on_next_step, relayed_refusal, with_notification_of, with_unoffered_meter}
+use Rattle.mmtel_call.specs.RelayedTransactions.{is_in_flight, is_updating, on_accepted_in_flight, on_final_relayed, on_response_in_flight, on_response_relayed}
+use Rattle.mmtel_call.specs.RelayedTransactions.{output_after_dismissal, with_all_dismissals, with_dismissal, with_dismissals, without_in_flight}
 use Rattle.mmtel_call.specs.RelayedTransactions.{on_timeout_in_flight, on_timeout_relayed, updating_side, with_response_back, with_settled_in, without_transaction}
-use Rattle.mmtel_call.specs.OtherRequests.{is_answered_invite, is_success as succeeds, on_other_response, on_other_response_at, on_other_timeout, on_other_timeout_at, on_response_abandoned, on_response_answered, on_response_answered_at}
+use Rattle.mmtel_call.specs.OtherRequests.{is_answered_invite, is_success as succeeds, on_other_response, on_other_response_at, on_other_timeout}
+use Rattle.mmtel_call.specs.OtherRequests.{on_other_timeout_at, on_response_abandoned, on_response_answered, on_response_answered_at}
 use Rattle.mmtel_call.specs.Detaching.{call_finish, finish_of_detached, finish_of_phase}
 use Rattle.mmtel_call.specs.Opening.{call_after_opening, caller_of, new_call, unless_refused}
 use Rattle.mmtel_call.specs.Reliable.{named_rseq, on_named_prack, on_rack, on_refused_prack, own_rseq_for, rack_in}
-use Rattle.mmtel_call.specs.Ringing.{on_answer, on_caller_cancel, attempt_after_request, call_without_attempt, with_attempt_cancel, on_due, on_valid_request, on_other, on_prack_of, on_request_if, on_response, on_provisional, on_provisional_by}
+use Rattle.mmtel_call.specs.Ringing.{on_answer, on_caller_cancel, attempt_after_request, call_without_attempt, with_attempt_cancel, on_due}
+use Rattle.mmtel_call.specs.Ringing.{on_valid_request, on_other, on_prack_of, on_request_if, on_response, on_provisional, on_provisional_by}
 use Rattle.mmtel_call.specs.Ringing.{offered_request_check, on_attempt_timeout, on_numbered_provisional, on_timeout, on_trying}
 use Rattle.mmtel_call.specs.Requests.{is_bye, is_invite, is_prack, is_update, leg_after_receiving, request_check, with_unlisted_response}
 use Rattle.mmtel_call.specs.Sending.{with_status_to, with_status_to_caller}
@@ -77,7 +81,8 @@ use Rattle.mmtel_call.specs.Table.{ack_in, cancel_in, due_in, is_current, leaves
 use Rattle.mmtel_call.specs.declared.signals.Signal.{Signal}
 use Rattle.mmtel_call.specs.declared.signals.Signal.TheVariants as signal
 use Rattle.mmtel_call.specs.AttemptStarts.{attempt_start}
-use Rattle.mmtel_call_theorems.specs.Noninterference.Configurations.{ArrivalLooksUpEqually, EndsLookUpNone, EqualButForAccounts, OpeningsSeeLookupsAlone, PhaseRedirectsEqually, RecordsDivertEqually, RedirectsEqually, ResponseRedirectsEqually, StepRedirectsEqually, StepsSeeLookupsAlone}
+use Rattle.mmtel_call_theorems.specs.Noninterference.Configurations.{ArrivalLooksUpEqually, EndsLookUpNone, EqualButForAccounts, OpeningsSeeLookupsAlone, PhaseRedirectsEqually}
+use Rattle.mmtel_call_theorems.specs.Noninterference.Configurations.{RecordsDivertEqually, RedirectsEqually, ResponseRedirectsEqually, StepRedirectsEqually, StepsSeeLookupsAlone}
 use Rattle.mmtel_call_theorems.specs.Noninterference.Premises.{IsAmong, RecordsCoverService, RecordsCoverSnapshot}
 use Rattle.mmtel_call_theorems.specs.Noninterference.StepTable.{ServedIn}
 use Rattle.mmtel_call_theorems.proofs.Noninterference.TargetLookups.{DueLeads, StepLeads, due-leads, next-step-leads}
@@ -137,7 +142,8 @@ module _ (config : CallConfigView) (accounts : List AccountIdentity) (now : Snap
   refused_by-same caller service (Some m) cause c output = refl
 
   -- PRACK and UPDATE
-  named-same : (answer : Option ℕ) (x : OfferedAttempt) (key : TKey) (m : MessageView) (rack : Rack) (c : Call) (output : StepOutput) → on_named_prack config x key m rack answer c output ≡ on_named_prack far x key m rack answer c output
+  named-same : (answer : Option ℕ) (x : OfferedAttempt) (key : TKey) (m : MessageView) (rack : Rack) (c : Call) (output : StepOutput) →
+      on_named_prack config x key m rack answer c output ≡ on_named_prack far x key m rack answer c output
   unfolding copied_lines
   named-same None x key m rack c output = refl
   named-same (Some answer) x key m rack c output = refl
@@ -169,7 +175,8 @@ module _ (config : CallConfigView) (accounts : List AccountIdentity) (now : Snap
   unfolding copied_lines
   across-same x side key m c output = refl
 
-  update_at-same : (stage : Stage) (x : EstablishedLegs) (side : Side) (key : TKey) (m : MessageView) (c : Call) (output : StepOutput) → on_update_at stage config x side key m c output ≡ on_update_at stage far x side key m c output
+  update_at-same : (stage : Stage) (x : EstablishedLegs) (side : Side) (key : TKey) (m : MessageView) (c : Call) (output : StepOutput) →
+      on_update_at stage config x side key m c output ≡ on_update_at stage far x side key m c output
   update_at-same (Answered waiting success) x side key m c output = refl
   update_at-same (Departing waiting success) x side key m c output = refl
   update_at-same Stable x side key m c output = unless-flies (updating_side c.relayed) (on_stable_update config x side key m) (on_stable_update far x side key m) side key m c output (across-same x side key m c output)
@@ -181,11 +188,14 @@ module _ (config : CallConfigView) (accounts : List AccountIdentity) (now : Snap
       if-same (is_prack m) (on_prack_of side config x key m c output) (cond (is_update m) (on_update config x side key m c output) (step_result c (with_unlisted_response config c key m output)))
       (on_prack_of side far x key m c output) (cond (is_update m) (on_update far x side key m c output) (step_result c (with_unlisted_response far c key m output)))
       (prack-same side x key m c output)
-      (if-same (is_update m) (on_update config x side key m c output) (step_result c (with_unlisted_response config c key m output)) (on_update far x side key m c output) (step_result c (with_unlisted_response far c key m output)) (update-same x side key m c output) refl)
+      (if-same (is_update m) (on_update config x side key m c output) (step_result c (with_unlisted_response config c key m output)) (on_update far x side key m c output)
+      (step_result c (with_unlisted_response far c key m output)) (update-same x side key m c output) refl)
 
-  offered-received : (x : OfferedAttempt) (side : Side) (key : TKey) (m : MessageView) (c : Call) (output : StepOutput) → on_valid_request config now.at x side key m c output ≡ on_valid_request far now.at x side key m c output
+  offered-received : (x : OfferedAttempt) (side : Side) (key : TKey) (m : MessageView) (c : Call) (output : StepOutput) →
+      on_valid_request config now.at x side key m c output ≡ on_valid_request far now.at x side key m c output
   offered-received x Caller key m c output =
-      if-same (is_bye m) (on_caller_cancel config now.at x c (with_status_to config c key m 200 output)) (on_other config x Caller key m c output) (on_caller_cancel far now.at x c (with_status_to far c key m 200 output)) (on_other far x Caller key m c output)
+      if-same (is_bye m) (on_caller_cancel config now.at x c (with_status_to config c key m 200 output)) (on_other config x Caller key m c output)
+      (on_caller_cancel far now.at x c (with_status_to far c key m 200 output)) (on_other far x Caller key m c output)
       refl (offered-other x Caller key m c output)
   offered-received x Callee key m c output = offered-other x Callee key m c output
 
@@ -196,7 +206,8 @@ module _ (config : CallConfigView) (accounts : List AccountIdentity) (now : Snap
   numbered-same None rseq x key m code c output = refl
   numbered-same (Some own) rseq x key m code c output = refl
 
-  proceeding-same : (rseq : Option ℕ) (x : OfferedAttempt) (key : TKey) (m : MessageView) (code : ℕ) (c : Call) (output : StepOutput) → on_provisional_by rseq config now.at x key m code c output ≡ on_provisional_by rseq far now.at x key m code c output
+  proceeding-same : (rseq : Option ℕ) (x : OfferedAttempt) (key : TKey) (m : MessageView) (code : ℕ) (c : Call) (output : StepOutput) →
+      on_provisional_by rseq config now.at x key m code c output ≡ on_provisional_by rseq far now.at x key m code c output
   unfolding copied_lines
   proceeding-same None x key m code c output = refl
   proceeding-same (Some rseq) x key m code c output = numbered-same (own_rseq_for rseq x m c) rseq x key m code c output
@@ -207,7 +218,8 @@ module _ (config : CallConfigView) (accounts : List AccountIdentity) (now : Snap
   offered-request (Err fault) x side key m c output = refl
 
   -- once it is answered
-  invite-same : (stage : Stage) (x : EstablishedLegs) (side : Side) (key : TKey) (m : MessageView) (c : Call) (output : StepOutput) → on_invite stage config x side key m c output ≡ on_invite stage far x side key m c output
+  invite-same : (stage : Stage) (x : EstablishedLegs) (side : Side) (key : TKey) (m : MessageView) (c : Call) (output : StepOutput) →
+      on_invite stage config x side key m c output ≡ on_invite stage far x side key m c output
   unfolding copied_lines
   invite-same (Answered waiting success) x side key m c output = refl
   invite-same (Departing waiting success) x side key m c output = refl
@@ -221,12 +233,15 @@ module _ (config : CallConfigView) (accounts : List AccountIdentity) (now : Snap
   left-same Stable x side m c output = refl
   left-same (Reinviting asking q) x side m c output = refl
 
-  bye-same : (stage : Stage) (x : EstablishedLegs) (side : Side) (key : TKey) (m : MessageView) (c : Call) (output : StepOutput) → on_bye stage config now.at x side key m c output ≡ on_bye stage far now.at x side key m c output
+  bye-same : (stage : Stage) (x : EstablishedLegs) (side : Side) (key : TKey) (m : MessageView) (c : Call) (output : StepOutput) →
+      on_bye stage config now.at x side key m c output ≡ on_bye stage far now.at x side key m c output
   bye-same stage x side key m c output =
       if-same (has_departed stage side) (step_result c (with_status_to config c key m 481 output)) (after_bye_at stage config now.at x side m c (with_status_to config c key m 200 output))
-      (step_result c (with_status_to far c key m 481 output)) (after_bye_at stage far now.at x side m c (with_status_to far c key m 200 output)) refl (left-same stage x side m c (with_status_to config c key m 200 output))
+      (step_result c (with_status_to far c key m 481 output)) (after_bye_at stage far now.at x side m c (with_status_to far c key m 200 output)) refl
+      (left-same stage x side m c (with_status_to config c key m 200 output))
 
-  received-same : (stage : Stage) (x : EstablishedLegs) (side : Side) (key : TKey) (m : MessageView) (c : Call) (output : StepOutput) → on_valid_request_at stage config now.at x side key m c output ≡ on_valid_request_at stage far now.at x side key m c output
+  received-same : (stage : Stage) (x : EstablishedLegs) (side : Side) (key : TKey) (m : MessageView) (c : Call) (output : StepOutput) →
+      on_valid_request_at stage config now.at x side key m c output ≡ on_valid_request_at stage far now.at x side key m c output
   received-same stage x side key m c output =
       let acks : StepResult = cond (is_prack m) (on_refused_prack config key m c output) (step_result c (with_unlisted_response config c key m output)) in
       let far_acks : StepResult = cond (is_prack m) (on_refused_prack far key m c output) (step_result c (with_unlisted_response far c key m output)) in
@@ -257,7 +272,8 @@ module _ (config : CallConfigView) (accounts : List AccountIdentity) (now : Snap
   cancel-same Stable x invite c output = refl
   cancel-same (Reinviting asking q) x invite c output = refl
 
-  response-same : (stage : Stage) (x : EstablishedLegs) (key : TKey) (m : MessageView) (c : Call) (output : StepOutput) → on_response_at stage config now.at x key m c output ≡ on_response_at stage far now.at x key m c output
+  response-same : (stage : Stage) (x : EstablishedLegs) (key : TKey) (m : MessageView) (c : Call) (output : StepOutput) →
+      on_response_at stage config now.at x key m c output ≡ on_response_at stage far now.at x key m c output
   unfolding copied_lines
   response-same (Answered waiting success) x key m c output = refl
   response-same (Departing waiting success) x key m c output = refl
@@ -286,7 +302,8 @@ module _ (config : CallConfigView) (accounts : List AccountIdentity) (now : Snap
   answered-same at (Some t) key m c output = refl
 
   agreed-same : (kind : RelayedKind) (flight : RelayedTransaction) (m : MessageView) (c : Call) (output : StepOutput) →
-      on_accepted_in_flight kind config now.at flight.side flight.exchange.request m c (with_response_back config flight m c output) ≡ on_accepted_in_flight kind far now.at flight.side flight.exchange.request m c (with_response_back far flight m c output)
+      on_accepted_in_flight kind config now.at flight.side flight.exchange.request m c (with_response_back config flight m c output)
+      ≡ on_accepted_in_flight kind far now.at flight.side flight.exchange.request m c (with_response_back far flight m c output)
   unfolding copied_lines
   agreed-same Prack flight m c output = refl
   agreed-same Update flight m c output = refl
@@ -295,12 +312,14 @@ module _ (config : CallConfigView) (accounts : List AccountIdentity) (now : Snap
   unfolding copied_lines
   back-same flight m c output = refl
 
-  relayed-same : (place : ℕ) (o : Option RelayedTransaction) (m : MessageView) (code : ℕ) (c : Call) (output : StepOutput) → on_response_relayed config now.at m code place o c output ≡ on_response_relayed far now.at m code place o c output
+  relayed-same : (place : ℕ) (o : Option RelayedTransaction) (m : MessageView) (code : ℕ) (c : Call) (output : StepOutput) →
+      on_response_relayed config now.at m code place o c output ≡ on_response_relayed far now.at m code place o c output
   relayed-same place None m code c output = refl
   relayed-same place (Some flight) m code c output =
       let d : Call = without_transaction place c in
       if-same (nat_lt code 200) (step_result c output) (on_final_relayed config now.at flight m code d output) (step_result c output) (on_final_relayed far now.at flight m code d output) refl
-      (if-same (succeeds code) (on_accepted_in_flight flight.kind config now.at flight.side flight.exchange.request m d (with_response_back config flight m d output)) (step_result d (with_response_back config flight m d output))
+      (if-same (succeeds code) (on_accepted_in_flight flight.kind config now.at flight.side flight.exchange.request m d (with_response_back config flight m d output))
+      (step_result d (with_response_back config flight m d output))
       (on_accepted_in_flight flight.kind far now.at flight.side flight.exchange.request m d (with_response_back far flight m d output)) (step_result d (with_response_back far flight m d output))
       (agreed-same flight.kind flight m d output) (back-same flight m d output))
 
@@ -308,11 +327,13 @@ module _ (config : CallConfigView) (accounts : List AccountIdentity) (now : Snap
   in-flight-same None m c output = refl
   in-flight-same (Some place) m c output = relayed-same place (slice_get c.relayed place) m (status_of m.parsed.start) c output
 
-  answered_at-same : (o : Option ℕ) (key : TKey) (m : MessageView) (branch : List ℕ) (c : Call) (output : StepOutput) → on_response_answered_at config now.at key m branch o c output ≡ on_response_answered_at far now.at key m branch o c output
+  answered_at-same : (o : Option ℕ) (key : TKey) (m : MessageView) (branch : List ℕ) (c : Call) (output : StepOutput) →
+      on_response_answered_at config now.at key m branch o c output ≡ on_response_answered_at far now.at key m branch o c output
   answered_at-same None key m branch c output = in-flight-same (position (is_in_flight branch) c.relayed) m c output
   answered_at-same (Some at) key m branch c output = answered-same at (slice_get c.answered_invites at) key m c output
 
-  at-same : (o : Option ℕ) (key : TKey) (m : MessageView) (branch : List ℕ) (c : Call) (output : StepOutput) → on_other_response_at config now.at key m branch o c output ≡ on_other_response_at far now.at key m branch o c output
+  at-same : (o : Option ℕ) (key : TKey) (m : MessageView) (branch : List ℕ) (c : Call) (output : StepOutput) →
+      on_other_response_at config now.at key m branch o c output ≡ on_other_response_at far now.at key m branch o c output
   at-same None key m branch c output = answered_at-same (position (is_answered_invite branch) c.answered_invites) key m branch c output
   at-same (Some at) key m branch c output = abandoned-same at (slice_get c.abandoned at) key m c output
 
@@ -356,7 +377,8 @@ module _ (config : CallConfigView) (accounts : List AccountIdentity) (now : Snap
 
 -- ---- how a call continues
 
-module _ (records : List Sheet) (config : CallConfigView) (accounts : List AccountIdentity) (now : SnapshotView) (stand : RecordsCoverSnapshot records now) (lead : RecordsDivertEqually records config (record config { accounts = accounts })) where
+module _ (records : List Sheet) (config : CallConfigView) (accounts : List AccountIdentity) (now : SnapshotView) (stand : RecordsCoverSnapshot records now)
+    (lead : RecordsDivertEqually records config (record config { accounts = accounts })) where
   abbrev far2 : CallConfigView
   far2 = record config { accounts = accounts }
 
@@ -403,7 +425,8 @@ module _ (records : List Sheet) (config : CallConfigView) (accounts : List Accou
   reach_asked None found peer cause target o = stand.none
   reach_asked (Some account) found peer cause target o = stand.each account
 
-  by-same : (f g : Option Service → DueDiversionView → Call → StepOutput → StepResult) → DivertsSame f g → (served found : Option Account) (caller : Leg) (cause : Option ℕ) (target : Target) (c : Call) (output : StepOutput) →
+  by-same : (f g : Option Service → DueDiversionView → Call → StepOutput → StepResult) → DivertsSame f g →
+      (served found : Option Account) (caller : Leg) (cause : Option ℕ) (target : Target) (c : Call) (output : StepOutput) →
       step_by f config served found caller cause target c output ≡ step_by g far2 served found caller cause target c output
   by-same f g same served found caller cause target c output =
       let peer : Option Peer = peer_for config c.opening target in
@@ -429,7 +452,8 @@ module _ (records : List Sheet) (config : CallConfigView) (accounts : List Accou
 
   divert-same : (left : ℕ) (caller : Leg) → DivertsSame (divert left config now caller) (divert left far2 now caller)
   unfolding divert
-  divert-same zero caller service due c output e = unless-same (diversion_refusal 0 config now.at service due c) (call_refusal config now.at caller (too_many due.cause)) (call_refusal far2 now.at caller (too_many due.cause)) caller c output refl
+  divert-same zero caller service due c output e =
+      unless-same (diversion_refusal 0 config now.at service due c) (call_refusal config now.at caller (too_many due.cause)) (call_refusal far2 now.at caller (too_many due.cause)) caller c output refl
   divert-same (suc left) caller service due c output e =
       let next : Call = call_after_diversion (diversion_target config due) now.at left service due c in
       unless-same (diversion_refusal (suc left) config now.at service due c)
@@ -483,7 +507,8 @@ module _ (records : List Sheet) (config : CallConfigView) (accounts : List Accou
   end-same (EndDivert due) e caller service m c output = divert-same c.diversions.remaining caller service due c output e
   end-same (EndRefuse cause) e caller service m c output = refused_by-same config accounts now caller service m cause c output
 
-  goes-same : (x : OfferedAttempt) (how : AttemptEndView) (m : Option MessageView) (c : Call) (output : StepOutput) → RecordsCoverService records x.attempt.service → HowSame how → after_attempt config now x how m c output ≡ after_attempt far2 now x how m c output
+  goes-same : (x : OfferedAttempt) (how : AttemptEndView) (m : Option MessageView) (c : Call) (output : StepOutput) → RecordsCoverService records x.attempt.service → HowSame how →
+      after_attempt config now x how m c output ≡ after_attempt far2 now x how m c output
   goes-same x how m c output its e =
       end-same (decision_after c.opening now.at (is_diverted c) x.attempt.service how) (after-lookups (caller_facts c.opening now.at (is_diverted c)) (service_sheet x.attempt.service) how its e)
       x.caller x.attempt.service m _ output
@@ -518,14 +543,16 @@ module _ (records : List Sheet) (config : CallConfigView) (accounts : List Accou
       if-same (nat_lt code 101) (on_trying key x c output) (cond (nat_lt code 200) (on_provisional config now.at x key m code c output) (cond (nat_lt code 300) (on_answer config now.at x key m c output) failed_one))
       (on_trying key x c output) (cond (nat_lt code 200) (on_provisional far2 now.at x key m code c output) (cond (nat_lt code 300) (on_answer far2 now.at x key m c output) failed_other)) refl
       (if-same (nat_lt code 200) (on_provisional config now.at x key m code c output) (cond (nat_lt code 300) (on_answer config now.at x key m c output) failed_one)
-      (on_provisional far2 now.at x key m code c output) (cond (nat_lt code 300) (on_answer far2 now.at x key m c output) failed_other) (proceeding-same config accounts now (reliable_number config c.opening m) x key m code c output)
+      (on_provisional far2 now.at x key m code c output) (cond (nat_lt code 300) (on_answer far2 now.at x key m c output) failed_other)
+      (proceeding-same config accounts now (reliable_number config c.opening m) x key m code c output)
       (ap (λ (s : StepResult). cond (nat_lt code 300) (on_answer config now.at x key m c output) s)
       (goes-same x (end_by_final code (redirect_of m) x.attempt.rang) (Some m) c (with_final_ack config.sip key x.attempt.invite m.parsed output) its (final-lookups code (redirect_of m) x.attempt.rang e))))
 
   offered-timeout : (x : OfferedAttempt) (c : Call) (output : StepOutput) → RecordsCoverService records x.attempt.service → on_timeout config now x c output ≡ on_timeout far2 now x c output
   offered-timeout x c output its = ap (λ (s : StepResult). cond x.attempt.rang (step_result c output) s) (goes-same x (NotReachable 408) None c output its tt)
 
-  times-same : (x : OfferedAttempt) (how : AttemptEndView) (c : Call) (output : StepOutput) → RecordsCoverService records x.attempt.service → HowSame how → on_attempt_timeout config now x how c output ≡ on_attempt_timeout far2 now x how c output
+  times-same : (x : OfferedAttempt) (how : AttemptEndView) (c : Call) (output : StepOutput) → RecordsCoverService records x.attempt.service → HowSame how →
+      on_attempt_timeout config now x how c output ≡ on_attempt_timeout far2 now x how c output
   times-same x how c output its e = goes-same x how None (call_without_attempt x c) (with_attempt_cancel config x output) its e
 
   offered-due : (x : OfferedAttempt) (what : DueWord) (c : Call) (output : StepOutput) → RecordsCoverService records x.attempt.service → on_due config now x what c output ≡ on_due far2 now x what c output
@@ -537,7 +564,8 @@ module _ (records : List Sheet) (config : CallConfigView) (accounts : List Accou
 
   -- ---- by phase
 
-  in-response : (p : Phase) (key : TKey) (m : MessageView) (c : Call) (output : StepOutput) → ServedIn p records → PhaseRedirectsEqually p config far2 m → response_in p config now key m c output ≡ response_in p far2 now key m c output
+  in-response : (p : Phase) (key : TKey) (m : MessageView) (c : Call) (output : StepOutput) → ServedIn p records → PhaseRedirectsEqually p config far2 m →
+      response_in p config now key m c output ≡ response_in p far2 now key m c output
   in-response (Offered x) key m c output its e = offered-response x key m (status_of m.parsed.start) c output its e
   in-response (Established x stage) key m c output its e = response-same config accounts now stage x key m c output
   in-response (Detached detached) key m c output its e = refl
@@ -555,10 +583,12 @@ module _ (records : List Sheet) (config : CallConfigView) (accounts : List Accou
   in-due (Detached detached) what c output its = refl
   in-due (Over cause) what c output its = refl
 
-  to-answer : (o : Option (List ℕ)) (key : TKey) (m : MessageView) (c : Call) (output : StepOutput) → ServedIn c.phase records → ResponseRedirectsEqually o config far2 m c → on_response_to o config now key m c output ≡ on_response_to o far2 now key m c output
+  to-answer : (o : Option (List ℕ)) (key : TKey) (m : MessageView) (c : Call) (output : StepOutput) → ServedIn c.phase records → ResponseRedirectsEqually o config far2 m c →
+      on_response_to o config now key m c output ≡ on_response_to o far2 now key m c output
   to-answer None key m c output its e = refl
   to-answer (Some branch) key m c output its e =
-      if-where (is_current branch c) (response_in c.phase config now key m c output) (on_other_response config now.at key m branch c output) (response_in c.phase far2 now key m c output) (on_other_response far2 now.at key m branch c output)
+      if-where (is_current branch c) (response_in c.phase config now key m c output) (on_other_response config now.at key m branch c output) (response_in c.phase far2 now key m c output)
+      (on_other_response far2 now.at key m branch c output)
       (λ current. in-response c.phase key m c output its (e current)) (other-same config accounts now key m branch c output)
 
   to-timeout : (o : Option (List ℕ)) (c : Call) (output : StepOutput) → ServedIn c.phase records → on_timeout_of o config now c output ≡ on_timeout_of o far2 now c output
@@ -594,13 +624,16 @@ module _ (records : List Sheet) (config : CallConfigView) (accounts : List Accou
   step-same : (x : Signal) (c : Call) (output : StepOutput) → ServedIn c.phase records → StepRedirectsEqually config far2 x c → step config now x c output ≡ step far2 now x c output
   unfolding step
   step-same x c output its e =
-      if-same (leaves x c) (transition config now x (without_in_flight c) (output_after_dismissal config c output)) (transition config now x c output) (transition far2 now x (without_in_flight c) (output_after_dismissal far2 c output)) (transition far2 now x c output)
-      (transition-same x (without_in_flight c) (output_after_dismissal config c output) its (leads-still x c e) ∙ ap (λ (d : StepOutput). transition far2 now x (without_in_flight c) d) (dismissing-same config accounts c output))
+      if-same (leaves x c) (transition config now x (without_in_flight c) (output_after_dismissal config c output)) (transition config now x c output)
+      (transition far2 now x (without_in_flight c) (output_after_dismissal far2 c output)) (transition far2 now x c output)
+      (transition-same x (without_in_flight c) (output_after_dismissal config c output) its (leads-still x c e)
+      ∙ ap (λ (d : StepOutput). transition far2 now x (without_in_flight c) d) (dismissing-same config accounts c output))
       (transition-same x c output its e)
 
   -- ---- the opening
 
-  unrefused-same : (refusal : Option Cause) (caller : Leg) (c : Call) (output : StepOutput) → Same (initial_target c.opening) → unless_refused refusal config now caller c output ≡ unless_refused refusal far2 now caller c output
+  unrefused-same : (refusal : Option Cause) (caller : Leg) (c : Call) (output : StepOutput) → Same (initial_target c.opening) →
+      unless_refused refusal config now caller c output ≡ unless_refused refusal far2 now caller c output
   unrefused-same None caller c output e =
       target-same (divert c.diversions.remaining config now caller) (divert c.diversions.remaining far2 now caller) (divert-same c.diversions.remaining caller) caller None (initial_target c.opening) c output e
   unrefused-same (Some cause) caller c output e = refl
@@ -656,7 +689,8 @@ openings_see_lookups_alone records one other now a output equal lead stand e =
 
 -- ---- the end of a call of which a leg is detached
 
-finish_in : (config : CallConfigView) (accounts : List AccountIdentity) (at : ℕ) (p : Phase) (c : Call) (output : StepOutput) → finish_of_phase p config at c output ≡ finish_of_phase p (record config { accounts = accounts }) at c output
+finish_in : (config : CallConfigView) (accounts : List AccountIdentity) (at : ℕ) (p : Phase) (c : Call) (output : StepOutput) →
+    finish_of_phase p config at c output ≡ finish_of_phase p (record config { accounts = accounts }) at c output
 finish_in config accounts at (Offered x) c output = refl
 finish_in config accounts at (Established x stage) c output = refl
 finish_in config accounts at (Detached detached) c output = ap (λ (d : StepOutput). finish_of_detached config at detached (without_in_flight c) d) (dismissing-same config accounts c output)

@@ -15,7 +15,8 @@ use Rattle.mmtel_trust.proofs.Absorbed.{absorbed}
 use Rattle.mmtel_trust.proofs.Masked.{hidden_once, served_once, then_by}
 use Rattle.mmtel_trust.specs.ParsedMessage.{ParsedMessage}
 use Rattle.mmtel_trust.specs.Kinds.{kind_of}
-use Rattle.mmtel_trust.specs.PrivateFields.{AllEntries, Entries, MarkedEntries, NoEntries, PrivateFields, hidden_entries, hidden_uri, hide_if, masked_entries, masked_line, masked_lines, masked_value, private_fields_in, redirects, serve_if, unless_removed, with_name}
+use Rattle.mmtel_trust.specs.PrivateFields.{AllEntries, Entries, MarkedEntries, NoEntries, PrivateFields, hidden_entries, hidden_uri, hide_if, masked_entries}
+use Rattle.mmtel_trust.specs.PrivateFields.{masked_line, masked_lines, masked_value, private_fields_in, redirects, serve_if, unless_removed, with_name}
 use Rattle.mmtel_trust.specs.declared.kinds.HeaderKind.{HeaderKind}
 use Rattle.mmtel_trust.specs.declared.kinds.HeaderKind.TheVariants.{From, To, Contact, Asserted, Served, Privacy, History, Options, Session, Passed, Personal, Trusted, Other}
 use Rattle.mmtel_call_theorems.specs.Noninterference.PublicCall.{all_fields, public_request}
@@ -52,7 +53,8 @@ hide_contact : (c : Bool) (b : Bool) (v : List ℕ) → hide_if (cond c true tru
 hide_contact true b v = hide_absorbs b v
 hide_contact false b v = hide_absorbs b v
 
-kind_absorbs : (start : Start) (p : PrivateFields) (k : HeaderKind) (v : List ℕ) → then_by (masked_value (private_fields_in start all_fields) k) (masked_value (private_fields_in start p) k v) ≡ masked_value (private_fields_in start all_fields) k v
+kind_absorbs : (start : Start) (p : PrivateFields) (k : HeaderKind) (v : List ℕ) →
+    then_by (masked_value (private_fields_in start all_fields) k) (masked_value (private_fields_in start p) k v) ≡ masked_value (private_fields_in start all_fields) k v
 kind_absorbs start p From v = ap (λ (w : List ℕ). Some w) (hide_absorbs p.from v)
 kind_absorbs start p To v = ap (λ (w : List ℕ). Some w) (hide_to (is_request start) p.to v)
 kind_absorbs start p Contact v = ap (λ (w : List ℕ). Some w) (hide_contact (redirects start) (private_fields_in start p).contact v)
@@ -81,7 +83,9 @@ line_absorbs start p l = name_absorbs (private_fields_in start all_fields) l.0 (
 lines_absorb : (start : Start) (p : PrivateFields) (ls : List Line) → masked_lines (private_fields_in start all_fields) (masked_lines (private_fields_in start p) ls) ≡ masked_lines (private_fields_in start all_fields) ls
 lines_absorb start p ls = absorbed (masked_line (private_fields_in start p)) (masked_line (private_fields_in start all_fields)) (line_absorbs start p) ls
 
-lines_by : (b : Bool) (start : Start) (p : PrivateFields) (ls : List Line) → cond b (masked_lines (private_fields_in start all_fields) (cond b (masked_lines (private_fields_in start p) ls) ls)) (cond b (masked_lines (private_fields_in start p) ls) ls) ≡ cond b (masked_lines (private_fields_in start all_fields) ls) ls
+lines_by : (b : Bool) (start : Start) (p : PrivateFields) (ls : List Line) →
+    cond b (masked_lines (private_fields_in start all_fields) (cond b (masked_lines (private_fields_in start p) ls) ls)) (cond b (masked_lines (private_fields_in start p) ls) ls)
+    ≡ cond b (masked_lines (private_fields_in start all_fields) ls) ls
 lines_by true start p ls = lines_absorb start p ls
 lines_by false start p ls = refl
 

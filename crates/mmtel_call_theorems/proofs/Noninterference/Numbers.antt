@@ -101,7 +101,8 @@ unfolding response added_lines own_fields
 lines_same start ls ms r xs ys e =
     let last : List Line = line (codes "Content-Length") (decimal (length r.body)) in
     let contact : List Line = contact_lines r.code start r.contact in
-    behind (copied_lines r.source (tag_of_response r.code r.tag) ls) (copied_lines r.source (tag_of_response r.code r.tag) ms) _ _ (received_none r.source (tag_of_response r.code r.tag) ls) (received_none r.source (tag_of_response r.code r.tag) ms)
+    behind (copied_lines r.source (tag_of_response r.code r.tag) ls) (copied_lines r.source (tag_of_response r.code r.tag) ms) _ _ (received_none r.source (tag_of_response r.code r.tag) ls)
+    (received_none r.source (tag_of_response r.code r.tag) ms)
     (behind (route_lines r.code start ls) (route_lines r.code start ms) _ _ (routes_none r.code start ls) (routes_none r.code start ms)
     (after contact (xs ++ (r.named ++ last)) (ys ++ (r.named ++ last)) (own_same xs ys r.named last e)))
 

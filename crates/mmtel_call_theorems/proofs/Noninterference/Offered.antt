@@ -28,7 +28,8 @@ use Rattle.mmtel_call_theorems.specs.Noninterference.Roles.{Role, private_fields
 use Rattle.mmtel_call_theorems.specs.Noninterference.Transitions.{CancelsWhileOffered, RequestsWhileOffered}
 use Rattle.mmtel_call_theorems.specs.Noninterference.Observations.{EquivalentOutputs, EquivalentSteps, Trust, trust_of}
 use Rattle.mmtel_call_theorems.proofs.Noninterference.RelayedRequests.{prack-equivalent, prack_refused-equivalent, update-equivalent}
-use Rattle.mmtel_call_theorems.proofs.Noninterference.Transitions.{cancelled-equivalent, left_public, on-equivalent, over-equivalent-by, own-reply, refused_request-equivalent, status-equivalent, step-if, step-where, unlisted-equivalent}
+use Rattle.mmtel_call_theorems.proofs.Noninterference.Transitions.{cancelled-equivalent, left_public, on-equivalent, over-equivalent-by, own-reply}
+use Rattle.mmtel_call_theorems.proofs.Noninterference.Transitions.{refused_request-equivalent, status-equivalent, step-if, step-where, unlisted-equivalent}
 use Rattle.mmtel_call_theorems.proofs.Noninterference.Sent.{Heads}
 
 or_first : (b c : Bool) → b ≡ true → (b || c) ≡ true
@@ -72,7 +73,8 @@ module _ (heads : Heads) (config : CallConfigView) (keys : TKey → Bool) where
   updates-equivalent Caller who x key role m c one other is asked fits a = update-equivalent heads config keys who x Caller key role m c one other asked (fits (or_second (is_prack m) (is_update m) is)) a
   updates-equivalent Callee who x key role m c one other is asked fits a = update-equivalent heads config keys who x Callee key role m c one other asked (fits is) a
 
-  others-equivalent : (side : Side) (who : Identities2) (x : OfferedAttempt) (key : TKey) (role : Role) (m : MessageView) (c : Call) (one other : StepOutput) → IsFromOwnPeer T key m → FitsOffered c.opening x.attempt.service side m role →
+  others-equivalent : (side : Side) (who : Identities2) (x : OfferedAttempt) (key : TKey) (role : Role) (m : MessageView) (c : Call) (one other : StepOutput) → IsFromOwnPeer T key m →
+      FitsOffered c.opening x.attempt.service side m role →
       EquivalentOutputs T one other →
       EquivalentSteps T (on_other config (public_offered known x) side key (without_private role m) (public_call known who c) one) (on_other config x side key m c other)
   others-equivalent side who x key role m c one other asked fits a =
@@ -82,19 +84,23 @@ module _ (heads : Heads) (config : CallConfigView) (keys : TKey → Bool) where
       step-where T (is_prack m) (on_prack_of side config z key n d one) (cond (is_update m) (on_update config z side key n d one) (step_result d (with_unlisted_response config d key n one)))
       (on_prack_of side config x key m c other) (cond (is_update m) (on_update config x side key m c other) (step_result c (with_unlisted_response config c key m other)))
       (λ is. pracks-equivalent side who x key role m c one other is asked fits a)
-      (λ no. step-where T (is_update m) (on_update config z side key n d one) (step_result d (with_unlisted_response config d key n one)) (on_update config x side key m c other) (step_result c (with_unlisted_response config c key m other))
+      (λ no. step-where T (is_update m) (on_update config z side key n d one) (step_result d (with_unlisted_response config d key n one)) (on_update config x side key m c other)
+      (step_result c (with_unlisted_response config c key m other))
       (λ is. updates-equivalent side who x key role m c one other is asked fits a)
       (λ no. on-equivalent heads config keys who c (with_unlisted_response config d key n one) (with_unlisted_response config c key m other) (unlisted-equivalent heads config keys who c key role m one other asked a)))
 
-  received-equivalent : (who : Identities2) (at : ℕ) (x : OfferedAttempt) (side : Side) (key : TKey) (role : Role) (m : MessageView) (c : Call) (one other : StepOutput) → IsFromOwnPeer T c.opening.key c.opening.invite → IsFromOwnPeer T key m →
+  received-equivalent : (who : Identities2) (at : ℕ) (x : OfferedAttempt) (side : Side) (key : TKey) (role : Role) (m : MessageView) (c : Call) (one other : StepOutput) →
+      IsFromOwnPeer T c.opening.key c.opening.invite → IsFromOwnPeer T key m →
       FitsOffered c.opening x.attempt.service side m role → EquivalentOutputs T one other →
       EquivalentSteps T (on_valid_request config at (public_offered known x) side key (without_private role m) (public_call known who c) one) (on_valid_request config at x side key m c other)
   received-equivalent who at x Caller key role m c one other opening asked fits a =
       let d : Call = public_call known who c in
       let n : MessageView = without_private role m in
       let z : OfferedAttempt = public_offered known x in
-      step-if T (is_bye m) (on_caller_cancel config at z d (with_status_to config d key n 200 one)) (on_other config z Caller key n d one) (on_caller_cancel config at x c (with_status_to config c key m 200 other)) (on_other config x Caller key m c other)
-      (gives-up causes.Cancelled who at x c (with_status_to config d key n 200 one) (with_status_to config c key m 200 other) opening (own-reply heads config keys c key (private_fields role m.parsed) m 200 one other asked a))
+      step-if T (is_bye m) (on_caller_cancel config at z d (with_status_to config d key n 200 one)) (on_other config z Caller key n d one)
+      (on_caller_cancel config at x c (with_status_to config c key m 200 other)) (on_other config x Caller key m c other)
+      (gives-up causes.Cancelled who at x c (with_status_to config d key n 200 one) (with_status_to config c key m 200 other) opening
+      (own-reply heads config keys c key (private_fields role m.parsed) m 200 one other asked a))
       (others-equivalent Caller who x key role m c one other asked fits a)
   received-equivalent who at x Callee key role m c one other opening asked fits a = others-equivalent Callee who x key role m c one other asked fits a
 
@@ -106,9 +112,11 @@ module _ (heads : Heads) (config : CallConfigView) (keys : TKey → Bool) where
   request_by (Ok received) who at x Callee key role m c one other opening asked fits a =
       received-equivalent who at (attempt_after_request Callee m x) Callee key role m (record c { phase = Offered (attempt_after_request Callee m x) }) one other opening asked fits a
   request_by (Err fault) who at x side key role m c one other opening asked fits a =
-      on-equivalent heads config keys who c (with_refused_request config (public_call known who c) key (without_private role m) fault one) (with_refused_request config c key m fault other) (refused_request-equivalent heads config keys who c key role m fault one other asked a)
+      on-equivalent heads config keys who c (with_refused_request config (public_call known who c) key (without_private role m) fault one) (with_refused_request config c key m fault other)
+      (refused_request-equivalent heads config keys who c key role m fault one other asked a)
 
-  said_offered : (who : Identities2) (at : ℕ) (x : OfferedAttempt) (side : Side) (key : TKey) (role : Role) (m : MessageView) (c : Call) (one other : StepOutput) → IsFromOwnPeer T c.opening.key c.opening.invite → IsFromOwnPeer T key m →
+  said_offered : (who : Identities2) (at : ℕ) (x : OfferedAttempt) (side : Side) (key : TKey) (role : Role) (m : MessageView) (c : Call) (one other : StepOutput) →
+      IsFromOwnPeer T c.opening.key c.opening.invite → IsFromOwnPeer T key m →
       FitsOffered c.opening x.attempt.service side m role → EquivalentOutputs T one other →
       EquivalentSteps T (on_request config at (public_offered known x) side key (without_private role m) (public_call known who c) one) (on_request config at x side key m c other)
   said_offered who at x Caller key role m c one other opening asked fits a = request_by (offered_request_check x Caller m) who at x Caller key role m c one other opening asked fits a
@@ -116,14 +124,16 @@ module _ (heads : Heads) (config : CallConfigView) (keys : TKey → Bool) where
 
   -- ---- CANCEL
 
-  cancels_offered : (who : Identities2) (at : ℕ) (x : OfferedAttempt) (key : TKey) (role : Role) (m : MessageView) (invite : TKey) (c : Call) (one other : StepOutput) → IsFromOwnPeer T c.opening.key c.opening.invite → IsFromOwnPeer T key m →
+  cancels_offered : (who : Identities2) (at : ℕ) (x : OfferedAttempt) (key : TKey) (role : Role) (m : MessageView) (invite : TKey) (c : Call) (one other : StepOutput) →
+      IsFromOwnPeer T c.opening.key c.opening.invite → IsFromOwnPeer T key m →
       EquivalentOutputs T one other →
       EquivalentSteps T (on_cancel config at (public_offered known x) key (without_private role m) invite (public_call known who c) one) (on_cancel config at x key m invite c other)
   cancels_offered who at x key role m invite c one other opening asked a =
       let d : Call = public_call known who c in
       let n : MessageView = without_private role m in
       let b : EquivalentOutputs T (with_status_to config d key n 200 one) (with_status_to config c key m 200 other) = own-reply heads config keys c key (private_fields role m.parsed) m 200 one other asked a in
-      step-if T (invite.0 == c.opening.key.0) (on_caller_cancel config at (public_offered known x) d (with_status_to config d key n 200 one)) (step_result d (with_status_to config d key n 200 one)) (on_caller_cancel config at x c (with_status_to config c key m 200 other)) (step_result c (with_status_to config c key m 200 other))
+      step-if T (invite.0 == c.opening.key.0) (on_caller_cancel config at (public_offered known x) d (with_status_to config d key n 200 one)) (step_result d (with_status_to config d key n 200 one))
+      (on_caller_cancel config at x c (with_status_to config c key m 200 other)) (step_result c (with_status_to config c key m 200 other))
       (gives-up causes.Cancelled who at x c (with_status_to config d key n 200 one) (with_status_to config c key m 200 other) opening b)
       (on-equivalent heads config keys who c (with_status_to config d key n 200 one) (with_status_to config c key m 200 other) b)
 

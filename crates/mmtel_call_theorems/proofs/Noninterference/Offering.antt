@@ -77,7 +77,8 @@ module _ (heads : Heads) (config : CallConfigView) (keys : TKey → Bool) where
   abbrev known : Peer → Bool
   known = λ peer. trusts config peer
 
-  pub step-brings : (F G : StepOutput → StepResult) → ((out : List Emit) (y : StepOutput) → observations T out ≡ observations T y.out → EquivalentSteps T (F (with_out out y)) (G y)) → (x y : StepOutput) → EquivalentOutputs T x y → EquivalentSteps T (F x) (G y)
+  pub step-brings : (F G : StepOutput → StepResult) → ((out : List Emit) (y : StepOutput) → observations T out ≡ observations T y.out → EquivalentSteps T (F (with_out out y)) (G y)) →
+      (x y : StepOutput) → EquivalentOutputs T x y → EquivalentSteps T (F x) (G y)
   step-brings F G alike x y a = subst (λ (d : StepOutput). EquivalentSteps T (F d) (G y)) (sym (as_with T x y a)) (alike x.out y a.out)
 
   -- a request with other header fields that are copied
@@ -109,22 +110,34 @@ module _ (heads : Heads) (config : CallConfigView) (keys : TKey → Bool) where
     abbrev whole_lines : List Line
     whole_lines = attempt_lines config c.opening c.diversions service destination.peer
 
-    offer_call : public_part known (offered_with (public_call known who c) (public_leg known caller) (attempt_dialog_of (public_opening who c.opening) destination y)) ≡ public_part known (offered_with c caller (attempt_dialog_of c.opening destination y))
+    offer_call : public_part known (offered_with (public_call known who c) (public_leg known caller) (attempt_dialog_of (public_opening who c.opening) destination y))
+        ≡ public_part known (offered_with c caller (attempt_dialog_of c.opening destination y))
     offer_call =
         let d : Dialogue = attempt_dialog_of c.opening destination y in
         ap (λ (e : Dialogue). public_part known (offered_with (public_call known who c) (public_leg known caller) e)) (dialog_same who c.opening destination y)
-        ∙ (ap (λ (z : Call). record z { attempts = next_attempt c; acks = Acks.next_attempt c.acks; phase = Offered (record { caller = public_leg known (public_leg known caller); callee = public_callee known (callee_with d); attempt = public_attempt known (attempt_with d) }) }) (call_once known nobody who c)
-        ∙ ap (λ (l : Leg). record (public_part known c) { attempts = next_attempt c; acks = Acks.next_attempt c.acks; phase = Offered (record { caller = l; callee = public_callee known (callee_with d); attempt = public_attempt known (attempt_with d) }) }) (leg_again known caller))
+        ∙ (ap (λ (z : Call). record z {
+          attempts = next_attempt c;
+          acks = Acks.next_attempt c.acks;
+          phase = Offered (record { caller = public_leg known (public_leg known caller); callee = public_callee known (callee_with d); attempt = public_attempt known (attempt_with d) });
+        }) (call_once known nobody who c)
+        ∙ ap (λ (l : Leg). record (public_part known c) {
+          attempts = next_attempt c;
+          acks = Acks.next_attempt c.acks;
+          phase = Offered (record { caller = l; callee = public_callee known (callee_with d); attempt = public_attempt known (attempt_with d) });
+        }) (leg_again known caller))
 
-    offer_observed : observation T (emit.Ask destination.peer (invite_of (attempt_dialog_of (public_opening who c.opening) destination y) config.sip branch hidden_lines waiting c.opening.invite.parsed)) ≡ observation T (emit.Ask destination.peer (invite_of (attempt_dialog_of c.opening destination y) config.sip branch whole_lines waiting c.opening.invite.parsed))
+    offer_observed : observation T (emit.Ask destination.peer (invite_of (attempt_dialog_of (public_opening who c.opening) destination y) config.sip branch hidden_lines waiting c.opening.invite.parsed))
+        ≡ observation T (emit.Ask destination.peer (invite_of (attempt_dialog_of c.opening destination y) config.sip branch whole_lines waiting c.opening.invite.parsed))
     offer_observed =
         ap (λ (e : Dialogue). observation T (emit.Ask destination.peer (invite_of e config.sip branch hidden_lines waiting c.opening.invite.parsed))) (dialog_same who c.opening destination y)
-        ∙ notification-observed (attempt_dialog_of c.opening destination y) 1 (codes "INVITE") (relayed_parts config.sip branch [] c.opening.invite.parsed) (hidden_lines ++ alert_lines waiting) (whole_lines ++ alert_lines waiting)
+        ∙ notification-observed (attempt_dialog_of c.opening destination y) 1 (codes "INVITE") (relayed_parts config.sip branch [] c.opening.invite.parsed) (hidden_lines ++ alert_lines waiting)
+        (whole_lines ++ alert_lines waiting)
         (both_foreign hidden_lines (alert_lines waiting) (offered-foreign config (public_opening who c.opening) (public_diverted (masks_all c.opening) c.diversions) service destination.peer) (alert_foreign waiting))
         (both_foreign whole_lines (alert_lines waiting) (offered-foreign config c.opening c.diversions service destination.peer) (alert_foreign waiting))
         (λ strange. ap (λ (l : List Line). l ++ alert_lines waiting) (offered-same config who c.opening c.diversions service destination.peer (opens_fit c.opening.restricted) strange))
 
-    offer-by : (out : List Emit) → observations T out ≡ observations T y.out → EquivalentSteps T (attempt_start config at (public_leg known caller) service waiting destination (public_call known who c) (with_out out y)) (attempt_start config at caller service waiting destination c y)
+    offer-by : (out : List Emit) → observations T out ≡ observations T y.out → EquivalentSteps T
+        (attempt_start config at (public_leg known caller) service waiting destination (public_call known who c) (with_out out y)) (attempt_start config at caller service waiting destination c y)
     offer-by out s =
         let arm : Emit = emit.Arm c.opening.number (due.Cap (next_attempt c)) (at + max_attempt_time) in
         let ask : Emit = emit.Ask destination.peer (invite_of (attempt_dialog_of (public_opening who c.opening) destination y) config.sip branch hidden_lines waiting c.opening.invite.parsed) in
@@ -137,5 +150,6 @@ module _ (heads : Heads) (config : CallConfigView) (keys : TKey → Bool) where
   pub offer-alike : (who : Identities2) (at : ℕ) (caller : Leg) (service : Option Service) (waiting : Bool) (destination : Destination) (c : Call) (one other : StepOutput) → EquivalentOutputs T one other →
       EquivalentSteps T (attempt_start config at (public_leg known caller) service waiting destination (public_call known who c) one) (attempt_start config at caller service waiting destination c other)
   offer-alike who at caller service waiting destination c one other a =
-      step-brings (λ (d : StepOutput). attempt_start config at (public_leg known caller) service waiting destination (public_call known who c) d) (λ (d : StepOutput). attempt_start config at caller service waiting destination c d)
+      step-brings (λ (d : StepOutput). attempt_start config at (public_leg known caller) service waiting destination (public_call known who c) d)
+      (λ (d : StepOutput). attempt_start config at caller service waiting destination c d)
       (λ out y s. offer-by who at caller service waiting destination c y out s) one other a

@@ -100,7 +100,8 @@ history_of false m = entries_if m.parsed.trusted (is_request m.parsed.start) m.p
 
 received_same : (restricted : Bool) (m : MessageView) → masked_list m.parsed.wants.history (received_history (without_private (opening_role restricted) m)) ≡ masked_list m.parsed.wants.history (received_history m)
 received_same restricted m =
-    ap (λ (ok : Bool). masked_list m.parsed.wants.history (cond ok (without_private (opening_role restricted) m).parsed.history [])) (read_same m.parsed.trusted (private_fields (opening_role restricted) m.parsed) m.parsed)
+    ap (λ (ok : Bool). masked_list m.parsed.wants.history (cond ok (without_private (opening_role restricted) m).parsed.history []))
+    (read_same m.parsed.trusted (private_fields (opening_role restricted) m.parsed) m.parsed)
     ∙ listed_if (is_ok (entries_result (line_texts (codes "History-Info") m.parsed.lines))) m.parsed.wants.history (without_private (opening_role restricted) m).parsed.history m.parsed.history (history_of restricted m)
 
 received_counts : (restricted : Bool) (m : MessageView) → diversions_in (received_history (without_private (opening_role restricted) m)) ≡ diversions_in (received_history m)
@@ -115,7 +116,8 @@ opened_hidden p peer ls tag e =
     ap (λ (d : Dialogue). public_dialog_by true (with_remote d (remote_of Caller (masked_lines p ls)))) (dialogs p peer ls tag e)
     ∙ rw (tags p Caller ls, routes p Caller ls) (ap (λ (v : List ℕ). record (public_dialog_by true (opened_dialog peer ls tag)) { remote = v }) (hide_absorbs p.from (field (codes "From") ls)))
 
-opened_by : (b : Bool) (p : PrivateFields) (peer : Peer) (h : ParsedMessage) (tag : List ℕ) → is_request h.start ≡ true → public_dialog_by b (opened_dialog peer (hidden_by b p h).lines tag) ≡ public_dialog_by b (opened_dialog peer h.lines tag)
+opened_by : (b : Bool) (p : PrivateFields) (peer : Peer) (h : ParsedMessage) (tag : List ℕ) → is_request h.start ≡ true →
+    public_dialog_by b (opened_dialog peer (hidden_by b p h).lines tag) ≡ public_dialog_by b (opened_dialog peer h.lines tag)
 opened_by true p peer h tag asked = opened_hidden (private_fields_in h.start p) peer h.lines tag (request_to p h.start asked)
 opened_by false p peer h tag asked = refl
 
@@ -130,16 +132,20 @@ module _ (heads : Heads) (law : VerdictsDependOnMatches) (records : List Sheet) 
   abbrev starts : Leg → Call → StepOutput → StepResult
   starts caller c output = unless_refused (opening_refusal config now.at c.opening) config now caller c (with_status_to_caller config c 100 output)
 
-  refusal-equivalent : (refusal : Option Cause) (caller : Leg) (who : Identities2) (c : Call) (one other : StepOutput) → IsFromOwnPeer T c.opening.key c.opening.invite → AreDecidedEqually records who c.opening.identities → EquivalentOutputs T one other →
+  refusal-equivalent : (refusal : Option Cause) (caller : Leg) (who : Identities2) (c : Call) (one other : StepOutput) → IsFromOwnPeer T c.opening.key c.opening.invite →
+      AreDecidedEqually records who c.opening.identities → EquivalentOutputs T one other →
       EquivalentSteps T (unless_refused refusal config now (public_leg known caller) (public_call known who c) one) (unless_refused refusal config now caller c other)
   refusal-equivalent None caller who c one other asked alike a =
-      target-equivalent heads law records config keys now stand (divert c.diversions.remaining config now (public_leg known caller)) (divert c.diversions.remaining config now caller) (divert-alike heads law records config keys now stand c.diversions.remaining caller) who caller None (initial_target c.opening) c one other asked alike a
+      target-equivalent heads law records config keys now stand (divert c.diversions.remaining config now (public_leg known caller)) (divert c.diversions.remaining config now caller)
+      (divert-alike heads law records config keys now stand c.diversions.remaining caller) who caller None (initial_target c.opening) c one other asked alike a
   refusal-equivalent (Some cause) caller who c one other asked alike a = refuses-equivalent heads law records config keys now stand who now.at caller cause c one other asked a
 
-  starts-equivalent : (caller : Leg) (who : Identities2) (c : Call) (one other : StepOutput) → IsFromOwnPeer T c.opening.key c.opening.invite → AreDecidedEqually records who c.opening.identities → EquivalentOutputs T one other →
+  starts-equivalent : (caller : Leg) (who : Identities2) (c : Call) (one other : StepOutput) → IsFromOwnPeer T c.opening.key c.opening.invite → AreDecidedEqually records who c.opening.identities →
+      EquivalentOutputs T one other →
       EquivalentSteps T (starts (public_leg known caller) (public_call known who c) one) (starts caller c other)
   starts-equivalent caller who c one other asked alike a =
-      refusal-equivalent (opening_refusal config now.at c.opening) caller who c (with_status_to_caller config (public_call known who c) 100 one) (with_status_to_caller config c 100 other) asked alike (status-equivalent heads config keys who c 100 one other asked a)
+      refusal-equivalent (opening_refusal config now.at c.opening) caller who c (with_status_to_caller config (public_call known who c) 100 one) (with_status_to_caller config c 100 other) asked alike
+      (status-equivalent heads config keys who c 100 one other asked a)
 
   module _ (who : Identities2) (o : Opening) (asked : IsFromOwnPeer T o.key o.invite) where
     abbrev hidden_call : Call
@@ -150,8 +156,11 @@ module _ (heads : Heads) (law : VerdictsDependOnMatches) (records : List Sheet) 
 
     new_same : public_call known who hidden_call ≡ public_call known who whole_call
     new_same =
-        ap (λ (h : List Entry). record (public_call known who hidden_call) { diversions = record (public_call known who hidden_call).diversions { history = h } }) (received_same o.restricted o.invite ∙ sym (masked_once (masks_all o) (received_history o.invite)))
-        ∙ (ap (λ (n : ℕ). record (public_call known who (public_call known who whole_call)) { diversions = record (public_call known who (public_call known who whole_call)).diversions { remaining = config.bound - n; count = n } }) (received_counts o.restricted o.invite)
+        ap (λ (h : List Entry). record (public_call known who hidden_call) { diversions = record (public_call known who hidden_call).diversions { history = h } })
+        (received_same o.restricted o.invite ∙ sym (masked_once (masks_all o) (received_history o.invite)))
+        ∙ (ap (λ (n : ℕ). record (public_call known who (public_call known who whole_call)) {
+          diversions = record (public_call known who (public_call known who whole_call)).diversions { remaining = config.bound - n; count = n };
+        }) (received_counts o.restricted o.invite)
         ∙ call_once known who who whole_call)
 
     leg_same : public_leg known (caller_of now.at hidden_call) ≡ public_leg known (caller_of now.at whole_call)
@@ -160,7 +169,8 @@ module _ (heads : Heads) (law : VerdictsDependOnMatches) (records : List Sheet) 
         ap (λ (b : Bool). public_dialog_by (known o.invite.peer) (opened_dialog o.invite.peer (hidden_by b (private_fields (opening_role o.restricted) o.invite.parsed) o.invite.parsed).lines o.tag)) asked.trusted
         ∙ opened_by (known o.invite.peer) (private_fields (opening_role o.restricted) o.invite.parsed) o.invite.peer o.invite.parsed o.tag asked.request)
 
-    begins-equivalent : AreDecidedEqually records who o.identities → (one other : StepOutput) → EquivalentOutputs T one other → EquivalentSteps T (opening_step config now hidden_call one) (opening_step config now whole_call other)
+    begins-equivalent : AreDecidedEqually records who o.identities → (one other : StepOutput) → EquivalentOutputs T one other →
+        EquivalentSteps T (opening_step config now hidden_call one) (opening_step config now whole_call other)
     begins-equivalent alike one other a =
         let k : Leg = caller_of now.at hidden_call in
         let l : Leg = caller_of now.at whole_call in
@@ -177,8 +187,10 @@ module _ (heads : Heads) (law : VerdictsDependOnMatches) (records : List Sheet) 
       EquivalentSteps T (call_after_opening config now (public_arrival now who a) one) (call_after_opening config now a other)
   unfolding call_after_opening
   opened-alike who a one other asked alike d =
-      step-brings heads config keys (λ (y : StepOutput). opening_step config now (new_call config (public_opening who (opening_of config now (token y) a))) (after_draw y)) (λ (y : StepOutput). opening_step config now (new_call config (opening_of config now (token y) a)) (after_draw y))
-      (λ out y s. begins-equivalent who (opening_of config now (token y) a) (record { request = asked.request; trusted = asked.trusted; known = asked.known }) alike (with_out out (after_draw y)) (after_draw y) (record { tokens = refl; rows = refl; out = s })) one other d
+      step-brings heads config keys (λ (y : StepOutput). opening_step config now (new_call config (public_opening who (opening_of config now (token y) a))) (after_draw y))
+      (λ (y : StepOutput). opening_step config now (new_call config (opening_of config now (token y) a)) (after_draw y))
+      (λ out y s. begins-equivalent who (opening_of config now (token y) a) (record { request = asked.request; trusted = asked.trusted; known = asked.known }) alike (with_out out (after_draw y))
+      (after_draw y) (record { tokens = refl; rows = refl; out = s })) one other d
 
 pub openings_see_public_parts : Heads → VerdictsDependOnMatches → OpeningsSeePublicParts
 openings_see_public_parts heads law records config keys now who a one other asked alike stand d = opened-alike heads law records config keys now stand who a one other asked alike d

@@ -45,7 +45,8 @@ module _ (known : Peer → Bool) where
         found (public_answered known) (is_answered_invite branch) (λ t. refl) c.answered_invites,
         found (public_relayed known) (is_in_flight branch) (λ flight. refl) c.relayed,
       )
-      (ap (λ (b : Bool). b || (is_some (position (is_of_branch branch) c.abandoned) || (is_some (position (is_answered_invite branch) c.answered_invites) || is_some (position (is_in_flight branch) c.relayed)))) (branch_same branch c.phase))
+      (ap (λ (b : Bool). b || (is_some (position (is_of_branch branch) c.abandoned) || (is_some (position (is_answered_invite branch) c.answered_invites) || is_some (position (is_in_flight branch) c.relayed))))
+      (branch_same branch c.phase))
 
   received_same : (who : Identities2) (key : TKey) (c : Call) → has_received key (public_call known who c) ≡ has_received key c
   unfolding has_received

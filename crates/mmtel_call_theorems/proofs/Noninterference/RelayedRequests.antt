@@ -40,7 +40,8 @@ use Rattle.mmtel_call.specs.declared.calls.Phase.TheVariants.{Offered}
 use Rattle.mmtel_call.specs.declared.calls.Stage.{Stage}
 use Rattle.mmtel_call.specs.declared.calls.Stage.TheVariants.{Answered, Departing, Reinviting, Stable}
 use Rattle.mmtel_call.specs.declared.calls.OfferedAttempt.{OfferedAttempt}
-use Rattle.mmtel_call_theorems.specs.Noninterference.PublicCall.{nobody, public_call, public_dialog, public_diverted, public_established, public_leg, public_offered, public_opening, public_part, public_relayed, public_request, public_stage}
+use Rattle.mmtel_call_theorems.specs.Noninterference.PublicCall.{nobody, public_call, public_dialog, public_diverted, public_established, public_leg}
+use Rattle.mmtel_call_theorems.specs.Noninterference.PublicCall.{public_offered, public_opening, public_part, public_relayed, public_request, public_stage}
 use Rattle.mmtel_call_theorems.specs.Noninterference.Premises.{Fits, IsFromOwnPeer}
 use Rattle.mmtel_call_theorems.specs.Noninterference.Roles.{Role, private_fields, without_private}
 use Rattle.mmtel_call_theorems.specs.Noninterference.Observations.{EquivalentOutputs, EquivalentSteps, Trust, trust_of}
@@ -92,7 +93,8 @@ module _ (heads : Heads) (config : CallConfigView) (keys : TKey → Bool) where
 
   -- ---- PRACK
 
-  pub settled-equivalent : (who : Identities2) (own : Option ℕ) (c : Call) (one other : StepOutput) → EquivalentOutputs T one other → EquivalentOutputs T (with_settled config own (public_call known who c) one) (with_settled config own c other)
+  pub settled-equivalent : (who : Identities2) (own : Option ℕ) (c : Call) (one other : StepOutput) → EquivalentOutputs T one other →
+      EquivalentOutputs T (with_settled config own (public_call known who c) one) (with_settled config own c other)
   settled-equivalent who own c one other a =
       if-equivalent T config.reliable (with_emit (emit.Settled c.opening.key own) one) one (with_emit (emit.Settled c.opening.key own) other) other
       (emitted-equivalent T (emit.Settled c.opening.key own) (emit.Settled c.opening.key own) one other refl a) a
@@ -100,10 +102,12 @@ module _ (heads : Heads) (config : CallConfigView) (keys : TKey → Bool) where
   pub prack_refused-equivalent : (who : Identities2) (key : TKey) (role : Role) (m : MessageView) (c : Call) (one other : StepOutput) → IsFromOwnPeer T key m → EquivalentOutputs T one other →
       EquivalentSteps T (on_refused_prack config key (without_private role m) (public_call known who c) one) (on_refused_prack config key m c other)
   prack_refused-equivalent who key role m c one other asked a =
-      on-equivalent heads config keys who c (with_status_to config (public_call known who c) key (without_private role m) (status_of_refusal (rack_in m)) one) (with_status_to config c key m (status_of_refusal (rack_in m)) other)
+      on-equivalent heads config keys who c (with_status_to config (public_call known who c) key (without_private role m) (status_of_refusal (rack_in m)) one)
+      (with_status_to config c key m (status_of_refusal (rack_in m)) other)
       (own-reply heads config keys c key (private_fields role m.parsed) m (status_of_refusal (rack_in m)) one other asked a)
 
-  across-equivalent : (who : Identities2) (x : OfferedAttempt) (key : TKey) (role : Role) (m : MessageView) (rack : Rack) (answer : ℕ) (c : Call) (one other : StepOutput) → Fits c.opening x.attempt.service Caller m role → EquivalentOutputs T one other →
+  across-equivalent : (who : Identities2) (x : OfferedAttempt) (key : TKey) (role : Role) (m : MessageView) (rack : Rack) (answer : ℕ) (c : Call) (one other : StepOutput) →
+      Fits c.opening x.attempt.service Caller m role → EquivalentOutputs T one other →
       EquivalentSteps T (after_prack_across config (public_offered known x) key (without_private role m) rack answer (public_call known who c) one) (after_prack_across config x key m rack answer c other)
   across-equivalent who x key role m rack answer c one other fits a =
       let leg : Leg = x.callee.leg in
@@ -119,7 +123,8 @@ module _ (heads : Heads) (config : CallConfigView) (keys : TKey → Bool) where
         call = flown who (record c { acks = after_ack rack c.acks; phase = Offered (attempt_after_early_request (codes "PRACK") x) })
             (relayed_transaction_of Prack Caller key n (leg_after_request (codes "PRACK") (public_leg known leg)) one) (relayed_transaction_of Prack Caller key m (leg_after_request (codes "PRACK") leg) other)
             (relayed_same Prack Caller key role m (leg_after_request (codes "PRACK") leg) one other a);
-        output = asked_for-equivalent heads T config.sip (codes "PRACK") leg.dialogue (hidden ++ acks) (whole ++ acks) m.parsed (with_settled config (Some rack.answer) (public_call known who c) one) (with_settled config (Some rack.answer) c other)
+        output = asked_for-equivalent heads T config.sip (codes "PRACK") leg.dialogue (hidden ++ acks) (whole ++ acks) m.parsed (with_settled config (Some rack.answer) (public_call known who c) one)
+            (with_settled config (Some rack.answer) c other)
             (both_foreign hidden acks (copied-foreign config o v service Caller peer n) (line_foreign (codes "RAck") _ refl))
             (both_foreign whole acks (copied-foreign config c.opening c.diversions service Caller peer m) (line_foreign (codes "RAck") _ refl))
             (λ strange. ap (λ (l : List Line). l ++ acks) (copied-same config who c.opening c.diversions service Caller peer role m fits strange))
@@ -132,20 +137,23 @@ module _ (heads : Heads) (config : CallConfigView) (keys : TKey → Bool) where
   named-equivalent None who x key role m rack c one other asked fits a = prack_refused-equivalent who key role m c one other asked a
   named-equivalent (Some answer) who x key role m rack c one other asked fits a = across-equivalent who x key role m rack answer c one other fits a
 
-  rack-equivalent : (o : Option Rack) (who : Identities2) (x : OfferedAttempt) (key : TKey) (role : Role) (m : MessageView) (c : Call) (one other : StepOutput) → IsFromOwnPeer T key m → Fits c.opening x.attempt.service Caller m role →
+  rack-equivalent : (o : Option Rack) (who : Identities2) (x : OfferedAttempt) (key : TKey) (role : Role) (m : MessageView) (c : Call) (one other : StepOutput) → IsFromOwnPeer T key m →
+      Fits c.opening x.attempt.service Caller m role →
       EquivalentOutputs T one other →
       EquivalentSteps T (on_rack config (public_offered known x) key (without_private role m) o (public_call known who c) one) (on_rack config x key m o c other)
   rack-equivalent None who x key role m c one other asked fits a = prack_refused-equivalent who key role m c one other asked a
   rack-equivalent (Some rack) who x key role m c one other asked fits a = named-equivalent (named_rseq x c rack) who x key role m rack c one other asked fits a
 
-  pub prack-equivalent : (who : Identities2) (x : OfferedAttempt) (key : TKey) (role : Role) (m : MessageView) (c : Call) (one other : StepOutput) → IsFromOwnPeer T key m → Fits c.opening x.attempt.service Caller m role → EquivalentOutputs T one other →
+  pub prack-equivalent : (who : Identities2) (x : OfferedAttempt) (key : TKey) (role : Role) (m : MessageView) (c : Call) (one other : StepOutput) → IsFromOwnPeer T key m →
+      Fits c.opening x.attempt.service Caller m role → EquivalentOutputs T one other →
       EquivalentSteps T (on_prack config (public_offered known x) key (without_private role m) (public_call known who c) one) (on_prack config x key m c other)
   prack-equivalent who x key role m c one other asked fits a = rack-equivalent (rack_in m) who x key role m c one other asked fits a
 
   -- ---- UPDATE
 
   -- it is relayed to the other side
-  flies-equivalent : (who : Identities2) (service : Option Service) (side : Side) (leg : Leg) (key : TKey) (role : Role) (m : MessageView) (c : Call) (one other : StepOutput) → Fits c.opening service side m role → EquivalentOutputs T one other →
+  flies-equivalent : (who : Identities2) (service : Option Service) (side : Side) (leg : Leg) (key : TKey) (role : Role) (m : MessageView) (c : Call) (one other : StepOutput) →
+      Fits c.opening service side m role → EquivalentOutputs T one other →
       EquivalentSteps T (after_update_relay config service side (public_leg known leg) key (without_private role m) (public_call known who c) one) (after_update_relay config service side leg key m c other)
   flies-equivalent who service side leg key role m c one other fits a =
       let peer : Peer = leg.dialogue.peer in
@@ -153,7 +161,8 @@ module _ (heads : Heads) (config : CallConfigView) (keys : TKey → Bool) where
       let o : Opening = public_opening who c.opening in
       let v = public_diverted (masks_all c.opening) c.diversions in
       record {
-        call = flown who c (relayed_transaction_of Update side key n (leg_after_request (codes "UPDATE") (public_leg known leg)) one) (relayed_transaction_of Update side key m (leg_after_request (codes "UPDATE") leg) other)
+        call = flown who c (relayed_transaction_of Update side key n (leg_after_request (codes "UPDATE") (public_leg known leg)) one)
+            (relayed_transaction_of Update side key m (leg_after_request (codes "UPDATE") leg) other)
             (relayed_same Update side key role m (leg_after_request (codes "UPDATE") leg) one other a);
         output = asked_for-equivalent heads T config.sip (codes "UPDATE") leg.dialogue (copied_lines config o v service side peer n) (copied_lines config c.opening c.diversions service side peer m) m.parsed one other
             (copied-foreign config o v service side peer n) (copied-foreign config c.opening c.diversions service side peer m)
@@ -173,7 +182,8 @@ module _ (heads : Heads) (config : CallConfigView) (keys : TKey → Bool) where
       (own-reply heads config keys c key (private_fields role m.parsed) m 491 one other asked a)
 
   -- unless one is in flight
-  unless-equivalent : (o : Option Side) (f g : Call → StepOutput → StepResult) (who : Identities2) (side : Side) (key : TKey) (role : Role) (m : MessageView) (c : Call) (one other : StepOutput) → IsFromOwnPeer T key m → EquivalentOutputs T one other →
+  unless-equivalent : (o : Option Side) (f g : Call → StepOutput → StepResult) (who : Identities2) (side : Side) (key : TKey) (role : Role) (m : MessageView) (c : Call) (one other : StepOutput) →
+      IsFromOwnPeer T key m → EquivalentOutputs T one other →
       EquivalentSteps T (f (public_call known who c) one) (g c other) →
       EquivalentSteps T (unless_updating o f config side key (without_private role m) (public_call known who c) one) (unless_updating o g config side key m c other)
   unless-equivalent None f g who side key role m c one other asked a goes = goes
@@ -188,22 +198,28 @@ module _ (heads : Heads) (config : CallConfigView) (keys : TKey → Bool) where
   side_same (Some flight) = refl
 
   updating_same : (fs : List RelayedTransaction) → updating_side (map (public_relayed known) fs) ≡ updating_side fs
-  updating_same fs = ap (λ (o : Option RelayedTransaction). option_map (λ (flight : RelayedTransaction). flight.side) o) (first_found (public_relayed known) is_updating (λ flight. refl) fs) ∙ side_same (find is_updating fs)
+  updating_same fs = ap (λ (o : Option RelayedTransaction). option_map (λ (flight : RelayedTransaction). flight.side) o) (first_found (public_relayed known) is_updating (λ flight. refl) fs)
+      ∙ side_same (find is_updating fs)
 
-  unless_in-flight-equivalent : (f g : Call → StepOutput → StepResult) (who : Identities2) (side : Side) (key : TKey) (role : Role) (m : MessageView) (c : Call) (one other : StepOutput) → IsFromOwnPeer T key m → EquivalentOutputs T one other →
+  unless_in-flight-equivalent : (f g : Call → StepOutput → StepResult) (who : Identities2) (side : Side) (key : TKey) (role : Role) (m : MessageView) (c : Call) (one other : StepOutput) →
+      IsFromOwnPeer T key m → EquivalentOutputs T one other →
       EquivalentSteps T (f (public_call known who c) one) (g c other) →
-      EquivalentSteps T (unless_updating (updating_side (public_call known who c).relayed) f config side key (without_private role m) (public_call known who c) one) (unless_updating (updating_side c.relayed) g config side key m c other)
+      EquivalentSteps T (unless_updating (updating_side (public_call known who c).relayed) f config side key (without_private role m) (public_call known who c) one)
+      (unless_updating (updating_side c.relayed) g config side key m c other)
   unless_in-flight-equivalent f g who side key role m c one other asked a goes =
-      subst (λ (o : Option Side). EquivalentSteps T (unless_updating o f config side key (without_private role m) (public_call known who c) one) (unless_updating (updating_side c.relayed) g config side key m c other)) (sym (updating_same c.relayed))
+      subst (λ (o : Option Side). EquivalentSteps T (unless_updating o f config side key (without_private role m) (public_call known who c) one) (unless_updating (updating_side c.relayed) g config side key m c other))
+      (sym (updating_same c.relayed))
       (unless-equivalent (updating_side c.relayed) f g who side key role m c one other asked a goes)
 
   -- of an offered call
-  early-equivalent : (who : Identities2) (x : OfferedAttempt) (side : Side) (key : TKey) (role : Role) (m : MessageView) (c : Call) (one other : StepOutput) → Fits c.opening x.attempt.service side m role → EquivalentOutputs T one other →
+  early-equivalent : (who : Identities2) (x : OfferedAttempt) (side : Side) (key : TKey) (role : Role) (m : MessageView) (c : Call) (one other : StepOutput) →
+      Fits c.opening x.attempt.service side m role → EquivalentOutputs T one other →
       EquivalentSteps T (on_early_update config (public_offered known x) side key (without_private role m) (public_call known who c) one) (on_early_update config x side key m c other)
   early-equivalent who x Caller key role m c one other fits a = flies-equivalent who x.attempt.service Caller x.callee.leg key role m (record c { phase = Offered (attempt_after_update Caller x) }) one other fits a
   early-equivalent who x Callee key role m c one other fits a = flies-equivalent who x.attempt.service Callee x.caller key role m (record c { phase = Offered (attempt_after_update Callee x) }) one other fits a
 
-  pub update-equivalent : (who : Identities2) (x : OfferedAttempt) (side : Side) (key : TKey) (role : Role) (m : MessageView) (c : Call) (one other : StepOutput) → IsFromOwnPeer T key m → Fits c.opening x.attempt.service side m role →
+  pub update-equivalent : (who : Identities2) (x : OfferedAttempt) (side : Side) (key : TKey) (role : Role) (m : MessageView) (c : Call) (one other : StepOutput) → IsFromOwnPeer T key m →
+      Fits c.opening x.attempt.service side m role →
       EquivalentOutputs T one other →
       EquivalentSteps T (on_update config (public_offered known x) side key (without_private role m) (public_call known who c) one) (on_update config x side key m c other)
   update-equivalent who x side key role m c one other asked fits a =
@@ -216,14 +232,16 @@ module _ (heads : Heads) (config : CallConfigView) (keys : TKey → Bool) where
       (later-equivalent who key role m c one other asked a)
 
   -- of one that was answered
-  stable-equivalent : (who : Identities2) (x : EstablishedLegs) (side : Side) (key : TKey) (role : Role) (m : MessageView) (c : Call) (one other : StepOutput) → Fits c.opening x.service side m role → EquivalentOutputs T one other →
+  stable-equivalent : (who : Identities2) (x : EstablishedLegs) (side : Side) (key : TKey) (role : Role) (m : MessageView) (c : Call) (one other : StepOutput) → Fits c.opening x.service side m role →
+      EquivalentOutputs T one other →
       EquivalentSteps T (on_stable_update config (public_established known x) side key (without_private role m) (public_call known who c) one) (on_stable_update config x side key m c other)
   stable-equivalent who x Caller key role m c one other fits a =
       flies-equivalent who x.service Caller x.callee key role m (at_stage (with_leg Callee (leg_after_request (codes "UPDATE") x.callee) x) Stable c) one other fits a
   stable-equivalent who x Callee key role m c one other fits a =
       flies-equivalent who x.service Callee x.caller key role m (at_stage (with_leg Caller (leg_after_request (codes "UPDATE") x.caller) x) Stable c) one other fits a
 
-  pub update_at-equivalent : (stage : Stage) (who : Identities2) (x : EstablishedLegs) (side : Side) (key : TKey) (role : Role) (m : MessageView) (c : Call) (one other : StepOutput) → IsFromOwnPeer T key m → Fits c.opening x.service side m role →
+  pub update_at-equivalent : (stage : Stage) (who : Identities2) (x : EstablishedLegs) (side : Side) (key : TKey) (role : Role) (m : MessageView) (c : Call) (one other : StepOutput) →
+      IsFromOwnPeer T key m → Fits c.opening x.service side m role →
       EquivalentOutputs T one other →
       EquivalentSteps T (on_update_at (public_stage known stage) config (public_established known x) side key (without_private role m) (public_call known who c) one) (on_update_at stage config x side key m c other)
   update_at-equivalent (Answered waiting success) who x side key role m c one other asked fits a = crosses-equivalent who key role m c one other asked a

@@ -6,7 +6,8 @@ use Rattle.mmtel_compose.specs.Responses.{own_response, relayed_response, relaye
 use Rattle.mmtel_compose.specs.Requests.{bare_parts, cancel_of, final_ack_of, relayed_parts, own_parts as giving}
 use Rattle.mmtel_compose.specs.ReceivedMessages.{MessageView}
 use Rattle.mmtel_output.specs.Outputs.{after_draw, token, with_emit}
-use Rattle.mmtel_output.specs.Sending.{ack_text, relayed_ack_text, with_ack, with_cancel, with_final_ack, with_own_request, with_relayed_ack, with_relayed_request, with_relayed_response, with_response, with_status_response}
+use Rattle.mmtel_output.specs.Sending.{ack_text, relayed_ack_text, with_ack, with_cancel, with_final_ack, with_own_request}
+use Rattle.mmtel_output.specs.Sending.{with_relayed_ack, with_relayed_request, with_relayed_response, with_response, with_status_response}
 use Rattle.mmtel_output.specs.declared.outputs.StepOutput.{StepOutput}
 use Rattle.mmtel_output.specs.declared.sent_invites.SentInvite.{SentInvite}
 use Rattle.mmtel_leg.specs.Remotes.{field}
@@ -58,7 +59,8 @@ pub as_with : (t : Trust) (x y : StepOutput) → EquivalentOutputs t x y → x �
 as_with t x y a = rw (sym a.tokens, sym a.rows) refl
 
 -- an operation with the same observable output for outputs that differ in what was sent has it for any indistinguishable outputs
-pub brings : (t : Trust) (f g : StepOutput → StepOutput) → ((out : List Emit) (y : StepOutput) → observations t out ≡ observations t y.out → EquivalentOutputs t (f (with_out out y)) (g y)) → (x y : StepOutput) → EquivalentOutputs t x y → EquivalentOutputs t (f x) (g y)
+pub brings : (t : Trust) (f g : StepOutput → StepOutput) → ((out : List Emit) (y : StepOutput) → observations t out ≡ observations t y.out → EquivalentOutputs t (f (with_out out y)) (g y)) →
+    (x y : StepOutput) → EquivalentOutputs t x y → EquivalentOutputs t (f x) (g y)
 brings t f g alike x y a = subst (λ (d : StepOutput). EquivalentOutputs t (f d) (g y)) (sym (as_with t x y a)) (alike x.out y a.out)
 
 pub one_more : (t : Trust) (e f : Emit) (xs ys : List Emit) → observation t e ≡ observation t f → observations t xs ≡ observations t ys → observations t (xs ++ e ∷ []) ≡ observations t (ys ++ f ∷ [])
@@ -138,7 +140,8 @@ among p xs ls ms ys e = rw (flat_map-append (masked_line p) xs (ls ++ ys), flat_
 
 dialog_masked : (b : Bool) (d : Dialogue) (n : ℕ) (method : List ℕ) → masked_lines naming_to (dialog_lines (public_dialog_by b d) n method) ≡ masked_lines naming_to (dialog_lines d n method)
 dialog_masked b d n method =
-    among naming_to (line (codes "From") d.local) (line (codes "To") (to_text d.side (public_remote b d.side d.remote) d.remote_tag)) (line (codes "To") (to_text d.side d.remote d.remote_tag)) (line (codes "Call-ID") d.call_id ++ line (codes "CSeq") (cseq_text n method))
+    among naming_to (line (codes "From") d.local) (line (codes "To") (to_text d.side (public_remote b d.side d.remote) d.remote_tag)) (line (codes "To") (to_text d.side d.remote d.remote_tag))
+    (line (codes "Call-ID") d.call_id ++ line (codes "CSeq") (cseq_text n method))
     (to_line_masked (to_text d.side (public_remote b d.side d.remote) d.remote_tag)
     ∙ (ap (line (codes "To")) (remote_equivalent b d.side d.remote d.remote_tag)
     ∙ sym (to_line_masked (to_text d.side d.remote d.remote_tag))))
@@ -152,7 +155,8 @@ untouched b d e = ap (λ (x : Bool). public_dialog_by x d) e ∙ ap (λ (v : Lis
 
 module _ (heads : Heads) (t : Trust) where
   target_apart : (method u v : List ℕ) (ls : List Line) (body : List ℕ) → head_of (message_of_lines (Request method u) ls body) ≡ head_of (message_of_lines (Request method v) ls body)
-  target_apart method u v ls body = (heads.five (message_of_lines (Request method u) ls body) (message_of_lines (Request method v) ls body) (record { start = refl; via = refl; from = refl; to = refl; call_id = refl; cseq = refl })).1
+  target_apart method u v ls body =
+      (heads.five (message_of_lines (Request method u) ls body) (message_of_lines (Request method v) ls body) (record { start = refl; via = refl; from = refl; to = refl; call_id = refl; cseq = refl })).1
 
   numbered_head : (b : Bool) (d : Dialogue) (n : ℕ) (method : List ℕ) (g : RequestPartsView) → head_of (request_numbered (public_dialog_by b d) n method g) ≡ head_of (request_numbered d n method g)
   numbered_head b d n method g =
@@ -182,19 +186,27 @@ module _ (heads : Heads) (t : Trust) where
   ask-own-observed d n method g =
       rw (
         numbered_head (t.peer d.peer) d n method g,
-        text_if (t.peer d.peer) (request_numbered (public_dialog_by (t.peer d.peer) d) n method g) (request_numbered d n method g) (λ e. ap (λ (x : Dialogue). request_numbered x n method g) (untouched (t.peer d.peer) d e)),
+        text_if (t.peer d.peer) (request_numbered (public_dialog_by (t.peer d.peer) d) n method g) (request_numbered d n method g)
+            (λ e. ap (λ (x : Dialogue). request_numbered x n method g) (untouched (t.peer d.peer) d e)),
       )
       refl
 
   -- ---- what is in an output
 
-  pub asked-equivalent : (sip : Addr) (method : List ℕ) (d : Dialogue) (named : List Line) (body : List ℕ) (x y : StepOutput) → EquivalentOutputs t x y → EquivalentOutputs t (with_own_request sip method (public_dialog_by (t.peer d.peer) d) named body x) (with_own_request sip method d named body y)
+  pub asked-equivalent : (sip : Addr) (method : List ℕ) (d : Dialogue) (named : List Line) (body : List ℕ) (x y : StepOutput) → EquivalentOutputs t x y →
+      EquivalentOutputs t (with_own_request sip method (public_dialog_by (t.peer d.peer) d) named body x) (with_own_request sip method d named body y)
   asked-equivalent sip method d named body x y a =
       brings t (λ (z : StepOutput). with_own_request sip method (public_dialog_by (t.peer d.peer) d) named body z) (λ (z : StepOutput). with_own_request sip method d named body z)
-      (λ out z s. record { tokens = refl; rows = refl; out = one_more t (emit.Ask d.peer (request_of (public_dialog_by (t.peer d.peer) d) method (giving sip (token z) named body))) (emit.Ask d.peer (request_of d method (giving sip (token z) named body))) out z.out (ask-own-observed d (next_number d.local_cseq) method (giving sip (token z) named body)) s }) x y a
+      (λ out z s. record {
+        tokens = refl;
+        rows = refl;
+        out = one_more t (emit.Ask d.peer (request_of (public_dialog_by (t.peer d.peer) d) method (giving sip (token z) named body)))
+            (emit.Ask d.peer (request_of d method (giving sip (token z) named body))) out z.out (ask-own-observed d (next_number d.local_cseq) method (giving sip (token z) named body)) s;
+      }) x y a
 
   -- the message that is relayed has the same observable part, with other header fields
-  pub asked_for-equivalent : (sip : Addr) (method : List ℕ) (d : Dialogue) (ls ks : List Line) (h : ParsedMessage) (x y : StepOutput) → AreNoOwnFields ls → AreNoOwnFields ks → (t.peer d.peer ≡ false → ls ≡ ks) → EquivalentOutputs t x y →
+  pub asked_for-equivalent : (sip : Addr) (method : List ℕ) (d : Dialogue) (ls ks : List Line) (h : ParsedMessage) (x y : StepOutput) → AreNoOwnFields ls → AreNoOwnFields ks →
+      (t.peer d.peer ≡ false → ls ≡ ks) → EquivalentOutputs t x y →
       EquivalentOutputs t (with_relayed_request sip method (public_dialog_by (t.peer d.peer) d) ls h x) (with_relayed_request sip method d ks h y)
   asked_for-equivalent sip method d ls ks h x y f g same a =
       brings t (λ (z : StepOutput). with_relayed_request sip method (public_dialog_by (t.peer d.peer) d) ls h z) (λ (z : StepOutput). with_relayed_request sip method d ks h z)
@@ -205,7 +217,8 @@ module _ (heads : Heads) (t : Trust) where
             (ask-observed d (next_number d.local_cseq) method (relayed_parts sip (token z) ls h) ls ks f g same) s;
       }) x y a
 
-  pub cancel-equivalent : (sip : Addr) (i : SentInvite) (x y : StepOutput) → EquivalentOutputs t x y → EquivalentOutputs t (with_emit (emit.Ask i.dialogue.peer (cancel_of (public_dialog_by (t.peer i.dialogue.peer) i.dialogue) i.number sip i.branch)) x) (with_cancel sip i y)
+  pub cancel-equivalent : (sip : Addr) (i : SentInvite) (x y : StepOutput) → EquivalentOutputs t x y →
+      EquivalentOutputs t (with_emit (emit.Ask i.dialogue.peer (cancel_of (public_dialog_by (t.peer i.dialogue.peer) i.dialogue) i.number sip i.branch)) x) (with_cancel sip i y)
   cancel-equivalent sip i x y a =
       emitted-equivalent t (emit.Ask i.dialogue.peer (cancel_of (public_dialog_by (t.peer i.dialogue.peer) i.dialogue) i.number sip i.branch)) (emit.Ask i.dialogue.peer (cancel_of i.dialogue i.number sip i.branch)) x y
       (ask-own-observed i.dialogue i.number (codes "CANCEL") (bare_parts sip i.branch)) a
@@ -246,19 +259,22 @@ module _ (heads : Heads) (t : Trust) where
   abbrev without : Bool → PrivateFields → MessageView → MessageView
   without b p m = record m { parsed = hidden_by b p m.parsed }
 
-  pub answered-equivalent : (sip : Addr) (key : TKey) (b : Bool) (p : PrivateFields) (m : MessageView) (tag : List ℕ) (code : ℕ) (ls ks named : List Line) (body : List ℕ) (x y : StepOutput) → is_request m.parsed.start ≡ true →
+  pub answered-equivalent : (sip : Addr) (key : TKey) (b : Bool) (p : PrivateFields) (m : MessageView) (tag : List ℕ) (code : ℕ) (ls ks named : List Line) (body : List ℕ) (x y : StepOutput) →
+      is_request m.parsed.start ≡ true →
       b ≡ t.key key → AreNoOwnFields ls → AreNoOwnFields ks → numbers_in ls ≡ numbers_in ks → (t.key key ≡ false → ls ≡ ks) → EquivalentOutputs t x y →
       EquivalentOutputs t (with_response sip key (without b p m) tag code ls named body x) (with_response sip key m tag code ks named body y)
   answered-equivalent sip key b p m tag code ls ks named body x y asked is f g number same a =
       emitted-equivalent t (emit.Reply key (own_response (contact_text sip) (without b p m) tag code ls named body)) (emit.Reply key (own_response (contact_text sip) m tag code ks named body)) x y
       (reply-observed heads t key b p m.parsed (own_reply (contact_text sip) m.source tag code ls named body) ls ks asked is f g number same) a
 
-  pub replied-equivalent : (sip : Addr) (key : TKey) (b : Bool) (p : PrivateFields) (m : MessageView) (tag : List ℕ) (code : ℕ) (x y : StepOutput) → is_request m.parsed.start ≡ true → b ≡ t.key key → EquivalentOutputs t x y →
+  pub replied-equivalent : (sip : Addr) (key : TKey) (b : Bool) (p : PrivateFields) (m : MessageView) (tag : List ℕ) (code : ℕ) (x y : StepOutput) → is_request m.parsed.start ≡ true → b ≡ t.key key →
+      EquivalentOutputs t x y →
       EquivalentOutputs t (with_status_response sip key (without b p m) tag code x) (with_status_response sip key m tag code y)
   replied-equivalent sip key b p m tag code x y asked is a = answered-equivalent sip key b p m tag code [] [] [] [] x y asked is (λ name own. refl) (λ name own. refl) refl (λ e. refl) a
 
   -- the response has the same observable part, with other header fields
-  pub relayed-equivalent : (sip : Addr) (key : TKey) (b : Bool) (p : PrivateFields) (m : MessageView) (tag : List ℕ) (ls ks : List Line) (r : MessageView) (x y : StepOutput) → is_request m.parsed.start ≡ true → b ≡ t.key key → AreNoOwnFields ls →
+  pub relayed-equivalent : (sip : Addr) (key : TKey) (b : Bool) (p : PrivateFields) (m : MessageView) (tag : List ℕ) (ls ks : List Line) (r : MessageView) (x y : StepOutput) →
+      is_request m.parsed.start ≡ true → b ≡ t.key key → AreNoOwnFields ls →
       AreNoOwnFields ks → numbers_in ls ≡ numbers_in ks → (t.key key ≡ false → ls ≡ ks) → EquivalentOutputs t x y →
       EquivalentOutputs t (with_relayed_response sip key (without b p m) tag ls r x) (with_relayed_response sip key m tag ks r y)
   relayed-equivalent sip key b p m tag ls ks r x y asked is f g number same a =
@@ -266,7 +282,8 @@ module _ (heads : Heads) (t : Trust) where
       (reply-observed heads t key b p m.parsed (relayed_reply (contact_text sip) m.source tag ls r.parsed) ls ks asked is f g number same) a
 
   -- the ACK of a final response from 300, by its client transaction
-  pub final_acked-equivalent : (sip : Addr) (key : TKey) (i : SentInvite) (h k : ParsedMessage) (d : Dialogue) (x y : StepOutput) → (t.key key ≡ false → (d ≡ i.dialogue) × (field (codes "To") h.lines ≡ field (codes "To") k.lines)) → EquivalentOutputs t x y →
+  pub final_acked-equivalent : (sip : Addr) (key : TKey) (i : SentInvite) (h k : ParsedMessage) (d : Dialogue) (x y : StepOutput) →
+      (t.key key ≡ false → (d ≡ i.dialogue) × (field (codes "To") h.lines ≡ field (codes "To") k.lines)) → EquivalentOutputs t x y →
       EquivalentOutputs t (with_emit (emit.Ack key (final_ack_of d i.number sip i.branch (field (codes "To") h.lines))) x) (with_final_ack sip key i k y)
   final_acked-equivalent sip key i h k d x y same a =
       emitted-equivalent t (emit.Ack key (final_ack_of d i.number sip i.branch (field (codes "To") h.lines))) (emit.Ack key (final_ack_of i.dialogue i.number sip i.branch (field (codes "To") k.lines))) x y

@@ -64,7 +64,8 @@ module _ (heads : Heads) (law : VerdictsDependOnMatches) (records : List Sheet) 
   current_same branch who c (Detached detached) e = rw e refl
   current_same branch who c (Over cause) e = rw e refl
 
-  request-equivalent : (p : Phase) (who : Identities2) (side : Side) (key : TKey) (role : Role) (m : MessageView) (c : Call) (one other : StepOutput) → IsFromOwnPeer T c.opening.key c.opening.invite → phase_is_from_own_peer T p → IsFromOwnPeer T key m → FitsIn p c side m role → EquivalentOutputs T one other →
+  request-equivalent : (p : Phase) (who : Identities2) (side : Side) (key : TKey) (role : Role) (m : MessageView) (c : Call) (one other : StepOutput) → IsFromOwnPeer T c.opening.key c.opening.invite →
+      phase_is_from_own_peer T p → IsFromOwnPeer T key m → FitsIn p c side m role → EquivalentOutputs T one other →
       EquivalentSteps T (request_in (public_phase known p) config now.at side key (without_private role m) (public_call known who c) one) (request_in p config now.at side key m c other)
   request-equivalent (Offered x) who side key role m c one other opening kept asked fits a = requests_while_offered heads config keys who now.at x side key role m c one other opening asked fits a
   request-equivalent (Established x stage) who side key role m c one other opening kept asked fits a = requests_once_answered heads stage config keys who now.at x side key role m c one other asked fits kept a
@@ -78,17 +79,21 @@ module _ (heads : Heads) (law : VerdictsDependOnMatches) (records : List Sheet) 
   ack-equivalent (Detached detached) who side role m c one other fits sent a = on-equivalent heads config keys who c one other a
   ack-equivalent (Over cause) who side role m c one other fits sent a = on-equivalent heads config keys who c one other a
 
-  cancel-equivalent : (p : Phase) (who : Identities2) (key : TKey) (role : Role) (m : MessageView) (invite : TKey) (c : Call) (one other : StepOutput) → IsFromOwnPeer T c.opening.key c.opening.invite → IsFromOwnPeer T key m → EquivalentOutputs T one other →
+  cancel-equivalent : (p : Phase) (who : Identities2) (key : TKey) (role : Role) (m : MessageView) (invite : TKey) (c : Call) (one other : StepOutput) →
+      IsFromOwnPeer T c.opening.key c.opening.invite → IsFromOwnPeer T key m → EquivalentOutputs T one other →
       EquivalentSteps T (cancel_in (public_phase known p) config now.at key (without_private role m) invite (public_call known who c) one) (cancel_in p config now.at key m invite c other)
   cancel-equivalent (Offered x) who key role m invite c one other opening asked a = cancels_while_offered heads config keys who now.at x key role m invite c one other opening asked a
   cancel-equivalent (Established x stage) who key role m invite c one other opening asked a =
-      cancels_once_answered heads stage config keys who x invite c (with_status_to config (public_call known who c) key (without_private role m) 200 one) (with_status_to config c key m 200 other) (own-reply heads config keys c key (private_fields role m.parsed) m 200 one other asked a)
+      cancels_once_answered heads stage config keys who x invite c (with_status_to config (public_call known who c) key (without_private role m) 200 one) (with_status_to config c key m 200 other)
+      (own-reply heads config keys c key (private_fields role m.parsed) m 200 one other asked a)
   cancel-equivalent (Detached detached) who key role m invite c one other opening asked a = on-equivalent heads config keys who c one other a
   cancel-equivalent (Over cause) who key role m invite c one other opening asked a = on-equivalent heads config keys who c one other a
 
-  response-equivalent : (p : Phase) (who : Identities2) (key : TKey) (role : Role) (m : MessageView) (c : Call) (one other : StepOutput) → CanContinue records T now who c → phase_is_from_own_peer T p → ServedIn p records → RespondsIn p T key role m c → EquivalentOutputs T one other →
+  response-equivalent : (p : Phase) (who : Identities2) (key : TKey) (role : Role) (m : MessageView) (c : Call) (one other : StepOutput) → CanContinue records T now who c →
+      phase_is_from_own_peer T p → ServedIn p records → RespondsIn p T key role m c → EquivalentOutputs T one other →
       EquivalentSteps T (response_in (public_phase known p) config now key (without_private role m) (public_call known who c) one) (response_in p config now key m c other)
-  response-equivalent (Offered x) who key role m c one other can kept served answer a = responses_while_offered heads law records config keys now who x key role m (status_of m.parsed.start) c one other can served answer a
+  response-equivalent (Offered x) who key role m c one other can kept served answer a =
+      responses_while_offered heads law records config keys now who x key role m (status_of m.parsed.start) c one other can served answer a
   response-equivalent (Established x (Answered side success)) who key role m c one other can kept served answer a = on-equivalent heads config keys who c one other a
   response-equivalent (Established x (Departing side success)) who key role m c one other can kept served answer a = on-equivalent heads config keys who c one other a
   response-equivalent (Established x Stable) who key role m c one other can kept served answer a = on-equivalent heads config keys who c one other a
@@ -103,7 +108,8 @@ module _ (heads : Heads) (law : VerdictsDependOnMatches) (records : List Sheet) 
   timeout-equivalent (Detached detached) who c one other can kept served a = on-equivalent heads config keys who c one other a
   timeout-equivalent (Over cause) who c one other can kept served a = on-equivalent heads config keys who c one other a
 
-  due-equivalent : (p : Phase) (who : Identities2) (what : DueWord) (c : Call) (one other : StepOutput) → CanContinue records T now who c → phase_is_from_own_peer T p → ServedIn p records → EquivalentOutputs T one other →
+  due-equivalent : (p : Phase) (who : Identities2) (what : DueWord) (c : Call) (one other : StepOutput) → CanContinue records T now who c → phase_is_from_own_peer T p → ServedIn p records →
+      EquivalentOutputs T one other →
       EquivalentSteps T (due_in (public_phase known p) config now what (public_call known who c) one) (due_in p config now what c other)
   due-equivalent (Offered x) who what c one other can kept served a = deadlines_while_offered heads law records config keys now who x what c one other can served a
   due-equivalent (Established x stage) who what c one other can kept served a = deadlines_once_answered heads stage config keys who now.at x what c one other kept a
@@ -112,7 +118,8 @@ module _ (heads : Heads) (law : VerdictsDependOnMatches) (records : List Sheet) 
 
   -- ---- by the branch of the request
 
-  answer-equivalent : (o : Option (List ℕ)) (who : Identities2) (key : TKey) (role : Role) (m : MessageView) (c : Call) (one other : StepOutput) → CanContinue records T now who c → requests_are_from_own_peers T c → ServedIn c.phase records →
+  answer-equivalent : (o : Option (List ℕ)) (who : Identities2) (key : TKey) (role : Role) (m : MessageView) (c : Call) (one other : StepOutput) → CanContinue records T now who c →
+      requests_are_from_own_peers T c → ServedIn c.phase records →
       RespondsToOne o T key role m c → EquivalentOutputs T one other →
       EquivalentSteps T (on_response_to o config now key (without_private role m) (public_call known who c) one) (on_response_to o config now key m c other)
   answer-equivalent None who key role m c one other can kept served answer a = on-equivalent heads config keys who c one other a
@@ -130,10 +137,14 @@ module _ (heads : Heads) (law : VerdictsDependOnMatches) (records : List Sheet) 
 
   key_public : (key : TKey) (who : Identities2) (c : Call) → without_key key (public_call known who c) ≡ public_call known who (without_key key c)
   key_public key who c =
-      ap (λ (ls : List AbandonedInvite). record (public_call known who c) { abandoned = ls; answered_invites = without (position (is_answered_key key) (map (public_answered known) c.answered_invites)) (map (public_answered known) c.answered_invites) }) (without_found (public_abandoned known) (is_abandoned_key key) (λ l. refl) c.abandoned)
+      ap (λ (ls : List AbandonedInvite). record (public_call known who c) {
+        abandoned = ls;
+        answered_invites = without (position (is_answered_key key) (map (public_answered known) c.answered_invites)) (map (public_answered known) c.answered_invites);
+      }) (without_found (public_abandoned known) (is_abandoned_key key) (λ l. refl) c.abandoned)
       ∙ ap (λ (ts : List AnsweredInvite). record (public_call known who (without_key key c)) { answered_invites = ts }) (without_found (public_answered known) (is_answered_key key) (λ t. refl) c.answered_invites)
 
-  timeout_of-equivalent : (o : Option (List ℕ)) (who : Identities2) (c : Call) (one other : StepOutput) → CanContinue records T now who c → requests_are_from_own_peers T c → ServedIn c.phase records → EquivalentOutputs T one other →
+  timeout_of-equivalent : (o : Option (List ℕ)) (who : Identities2) (c : Call) (one other : StepOutput) → CanContinue records T now who c → requests_are_from_own_peers T c → ServedIn c.phase records →
+      EquivalentOutputs T one other →
       EquivalentSteps T (on_timeout_of o config now (public_call known who c) one) (on_timeout_of o config now c other)
   timeout_of-equivalent None who c one other can kept served a = on-equivalent heads config keys who c one other a
   timeout_of-equivalent (Some branch) who c one other can kept served a =
@@ -149,18 +160,21 @@ module _ (heads : Heads) (law : VerdictsDependOnMatches) (records : List Sheet) 
 
   -- ---- the transition for a signal
 
-  transition-equivalent : (x : Signal) (who : Identities2) (role : Role) (c : Call) (one other : StepOutput) → CanContinue records T now who c → requests_are_from_own_peers T c → ServedIn c.phase records → MayReceive x T role c → EquivalentOutputs T one other →
+  transition-equivalent : (x : Signal) (who : Identities2) (role : Role) (c : Call) (one other : StepOutput) → CanContinue records T now who c → requests_are_from_own_peers T c →
+      ServedIn c.phase records → MayReceive x T role c → EquivalentOutputs T one other →
       EquivalentSteps T (transition config now (public_signal role x) (public_call known who c) one) (transition config now x c other)
   unfolding transition
   transition-equivalent (signal.Request side key request) who role c one other can kept served receives a = request-equivalent c.phase who side key role request c one other can.opening kept.0 receives.0 receives.1 a
   transition-equivalent (signal.Ack side ack) who role c one other can kept served receives a = ack-equivalent c.phase who side role ack c one other receives.0 receives.1 a
   transition-equivalent (signal.Cancel key cancel invite) who role c one other can kept served receives a = cancel-equivalent c.phase who key role cancel invite c one other can.opening receives a
   transition-equivalent (signal.Answer key response) who role c one other can kept served receives a =
-      subst (λ (o : Option (List ℕ)). EquivalentSteps T (on_response_to o config now key (without_private role response) (public_call known who c) one) (on_response_to (awaited_request_branch response) config now key response c other)) (sym (answered_same role response))
+      subst (λ (o : Option (List ℕ)). EquivalentSteps T (on_response_to o config now key (without_private role response) (public_call known who c) one)
+      (on_response_to (awaited_request_branch response) config now key response c other)) (sym (answered_same role response))
       (answer-equivalent (awaited_request_branch response) who key role response c one other can kept served receives a)
   transition-equivalent (signal.Silent branch method) who role c one other can kept served receives a = timeout_of-equivalent (timed_out_branch branch method) who c one other can kept served a
   transition-equivalent (signal.Due what) who role c one other can kept served receives a = due-equivalent c.phase who what c one other can kept.0 served a
-  transition-equivalent (signal.Ended key) who role c one other can kept served receives a = on-equivalent-by heads config keys who (without_key key (public_call known who c)) (without_key key c) one other (key_public key who c) a
+  transition-equivalent (signal.Ended key) who role c one other can kept served receives a =
+      on-equivalent-by heads config keys who (without_key key (public_call known who c)) (without_key key c) one other (key_public key who c) a
 
   -- ---- a step that ends the attempt without a 2xx, or the call
 
@@ -291,7 +305,8 @@ module _ (heads : Heads) (law : VerdictsDependOnMatches) (records : List Sheet) 
   receives_still (signal.Due what) role c receives = tt
   receives_still (signal.Ended key) role c receives = tt
 
-  step-equivalent : (x : Signal) (who : Identities2) (role : Role) (c : Call) (one other : StepOutput) → CanContinue records T now who c → requests_are_from_own_peers T c → ServedIn c.phase records → MayReceive x T role c → EquivalentOutputs T one other →
+  step-equivalent : (x : Signal) (who : Identities2) (role : Role) (c : Call) (one other : StepOutput) → CanContinue records T now who c → requests_are_from_own_peers T c → ServedIn c.phase records →
+      MayReceive x T role c → EquivalentOutputs T one other →
       EquivalentSteps T (step config now (public_signal role x) (public_call known who c) one) (step config now x c other)
   unfolding step
   step-equivalent x who role c one other can kept served receives a =
@@ -301,7 +316,8 @@ module _ (heads : Heads) (law : VerdictsDependOnMatches) (records : List Sheet) 
       let v : StepResult = transition config now x (without_in_flight c) (output_after_dismissal config c other) in
       subst (λ (b : Bool). EquivalentSteps T (cond b p (transition config now y d one)) (cond (leaves x c) v (transition config now x c other))) (sym (leaves_same x role who c))
       (step-if T (leaves x c) p (transition config now y d one) v (transition config now x c other)
-      (transition-equivalent x who role (without_in_flight c) (output_after_dismissal config d one) (output_after_dismissal config c other) (record { opening = can.opening; caller = can.caller; covered = can.covered }) (kept.0, tt) served (receives_still x role c receives)
+      (transition-equivalent x who role (without_in_flight c) (output_after_dismissal config d one) (output_after_dismissal config c other)
+      (record { opening = can.opening; caller = can.caller; covered = can.covered }) (kept.0, tt) served (receives_still x role c receives)
       (dismissals heads config keys who c one other kept.1 a))
       (transition-equivalent x who role c one other can kept served receives a))
 

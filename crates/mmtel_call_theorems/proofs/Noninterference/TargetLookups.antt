@@ -6,7 +6,8 @@ use Rattle.mmtel_diversion.specs.Diversion.{ChosenDiversion, cause_of, diversion
 use Rattle.mmtel_precedence.specs.Calls.{ReachedTargetView}
 use Rattle.mmtel_precedence.specs.Theorems.{diversion_rules}
 use Rattle.mmtel_precedence.specs.Moves.{account_at}
-use Rattle.mmtel_precedence.specs.Services.{Diverts, DueDiversionView, Nothing, Refuses, ServedAccountView, ServiceDecision, bars_incoming, diverts_by, due_of, due_on, first_decision, own_bound, refuses_if, rejects_anonymous, services_on_arrival}
+use Rattle.mmtel_precedence.specs.Services.{Diverts, DueDiversionView, Nothing, Refuses, ServedAccountView, ServiceDecision, bars_incoming}
+use Rattle.mmtel_precedence.specs.Services.{diverts_by, due_of, due_on, first_decision, own_bound, refuses_if, rejects_anonymous, services_on_arrival}
 use Rattle.mmtel_precedence.specs.NextSteps.{NextStepView, StepDivert, StepOffer, StepRefuse, next_step_at, next_step_by, offer_step}
 use Rattle.mmtel_precedence.specs.Verdicts.{Decision, Ends, Forwards as Diverted, Offers, decision_by, verdict_of}
 use Rattle.mmtel_precedence.specs.declared.endings.Ending.TheVariants as ending

@@ -15,12 +15,15 @@ module _ (heads : Heads) (law : VerdictsDependOnMatches) (records : List Sheet) 
   calls : (trace : List StepPair) → AllReceiveEquivalent records config keys c d trace → EquivalentCalls records (trusts config) (one_after config c trace) (other_after config d trace)
   calls [] receive = alike
   calls (both ∷ earlier) receive =
-      calls_stay_equivalent heads law records config keys both.now both.one.signal both.other.signal both.one.role both.other.role (one_after config c earlier) (other_after config d earlier) both.one.output both.other.output
+      calls_stay_equivalent heads law records config keys both.now both.one.signal both.other.signal both.one.role both.other.role (one_after config c earlier)
+      (other_after config d earlier) both.one.output both.other.output
       receive.0.covered (calls earlier receive.1) receive.0.signals receive.0.one receive.0.other receive.0.outputs
 
-  steps : (both : StepPair) (earlier : List StepPair) → AllReceiveEquivalent records config keys c d (both ∷ earlier) → EquivalentSteps (trust_of config keys) (next config both.now both.one (one_after config c earlier)) (next config both.now both.other (other_after config d earlier))
+  steps : (both : StepPair) (earlier : List StepPair) → AllReceiveEquivalent records config keys c d (both ∷ earlier) →
+      EquivalentSteps (trust_of config keys) (next config both.now both.one (one_after config c earlier)) (next config both.now both.other (other_after config d earlier))
   steps both earlier receive =
-      steps_keep_equivalence heads law records config keys both.now both.one.signal both.other.signal both.one.role both.other.role (one_after config c earlier) (other_after config d earlier) both.one.output both.other.output
+      steps_keep_equivalence heads law records config keys both.now both.one.signal both.other.signal both.one.role both.other.role (one_after config c earlier)
+      (other_after config d earlier) both.one.output both.other.output
       receive.0.covered (calls earlier receive.1) receive.0.signals receive.0.one receive.0.other receive.0.outputs
 
 pub traces_stay_equivalent : Heads → VerdictsDependOnMatches → TracesStayEquivalent

@@ -35,8 +35,10 @@ use Rattle.mmtel_types.specs.declared.sides.Side.TheVariants.{Caller, Callee}
 use Rattle.mmtel_call_services.specs.Requests.{is_same_side}
 use Rattle.mmtel_call_services.specs.CallConfig.{CallConfigView, further_methods}
 use Rattle.mmtel_call.specs.Closing.{StepResult, step_result}
-use Rattle.mmtel_call.specs.RelayedTransactions.{dismissal_of, is_in_flight, is_updating, on_accepted_in_flight, on_final_relayed, on_response_in_flight, on_response_relayed, on_timeout_in_flight, on_timeout_relayed, output_after_dismissal, updating_side, with_all_dismissals, with_dismissal, with_dismissals, with_response_back, with_settled, with_settled_in, without_transaction}
-use Rattle.mmtel_call.specs.OtherRequests.{as_abandoned, is_answered_invite, is_fork, is_stable, is_success, on_other_response, on_other_response_at, on_other_timeout, on_other_timeout_at, on_response_abandoned, on_response_answered, on_response_answered_at, with_retransmitted_ack}
+use Rattle.mmtel_call.specs.RelayedTransactions.{dismissal_of, is_in_flight, is_updating, on_accepted_in_flight, on_final_relayed, on_response_in_flight, on_response_relayed, on_timeout_in_flight, on_timeout_relayed}
+use Rattle.mmtel_call.specs.RelayedTransactions.{output_after_dismissal, updating_side, with_all_dismissals, with_dismissal, with_dismissals, with_response_back, with_settled, with_settled_in, without_transaction}
+use Rattle.mmtel_call.specs.OtherRequests.{as_abandoned, is_answered_invite, is_fork, is_stable, is_success, on_other_response, on_other_response_at, on_other_timeout}
+use Rattle.mmtel_call.specs.OtherRequests.{on_other_timeout_at, on_response_abandoned, on_response_answered, on_response_answered_at, with_retransmitted_ack}
 use Rattle.mmtel_call.specs.Reliable.{named_rseq, on_named_prack, on_rack, on_refused_prack, rack_in, status_of_refusal}
 use Rattle.mmtel_call.specs.Requests.{is_prack, is_update, with_refused_request, with_response_to, with_unlisted_response}
 use Rattle.mmtel_call.specs.Sending.{with_status_to}
@@ -83,7 +85,8 @@ adds-emit key output e notices f = record { new = e ∷ []; out = refl; seen = a
 pub unnotified-drew : (key : TKey) (output : StepOutput) → IsUnnotified key output (after_draw output)
 unnotified-drew key output = record { new = []; out = sym (append-nil output.out); seen = refl }
 
-pub adds-if : (key : TKey) (before : StepOutput) (b : Bool) (one two : StepOutput) (notices : List (Message StartLine)) → Adds key before one notices → Adds key before two notices → Adds key before (if b then one else two) notices
+pub adds-if : (key : TKey) (before : StepOutput) (b : Bool) (one two : StepOutput) (notices : List (Message StartLine)) → Adds key before one notices → Adds key before two notices →
+    Adds key before (if b then one else two) notices
 adds-if key before true one two notices p q = p
 adds-if key before false one two notices p q = q
 
@@ -111,7 +114,8 @@ unseen true m = refl
 unseen false m = refl
 
 -- of another status
-pub unnotified-reply : (key asked : TKey) (start : StartLine) (lines : List Line) (r : Reply) (output : StepOutput) → (r.code == 181) ≡ false → IsUnnotified key output (with_emit (emit.Reply asked (response start lines r)) output)
+pub unnotified-reply : (key asked : TKey) (start : StartLine) (lines : List Line) (r : Reply) (output : StepOutput) → (r.code == 181) ≡ false →
+    IsUnnotified key output (with_emit (emit.Reply asked (response start lines r)) output)
 unnotified-reply key asked start lines r output e = adds-emit key output _ [] (reply-seen key asked start lines r false e ∙ unseen (asked.0 == key.0) (response start lines r))
 
 -- ---- the server's own 181s are none
@@ -157,15 +161,18 @@ unnotified-final-acked key asked sip i m output = adds-emit key output _ [] refl
 
 -- ---- responses to requests
 
-pub unnotified-refused_request : (key : TKey) (config : CallConfigView) (c : Call) (asked : TKey) (m : MessageView) (fault : DialogueFault) (output : StepOutput) → IsUnnotified key output (with_refused_request config c asked m fault output)
+pub unnotified-refused_request : (key : TKey) (config : CallConfigView) (c : Call) (asked : TKey) (m : MessageView) (fault : DialogueFault) (output : StepOutput) →
+    IsUnnotified key output (with_refused_request config c asked m fault output)
 unnotified-refused_request key config c asked m (OldCSeq last) output = unnotified-reply key asked _ _ _ output refl
 unnotified-refused_request key config c asked m Pending output = unnotified-reply key asked _ _ _ output refl
 unnotified-refused_request key config c asked m Unfinished output = unnotified-reply key asked _ _ _ output refl
 
 pub unnotified-unlisted : (key : TKey) (config : CallConfigView) (c : Call) (asked : TKey) (m : MessageView) (output : StepOutput) → IsUnnotified key output (with_unlisted_response config c asked m output)
 unnotified-unlisted key config c asked m output =
-    adds-if key output (is_method (codes "OPTIONS") m.parsed.start) (with_response_to config c asked m 200 (allow_lines (further_methods config)) output) (if is_method (codes "REFER") m.parsed.start then with_status_to config c asked m 403 output else with_status_to config c asked m 481 output) [] (unnotified-reply key asked _ _ _ output refl)
-    (adds-if key output (is_method (codes "REFER") m.parsed.start) (with_status_to config c asked m 403 output) (with_status_to config c asked m 481 output) [] (unnotified-reply key asked _ _ _ output refl) (unnotified-reply key asked _ _ _ output refl))
+    adds-if key output (is_method (codes "OPTIONS") m.parsed.start) (with_response_to config c asked m 200 (allow_lines (further_methods config)) output)
+    (if is_method (codes "REFER") m.parsed.start then with_status_to config c asked m 403 output else with_status_to config c asked m 481 output) [] (unnotified-reply key asked _ _ _ output refl)
+    (adds-if key output (is_method (codes "REFER") m.parsed.start) (with_status_to config c asked m 403 output) (with_status_to config c asked m 481 output) []
+    (unnotified-reply key asked _ _ _ output refl) (unnotified-reply key asked _ _ _ output refl))
 
 -- ---- an INVITE for which the call does not wait
 
@@ -175,7 +182,8 @@ success-unnotified key sip l remote None output =
     adds-then key output (with_ack sip d output) (with_bye sip d (with_ack sip d output)) [] [] (unnotified-acked key sip d output) (unnotified-bye key sip d (with_ack sip d output))
 success-unnotified key sip l remote (Some d) output = unnotified-acked key sip d output
 
-rest-if : (key : TKey) (before : StepOutput) (b : Bool) (one two : abandoned_invites.AfterResponse) → IsUnnotified key before one.output → IsUnnotified key before two.output → IsUnnotified key before (if b then one else two).output
+rest-if : (key : TKey) (before : StepOutput) (b : Bool) (one two : abandoned_invites.AfterResponse) → IsUnnotified key before one.output → IsUnnotified key before two.output →
+    IsUnnotified key before (if b then one else two).output
 rest-if key before true one two e f = e
 rest-if key before false one two e f = f
 
@@ -196,11 +204,13 @@ again-unnotified : (key : TKey) (t : AnsweredInvite) (text : Option (List ℕ)) 
 again-unnotified key t None output = unnotified key output
 again-unnotified key t (Some text) output = adds-emit key output _ [] refl
 
-abandoned-unnotified : (key : TKey) (config : CallConfigView) (asked : TKey) (m : MessageView) (at : ℕ) (l : Option AbandonedInvite) (c : Call) (output : StepOutput) → IsUnnotified key output (on_response_abandoned config asked m at l c output).output
+abandoned-unnotified : (key : TKey) (config : CallConfigView) (asked : TKey) (m : MessageView) (at : ℕ) (l : Option AbandonedInvite) (c : Call) (output : StepOutput) →
+    IsUnnotified key output (on_response_abandoned config asked m at l c output).output
 abandoned-unnotified key config asked m at None c output = unnotified key output
 abandoned-unnotified key config asked m at (Some l) c output = rest-unnotified key config.sip asked m.parsed l output
 
-answered-unnotified : (key : TKey) (config : CallConfigView) (asked : TKey) (m : MessageView) (at : ℕ) (t : Option AnsweredInvite) (c : Call) (output : StepOutput) → IsUnnotified key output (on_response_answered config asked m at t c output).output
+answered-unnotified : (key : TKey) (config : CallConfigView) (asked : TKey) (m : MessageView) (at : ℕ) (t : Option AnsweredInvite) (c : Call) (output : StepOutput) →
+    IsUnnotified key output (on_response_answered config asked m at t c output).output
 answered-unnotified key config asked m at None c output = unnotified key output
 answered-unnotified key config asked m at (Some t) c output =
     step-if key output (not (is_success (status_of m.parsed.start))) _ _ (unnotified key output)
@@ -215,15 +225,18 @@ expiry-notifications key true None at c = refl
 expiry-notifications key true (Some time) at c = refl
 expiry-notifications key false time at c = refl
 
-pub expiry-unnotified : (key : TKey) (timer : Bool) (time : Option ℕ) (at : ℕ) (c : Call) (output : StepOutput) → IsUnnotified key output (record output { out = output.out ++ (if timer then expiry_in time at c else []) })
+pub expiry-unnotified : (key : TKey) (timer : Bool) (time : Option ℕ) (at : ℕ) (c : Call) (output : StepOutput) →
+    IsUnnotified key output (record output { out = output.out ++ (if timer then expiry_in time at c else []) })
 expiry-unnotified key timer time at c output = record { new = if timer then expiry_in time at c else []; out = refl; seen = expiry-notifications key timer time at c }
 
-agreed-unnotified : (key : TKey) (kind : RelayedKind) (config : CallConfigView) (at : ℕ) (side : Side) (request response : MessageView) (c : Call) (output : StepOutput) → IsUnnotified key output (on_accepted_in_flight kind config at side request response c output).output
+agreed-unnotified : (key : TKey) (kind : RelayedKind) (config : CallConfigView) (at : ℕ) (side : Side) (request response : MessageView) (c : Call) (output : StepOutput) →
+    IsUnnotified key output (on_accepted_in_flight kind config at side request response c output).output
 agreed-unnotified key Prack config at side request response c output = unnotified key output
 agreed-unnotified key Update config at side request response c output = expiry-unnotified key config.timer (expiry_interval_of response.parsed.session) at c output
 
 -- by whether it is a final response
-relayed-by : (key : TKey) (config : CallConfigView) (at : ℕ) (flight : RelayedTransaction) (m : MessageView) (provisional : Bool) (place : ℕ) (c : Call) (output : StepOutput) → (provisional ≡ false → IsNoNotification (status_of m.parsed.start)) →
+relayed-by : (key : TKey) (config : CallConfigView) (at : ℕ) (flight : RelayedTransaction) (m : MessageView) (provisional : Bool) (place : ℕ) (c : Call) (output : StepOutput) →
+    (provisional ≡ false → IsNoNotification (status_of m.parsed.start)) →
     IsUnnotified key output (if provisional then step_result c output else on_final_relayed config at flight m (status_of m.parsed.start) (without_transaction place c) output).output
 relayed-by key config at flight m true place c output e = unnotified key output
 relayed-by key config at flight m false place c output e =
@@ -233,7 +246,8 @@ relayed-by key config at flight m false place c output e =
     step-if key output (statuses.is_success (status_of m.parsed.start)) (on_accepted_in_flight flight.kind config at flight.side flight.exchange.request m gone back) (step_result gone back)
     (adds-then key output back _ [] [] passed (agreed-unnotified key flight.kind config at flight.side flight.exchange.request m gone back)) passed
 
-relayed-unnotified : (key : TKey) (config : CallConfigView) (at : ℕ) (m : MessageView) (place : ℕ) (o : Option RelayedTransaction) (c : Call) (output : StepOutput) → IsUnnotified key output (on_response_relayed config at m (status_of m.parsed.start) place o c output).output
+relayed-unnotified : (key : TKey) (config : CallConfigView) (at : ℕ) (m : MessageView) (place : ℕ) (o : Option RelayedTransaction) (c : Call) (output : StepOutput) →
+    IsUnnotified key output (on_response_relayed config at m (status_of m.parsed.start) place o c output).output
 relayed-unnotified key config at m place None c output = unnotified key output
 relayed-unnotified key config at m place (Some flight) c output = relayed-by key config at flight m (nat_lt (status_of m.parsed.start) 200) place c output (final-notification (status_of m.parsed.start))
 
@@ -267,7 +281,8 @@ settled_in-unnotified key (Established x stage) config c output = unnotified key
 settled_in-unnotified key (Detached detached) config c output = unnotified key output
 settled_in-unnotified key (Over cause) config c output = unnotified key output
 
-relayed-dismissed : (key : TKey) (config : CallConfigView) (c : Call) (flight : RelayedTransaction) (kind : RelayedKind) (output : StepOutput) → IsUnnotified key output (with_status_to config c flight.exchange.key flight.exchange.request (dismissal_of kind) output)
+relayed-dismissed : (key : TKey) (config : CallConfigView) (c : Call) (flight : RelayedTransaction) (kind : RelayedKind) (output : StepOutput) →
+    IsUnnotified key output (with_status_to config c flight.exchange.key flight.exchange.request (dismissal_of kind) output)
 relayed-dismissed key config c flight Prack output = unnotified-reply key flight.exchange.key _ _ _ output refl
 relayed-dismissed key config c flight Update output = unnotified-reply key flight.exchange.key _ _ _ output refl
 
@@ -282,60 +297,76 @@ dismissing-unnotified key config c output =
     let first : StepOutput = with_dismissals config c (filter (λ flight. not (is_updating flight)) c.relayed) output in
     let all : StepOutput = with_all_dismissals config c output in
     adds-then key output all (output_after_dismissal config c output) [] []
-    (adds-then key output first all [] [] (each-unnotified key config c (filter (λ flight. not (is_updating flight)) c.relayed) output) (each-unnotified key config c (filter is_updating c.relayed) first)) (settled_in-unnotified key c.phase config c all)
+    (adds-then key output first all [] [] (each-unnotified key config c (filter (λ flight. not (is_updating flight)) c.relayed) output) (each-unnotified key config c (filter is_updating c.relayed) first))
+    (settled_in-unnotified key c.phase config c all)
 
 -- ---- PRACK and UPDATE
 
-pub asked-for-unnotified : (key : TKey) (sip : Addr) (method : List ℕ) (d : Dialogue) (passed : List Line) (m : ParsedMessage) (output : StepOutput) → IsUnnotified key output (with_relayed_request sip method d passed m output)
+pub asked-for-unnotified : (key : TKey) (sip : Addr) (method : List ℕ) (d : Dialogue) (passed : List Line) (m : ParsedMessage) (output : StepOutput) →
+    IsUnnotified key output (with_relayed_request sip method d passed m output)
 asked-for-unnotified key sip method d passed m output = adds-then key output (after_draw output) _ [] [] (unnotified-drew key output) (adds-emit key (after_draw output) _ [] refl)
 
-refusal-unnotified : (key : TKey) (config : CallConfigView) (asked : TKey) (m : MessageView) (rack : Option Rack) (c : Call) (output : StepOutput) → IsUnnotified key output (with_status_to config c asked m (status_of_refusal rack) output)
+refusal-unnotified : (key : TKey) (config : CallConfigView) (asked : TKey) (m : MessageView) (rack : Option Rack) (c : Call) (output : StepOutput) →
+    IsUnnotified key output (with_status_to config c asked m (status_of_refusal rack) output)
 refusal-unnotified key config asked m None c output = unnotified-reply key asked _ _ _ output refl
 refusal-unnotified key config asked m (Some rack) c output = unnotified-reply key asked _ _ _ output refl
 
-acknowledging-unnotified : (key : TKey) (config : CallConfigView) (x : OfferedAttempt) (asked : TKey) (m : MessageView) (rack : Rack) (answer : Option ℕ) (c : Call) (output : StepOutput) → IsUnnotified key output (on_named_prack config x asked m rack answer c output).output
+acknowledging-unnotified : (key : TKey) (config : CallConfigView) (x : OfferedAttempt) (asked : TKey) (m : MessageView) (rack : Rack) (answer : Option ℕ) (c : Call) (output : StepOutput) →
+    IsUnnotified key output (on_named_prack config x asked m rack answer c output).output
 acknowledging-unnotified key config x asked m rack None c output = refusal-unnotified key config asked m (rack_in m) c output
 acknowledging-unnotified key config x asked m rack (Some answer) c output =
     let settled_output : StepOutput = with_settled config (Some rack.answer) c output in
-    adds-then key output settled_output _ [] [] (settled-unnotified key config (Some rack.answer) c output) (adds-then key settled_output (after_draw settled_output) _ [] [] (unnotified-drew key settled_output) (adds-emit key (after_draw settled_output) _ [] refl))
+    adds-then key output settled_output _ [] [] (settled-unnotified key config (Some rack.answer) c output)
+    (adds-then key settled_output (after_draw settled_output) _ [] [] (unnotified-drew key settled_output) (adds-emit key (after_draw settled_output) _ [] refl))
 
-rack-unnotified : (key : TKey) (config : CallConfigView) (x : OfferedAttempt) (asked : TKey) (m : MessageView) (rack : Option Rack) (c : Call) (output : StepOutput) → IsUnnotified key output (on_rack config x asked m rack c output).output
+rack-unnotified : (key : TKey) (config : CallConfigView) (x : OfferedAttempt) (asked : TKey) (m : MessageView) (rack : Option Rack) (c : Call) (output : StepOutput) →
+    IsUnnotified key output (on_rack config x asked m rack c output).output
 rack-unnotified key config x asked m None c output = refusal-unnotified key config asked m (rack_in m) c output
 rack-unnotified key config x asked m (Some rack) c output = acknowledging-unnotified key config x asked m rack (named_rseq x c rack) c output
 
 pub prack-unnotified : (key : TKey) (config : CallConfigView) (asked : TKey) (m : MessageView) (c : Call) (output : StepOutput) → IsUnnotified key output (on_refused_prack config asked m c output).output
 prack-unnotified key config asked m c output = refusal-unnotified key config asked m (rack_in m) c output
 
-prack-of-unnotified : (key : TKey) (side : Side) (config : CallConfigView) (x : OfferedAttempt) (asked : TKey) (m : MessageView) (c : Call) (output : StepOutput) → IsUnnotified key output (on_prack_of side config x asked m c output).output
+prack-of-unnotified : (key : TKey) (side : Side) (config : CallConfigView) (x : OfferedAttempt) (asked : TKey) (m : MessageView) (c : Call) (output : StepOutput) →
+    IsUnnotified key output (on_prack_of side config x asked m c output).output
 prack-of-unnotified key Caller config x asked m c output = rack-unnotified key config x asked m (rack_in m) c output
 prack-of-unnotified key Callee config x asked m c output = prack-unnotified key config asked m c output
 
-pub unless-unnotified : (key : TKey) (flying : Option Side) (across : Call → StepOutput → StepResult) (config : CallConfigView) (side : Side) (asked : TKey) (m : MessageView) (c : Call) (output : StepOutput) → IsUnnotified key output (across c output).output →
+pub unless-unnotified :
+    (key : TKey) (flying : Option Side) (across : Call → StepOutput → StepResult) (config : CallConfigView) (side : Side) (asked : TKey) (m : MessageView) (c : Call) (output : StepOutput) →
+    IsUnnotified key output (across c output).output →
     IsUnnotified key output (unless_updating flying across config side asked m c output).output
 unless-unnotified key None across config side asked m c output passes = passes
 unless-unnotified key (Some other) across config side asked m c output passes =
     step-if key output (is_same_side other side) (on_early_retry config asked m c output) (on_glare config asked m c output) (unnotified-reply key asked _ _ _ output refl) (unnotified-reply key asked _ _ _ output refl)
 
-update-unnotified : (key : TKey) (config : CallConfigView) (x : OfferedAttempt) (side : Side) (asked : TKey) (m : MessageView) (c : Call) (output : StepOutput) → IsUnnotified key output (on_update config x side asked m c output).output
+update-unnotified : (key : TKey) (config : CallConfigView) (x : OfferedAttempt) (side : Side) (asked : TKey) (m : MessageView) (c : Call) (output : StepOutput) →
+    IsUnnotified key output (on_update config x side asked m c output).output
 update-unnotified key config x side asked m c output =
     step-if key output (accepts_updates x) _ _
-    (unless-unnotified key (updating_side c.relayed) (on_early_update config x side asked m) config side asked m c output (adds-then key output (after_draw output) _ [] [] (unnotified-drew key output) (adds-emit key (after_draw output) _ [] refl)))
+    (unless-unnotified key (updating_side c.relayed) (on_early_update config x side asked m) config side asked m c output
+    (adds-then key output (after_draw output) _ [] [] (unnotified-drew key output) (adds-emit key (after_draw output) _ [] refl)))
     (unnotified-reply key asked _ _ _ output refl)
 
-pub on-other-unnotified : (key : TKey) (config : CallConfigView) (x : OfferedAttempt) (side : Side) (asked : TKey) (m : MessageView) (c : Call) (output : StepOutput) → IsUnnotified key output (on_other config x side asked m c output).output
+pub on-other-unnotified : (key : TKey) (config : CallConfigView) (x : OfferedAttempt) (side : Side) (asked : TKey) (m : MessageView) (c : Call) (output : StepOutput) →
+    IsUnnotified key output (on_other config x side asked m c output).output
 on-other-unnotified key config x side asked m c output =
-    step-if key output (is_prack m) _ _ (prack-of-unnotified key side config x asked m c output) (step-if key output (is_update m) _ _ (update-unnotified key config x side asked m c output) (unnotified-unlisted key config c asked m output))
+    step-if key output (is_prack m) _ _ (prack-of-unnotified key side config x asked m c output)
+    (step-if key output (is_update m) _ _ (update-unnotified key config x side asked m c output) (unnotified-unlisted key config c asked m output))
 
 -- ---- a response to a request for which the call does not wait
 
-answered_at-unnotified : (key : TKey) (config : CallConfigView) (at : ℕ) (asked : TKey) (m : MessageView) (branch : List ℕ) (o : Option ℕ) (c : Call) (output : StepOutput) → IsUnnotified key output (on_response_answered_at config at asked m branch o c output).output
+answered_at-unnotified : (key : TKey) (config : CallConfigView) (at : ℕ) (asked : TKey) (m : MessageView) (branch : List ℕ) (o : Option ℕ) (c : Call) (output : StepOutput) →
+    IsUnnotified key output (on_response_answered_at config at asked m branch o c output).output
 answered_at-unnotified key config at asked m branch None c output = in-flight-unnotified key config at m (position (is_in_flight branch) c.relayed) c output
 answered_at-unnotified key config at asked m branch (Some place) c output = answered-unnotified key config asked m place (slice_get c.answered_invites place) c output
 
-at-unnotified : (key : TKey) (config : CallConfigView) (at : ℕ) (asked : TKey) (m : MessageView) (branch : List ℕ) (o : Option ℕ) (c : Call) (output : StepOutput) → IsUnnotified key output (on_other_response_at config at asked m branch o c output).output
+at-unnotified : (key : TKey) (config : CallConfigView) (at : ℕ) (asked : TKey) (m : MessageView) (branch : List ℕ) (o : Option ℕ) (c : Call) (output : StepOutput) →
+    IsUnnotified key output (on_other_response_at config at asked m branch o c output).output
 at-unnotified key config at asked m branch None c output = answered_at-unnotified key config at asked m branch (position (is_answered_invite branch) c.answered_invites) c output
 at-unnotified key config at asked m branch (Some place) c output = abandoned-unnotified key config asked m place (slice_get c.abandoned place) c output
 
-pub other-unnotified : (key : TKey) (config : CallConfigView) (at : ℕ) (asked : TKey) (m : MessageView) (branch : List ℕ) (c : Call) (output : StepOutput) → IsUnnotified key output (on_other_response config at asked m branch c output).output
+pub other-unnotified : (key : TKey) (config : CallConfigView) (at : ℕ) (asked : TKey) (m : MessageView) (branch : List ℕ) (c : Call) (output : StepOutput) →
+    IsUnnotified key output (on_other_response config at asked m branch c output).output
 unfolding on_other_response
 other-unnotified key config at asked m branch c output = at-unnotified key config at asked m branch (position (is_of_branch branch) c.abandoned) c output

@@ -34,15 +34,18 @@ none-added key before after s =
 
 -- ---- while a leg is detached
 
-detached-answered : (key : TKey) (branch : Option (List ℕ)) (config : CallConfigView) (now : SnapshotView) (detached : DetachedLeg) (asked : TKey) (m : MessageView) (c : Call) (output : StepOutput) → IsUnnotified key output (on_response_to branch config now asked m (detached_call detached c) output).output
+detached-answered : (key : TKey) (branch : Option (List ℕ)) (config : CallConfigView) (now : SnapshotView) (detached : DetachedLeg) (asked : TKey) (m : MessageView) (c : Call) (output : StepOutput) →
+    IsUnnotified key output (on_response_to branch config now asked m (detached_call detached c) output).output
 detached-answered key None config now detached asked m c output = unnotified key output
 detached-answered key (Some branch) config now detached asked m c output = other-unnotified key config now.at asked m branch (detached_call detached c) output
 
-detached-quiet : (key : TKey) (branch : Option (List ℕ)) (config : CallConfigView) (now : SnapshotView) (detached : DetachedLeg) (c : Call) (output : StepOutput) → IsUnnotified key output (on_timeout_of branch config now (detached_call detached c) output).output
+detached-quiet : (key : TKey) (branch : Option (List ℕ)) (config : CallConfigView) (now : SnapshotView) (detached : DetachedLeg) (c : Call) (output : StepOutput) →
+    IsUnnotified key output (on_timeout_of branch config now (detached_call detached c) output).output
 detached-quiet key None config now detached c output = unnotified key output
 detached-quiet key (Some branch) config now detached c output = gone-unnotified key config branch (detached_call detached c) output
 
-detached-transition : (key : TKey) (config : CallConfigView) (now : SnapshotView) (detached : DetachedLeg) (received : Signal) (c : Call) (output : StepOutput) → IsUnnotified key output (transition config now received (detached_call detached c) output).output
+detached-transition : (key : TKey) (config : CallConfigView) (now : SnapshotView) (detached : DetachedLeg) (received : Signal) (c : Call) (output : StepOutput) →
+    IsUnnotified key output (transition config now received (detached_call detached c) output).output
 unfolding transition
 detached-transition key config now detached (signal.Request side asked request) c output = unnotified key output
 detached-transition key config now detached (signal.Ack side ack) c output = unnotified key output
@@ -52,11 +55,13 @@ detached-transition key config now detached (signal.Silent branch method) c outp
 detached-transition key config now detached (signal.Due what) c output = unnotified key output
 detached-transition key config now detached (signal.Ended asked) c output = unnotified key output
 
-detached-unnotified : (key : TKey) (config : CallConfigView) (now : SnapshotView) (detached : DetachedLeg) (received : Signal) (c : Call) (output : StepOutput) → IsUnnotified key output (step config now received (detached_call detached c) output).output
+detached-unnotified : (key : TKey) (config : CallConfigView) (now : SnapshotView) (detached : DetachedLeg) (received : Signal) (c : Call) (output : StepOutput) →
+    IsUnnotified key output (step config now received (detached_call detached c) output).output
 unfolding step
 detached-unnotified key config now detached received c output =
     let d : Call = detached_call detached c in
-    subst (λ b. IsUnnotified key output (if b then transition config now received (without_in_flight d) (output_after_dismissal config d output) else transition config now received d output).output) (sym (no-leaving detached received c)) (detached-transition key config now detached received c output)
+    subst (λ b. IsUnnotified key output (if b then transition config now received (without_in_flight d) (output_after_dismissal config d output) else transition config now received d output).output)
+    (sym (no-leaving detached received c)) (detached-transition key config now detached received c output)
 
 -- ---- any signal
 

@@ -34,7 +34,8 @@ use Rattle.mmtel_call_services.specs.CallConfig.{CallConfigView}
 use Rattle.mmtel_call_services.specs.declared.openings.Opening.{Opening}
 use Rattle.mmtel_call_services.specs.declared.openings.Service.{Service}
 use Rattle.mmtel_call.specs.Closing.{StepResult, call_end}
-use Rattle.mmtel_call.specs.Diverting.{at_target, call_after_diversion, call_refusal, diversion_refusal, diversion_step, diversion_unless_refused, divert, is_diverted, on_next_step, with_notification_of, with_unoffered_meter}
+use Rattle.mmtel_call.specs.Diverting.{at_target, call_after_diversion, call_refusal, diversion_refusal, diversion_step}
+use Rattle.mmtel_call.specs.Diverting.{diversion_unless_refused, divert, is_diverted, on_next_step, with_notification_of, with_unoffered_meter}
 use Rattle.mmtel_call.specs.AttemptStarts.{max_attempt_time, next_attempt, with_attempt}
 use Rattle.mmtel_call.specs.Sending.{with_diversion_notification, with_status_to_caller}
 use Rattle.mmtel_call.specs.declared.calls.Call.{Call}
@@ -58,7 +59,8 @@ pub data IsAtRest (kept : CallState) : Type 0 where
   Finished : (result : CallResult) → kept.phase ≡ moves.Over result → kept.endings ≡ [] → IsAtRest kept
 
 -- after this many moves the call rests, and what was added to the output has the notifications for the targets that it reached since these, with this History-Info before them
-pub record Notifies (config : CallConfigView) (call : precedence.CallInputs) (o : Opening) (before : List precedence.OutcomeTarget) (history : List Entry) (output : StepOutput) (s : StepResult) (kept : CallState) (n : ℕ) : Type 0 where
+pub record Notifies (config : CallConfigView) (call : precedence.CallInputs) (o : Opening) (before : List precedence.OutcomeTarget) (history : List Entry) (output : StepOutput) (s : StepResult)
+    (kept : CallState) (n : ℕ) : Type 0 where
   pub new : List precedence.OutcomeTarget
   pub rests : IsAtRest (moves.moves n call kept)
   pub reached : (moves.moves n call kept).targets ≡ before ++ new
@@ -80,7 +82,8 @@ notified-after config call o before history output s kept (n, t) = (suc n, recor
 
 -- ---- a call that is refused
 
-pub over-notifies : (config : CallConfigView) (call : precedence.CallInputs) (at : ℕ) (caller : Leg) (cause : Cause) (c : Call) (output after : StepOutput) (kept : CallState) (result : CallResult) → kept.endings ≡ [] → IsUnnotified c.opening.key output after →
+pub over-notifies : (config : CallConfigView) (call : precedence.CallInputs) (at : ℕ) (caller : Leg) (cause : Cause) (c : Call) (output after : StepOutput) (kept : CallState) (result : CallResult) →
+    kept.endings ≡ [] → IsUnnotified c.opening.key output after →
     ComesToNotify config call c.opening kept.targets c.diversions.history output (call_end at cause caller.meter None c after) (with_phase kept (moves.Over result))
 unfolding moves.moves
 over-notifies config call at caller cause c output after kept result empty added = (
@@ -97,16 +100,19 @@ over-notifies config call at caller cause c output after kept result empty added
 pub status-unnotified : (config : CallConfigView) (c : Call) (code : ℕ) (output : StepOutput) → IsNoNotification code → IsUnnotified c.opening.key output (with_status_to_caller config c code output)
 status-unnotified config c code output e = unnotified-reply c.opening.key c.opening.key _ _ _ output e
 
-pub refused-notifies : (config : CallConfigView) (call : precedence.CallInputs) (at : ℕ) (caller : Leg) (cause : Cause) (c : Call) (output : StepOutput) (kept : CallState) (result : CallResult) → kept.endings ≡ [] → IsNoNotification (status_of cause) →
+pub refused-notifies : (config : CallConfigView) (call : precedence.CallInputs) (at : ℕ) (caller : Leg) (cause : Cause) (c : Call) (output : StepOutput) (kept : CallState) (result : CallResult) →
+    kept.endings ≡ [] → IsNoNotification (status_of cause) →
     ComesToNotify config call c.opening kept.targets c.diversions.history output (call_refusal config at caller cause c output) (with_phase kept (moves.Over result))
 refused-notifies config call at caller cause c output kept result empty e =
     over-notifies config call at caller cause c output (with_status_to_caller config c (status_of cause) output) kept result empty (status-unnotified config c (status_of cause) output e)
 
 -- ---- the INVITE of an attempt
 
-sent-unnotified : (config : CallConfigView) (at : ℕ) (service : Option Service) (waiting : Bool) (destination : Destination) (c : Call) (output : StepOutput) → IsUnnotified c.opening.key output (with_attempt config at service waiting destination c output)
+sent-unnotified : (config : CallConfigView) (at : ℕ) (service : Option Service) (waiting : Bool) (destination : Destination) (c : Call) (output : StepOutput) →
+    IsUnnotified c.opening.key output (with_attempt config at service waiting destination c output)
 sent-unnotified config at service waiting destination c output =
-    let ask : Emit = emit.Ask destination.peer (invite_of (attempt_dialog destination c.opening.invite.parsed c.opening.restricted output) config.sip (token (after_draw (after_draw output))) (attempt_lines config c.opening c.diversions service destination.peer) waiting c.opening.invite.parsed) in
+    let ask : Emit = emit.Ask destination.peer (invite_of (attempt_dialog destination c.opening.invite.parsed c.opening.restricted output) config.sip (token (after_draw (after_draw output)))
+    (attempt_lines config c.opening c.diversions service destination.peer) waiting c.opening.invite.parsed) in
     let arm : Emit = emit.Arm c.opening.number (due.Cap (next_attempt c)) (at + max_attempt_time) in
     record { new = ask ∷ arm ∷ []; out = append_assoc output.out (ask ∷ []) (arm ∷ []); seen = refl }
 
@@ -129,7 +135,8 @@ DivertNotifies left config now first later caller =
 -- by what is done there
 next-step-notifies : (left : ℕ) (config : CallConfigView) (now first : SnapshotView) (later : ℕ → SnapshotView) (caller : Leg) → DivertNotifies left config now first later caller →
     (reach : ReachedTargetView) (by : Option DueDiversionView) (target : Target) (turn : NextStepView) (c : Call) (output : StepOutput) (kept : CallState) →
-    IsKnown first c.opening → turns.sheet_of reach ≡ service_sheet (service_at config now c.opening (cause_of by) target) → IsCounted config c.opening kept.done c.diversions → kept.endings ≡ [] → c.diversions.remaining ≡ left →
+    IsKnown first c.opening → turns.sheet_of reach ≡ service_sheet (service_at config now c.opening (cause_of by) target) → IsCounted config c.opening kept.done c.diversions → kept.endings ≡ [] →
+    c.diversions.remaining ≡ left →
     StepHasNoNotification turn →
     SnapshotsFrom config now c.opening later kept (on_next_step (divert left config now caller) config now.at caller (service_at config now c.opening (cause_of by) target) (cause_of by) target turn c output) →
     NotifiesFrom config (call_inputs_of config first c.opening later) c.opening target.uri by kept.targets c.diversions.history output
@@ -162,7 +169,8 @@ pub target-notifies : (law : NextStepsAreMoves) (left : ℕ) (config : CallConfi
     IsKnown first c.opening → IsCounted config c.opening kept.done c.diversions → kept.endings ≡ [] → c.diversions.remaining ≡ left →
     target.of_number ≡ is_by_number by → snapshot_after (call_inputs_of config first c.opening later) kept.done ≡ now →
     SnapshotsFrom config now c.opening later kept (at_target (divert left config now caller) config now caller (cause_of by) target c output) →
-    NotifiesFrom config (call_inputs_of config first c.opening later) c.opening target.uri by kept.targets c.diversions.history output (at_target (divert left config now caller) config now caller (cause_of by) target c output)
+    NotifiesFrom config (call_inputs_of config first c.opening later) c.opening target.uri by kept.targets c.diversions.history output
+    (at_target (divert left config now caller) config now caller (cause_of by) target c output)
     (with_phase kept (Reaching target.uri by))
 target-notifies law left config now first later caller goes by target c output kept known counted empty few number stood stands =
     let o = c.opening in
@@ -171,11 +179,13 @@ target-notifies law left config now first later caller goes by target c output k
     let peer = peer_for config o target in
     let reach = reached_target config now o (cause_of by) target service peer in
     let s = at_target (divert left config now caller) config now caller (cause_of by) target c output in
-    let (offer, told) = next-step-notifies left config now first later caller goes reach by target (decision_at config now o (is_diverted c) (cause_of by) target service peer) c output (with_phase kept (Reaching target.uri by)) known
+    let (offer, told) = next-step-notifies left config now first later caller goes reach by target (decision_at config now o (is_diverted c) (cause_of by) target service peer) c output
+    (with_phase kept (Reaching target.uri by)) known
     (sheet-known config now o (cause_of by) target service peer) counted empty few (its-next-step (decisions.caller_facts o now.at (is_diverted c)) reach) stands in (
       offer,
       notified-after config call o (kept.targets ++ target_as target.uri by offer ∷ []) c.diversions.history output s (with_phase kept (Reaching target.uri by))
-          (subst (λ (k : CallState). ComesToNotify config call o (kept.targets ++ target_as target.uri by offer ∷ []) c.diversions.history output s k) (sym (move-known law config now first o later by target (with_phase kept (Reaching target.uri by)) c.diversions.count known counted.count number stood)) told),
+          (subst (λ (k : CallState). ComesToNotify config call o (kept.targets ++ target_as target.uri by offer ∷ []) c.diversions.history output s k)
+          (sym (move-known law config now first o later by target (with_phase kept (Reaching target.uri by)) c.diversions.count known counted.count number stood)) told),
     )
 
 -- ---- a diversion
@@ -186,10 +196,13 @@ NoNotification None = Unit {0}
 NoNotification (Some cause) = IsNoNotification (status_of cause)
 
 -- what is checked before a diversion refuses it, or the diversion proceeds
-unless-notifies : (config : CallConfigView) (now first : SnapshotView) (later : ℕ → SnapshotView) (caller : Leg) (refusal : Option Cause) (onward : Call → StepOutput → StepResult) (uri : Uri) (due : DueDiversionView) (c : Call) (output : StepOutput) (kept : CallState) →
+unless-notifies : (config : CallConfigView) (now first : SnapshotView) (later : ℕ → SnapshotView) (caller : Leg) (refusal : Option Cause) (onward : Call → StepOutput → StepResult) (uri : Uri)
+    (due : DueDiversionView) (c : Call) (output : StepOutput) (kept : CallState) →
     kept.endings ≡ [] → NoNotification refusal → SnapshotsFrom config now c.opening later kept (diversion_unless_refused refusal onward config now.at caller c output) →
-    (refusal ≡ None → SnapshotsFrom config now c.opening later kept (onward c output) → ComesToNotify config (call_inputs_of config first c.opening later) c.opening kept.targets c.diversions.history output (onward c output) (state_unless_refused None kept uri due)) →
-    ComesToNotify config (call_inputs_of config first c.opening later) c.opening kept.targets c.diversions.history output (diversion_unless_refused refusal onward config now.at caller c output) (state_unless_refused refusal kept uri due)
+    (refusal ≡ None → SnapshotsFrom config now c.opening later kept (onward c output) →
+    ComesToNotify config (call_inputs_of config first c.opening later) c.opening kept.targets c.diversions.history output (onward c output) (state_unless_refused None kept uri due)) →
+    ComesToNotify config (call_inputs_of config first c.opening later) c.opening kept.targets c.diversions.history output (diversion_unless_refused refusal onward config now.at caller c output)
+    (state_unless_refused refusal kept uri due)
 unless-notifies config now first later caller (Some why) onward uri due c output kept empty own stands comes =
     refused-notifies config (call_inputs_of config first c.opening later) now.at caller why c output kept (Final why) empty own
 unless-notifies config now first later caller None onward uri due c output kept empty own stands comes = comes refl stands
@@ -211,7 +224,9 @@ refusal-unnotified c (Some sheet) received done bound due = go (bars_outgoing c 
 notification-adds : (config : CallConfigView) (due : DueDiversionView) (d : Call) (output : StepOutput) (b : Bool) → Adds d.opening.key output (if b then with_diversion_notification config d output else output)
     (if b then notification config d.opening (Rattle.mmtel_call_services.specs.CopiedHeaders.notified_history d.diversions) ∷ [] else [])
 notification-adds config due d output true =
-    subst (λ to_caller. Adds d.opening.key output (with_diversion_notification config d output) (if to_caller then notification config d.opening (Rattle.mmtel_call_services.specs.CopiedHeaders.notified_history d.diversions) ∷ [] else [])) (both (d.opening.key.0 == d.opening.key.0) (same-number d.opening.key.0))
+    subst (λ to_caller. Adds d.opening.key output (with_diversion_notification config d output)
+    (if to_caller then notification config d.opening (Rattle.mmtel_call_services.specs.CopiedHeaders.notified_history d.diversions) ∷ [] else []))
+    (both (d.opening.key.0 == d.opening.key.0) (same-number d.opening.key.0))
     (adds-reply d.opening.key d.opening.key _ _ _ output true refl)
   where
     both : (b : Bool) → b ≡ true → (Rattle.std.specs.Prelude.◌&&◌ b true) ≡ true

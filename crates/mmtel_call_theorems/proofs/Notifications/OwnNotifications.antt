@@ -8,7 +8,8 @@ use Rattle.mmtel_precedence.specs.Calls.{Answer, AttemptEndView, Cancel, Deflect
 use Rattle.mmtel_precedence.specs.Moves.{account_at}
 use Rattle.mmtel_precedence.specs.Opening.{refusal_on_opening}
 use Rattle.mmtel_precedence.specs.Services.{DueDiversionView, diverts_by, first_decision, refuses_if}
-use Rattle.mmtel_precedence.specs.NextSteps.{EndAnswered, EndDivert, EndRefuse, NextStepView, StepAfterAttemptView, StepDivert, StepOffer, StepRefuse, divert_or_refuse, next_step_at, next_step_by, offer_step, step_after_attempt}
+use Rattle.mmtel_precedence.specs.NextSteps.{EndAnswered, EndDivert, EndRefuse, NextStepView, StepAfterAttemptView, StepDivert, StepOffer}
+use Rattle.mmtel_precedence.specs.NextSteps.{StepRefuse, divert_or_refuse, next_step_at, next_step_by, offer_step, step_after_attempt}
 use Rattle.mmtel_precedence.specs.Verdicts.{decision_by}
 use Rattle.mmtel_rules.specs.Facts.{FactsView}
 use Rattle.mmtel_sheet_values.specs.declared.values.Sheet.{Sheet}

@@ -17,20 +17,28 @@ use Rattle.mmtel_call_services.specs.declared.openings.Arrival.{Arrival}
 use Rattle.mmtel_call_services.specs.declared.openings.Service.{Service}
 use Rattle.mmtel_call.specs.Answered.{acknowledges, after_ack_across, after_ack_timeout, after_bye_before_ack, after_departure, at_stage, copied_across, leg_of, with_ack_and_bye, with_bye_to, with_leg}
 use Rattle.mmtel_call.specs.Closing.{StepResult, call_end, established_call_end, step_result, with_past}
-use Rattle.mmtel_call.specs.Diverting.{after_attempt, at_target, call_after_diversion, call_refusal, diversion_refusal, diversion_step, diversion_unless_refused, divert, is_diverted, on_end, on_next_step, reach, relayed_refusal, with_notification_of, with_unoffered_meter}
-use Rattle.mmtel_call.specs.OtherRequests.{as_abandoned, is_answered_invite, is_fork, is_stable, is_success, on_forked_response, on_other_response, on_other_response_at, on_other_timeout, on_other_timeout_at, on_response_abandoned, on_response_answered, on_response_answered_at, on_retransmitted_success, with_retransmitted_ack, without_key, without_timed_out}
+use Rattle.mmtel_call.specs.Diverting.{after_attempt, at_target, call_after_diversion, call_refusal, diversion_refusal, diversion_step, diversion_unless_refused}
+use Rattle.mmtel_call.specs.Diverting.{divert, is_diverted, on_end, on_next_step, reach, relayed_refusal, with_notification_of, with_unoffered_meter}
+use Rattle.mmtel_call.specs.OtherRequests.{as_abandoned, is_answered_invite, is_fork, is_stable, is_success, on_forked_response, on_other_response, on_other_response_at, on_other_timeout, on_other_timeout_at}
+use Rattle.mmtel_call.specs.OtherRequests.{on_response_abandoned, on_response_answered, on_response_answered_at, on_retransmitted_success, with_retransmitted_ack, without_key, without_timed_out}
 use Rattle.mmtel_call.specs.RelayedTransactions as flying
-use Rattle.mmtel_call.specs.RelayedTransactions.{call_after_update, dismissal_of, is_in_flight, is_updating, on_final_relayed, on_response_in_flight, on_response_relayed, on_timeout_in_flight, on_timeout_relayed, output_after_dismissal, updating_side, with_all_dismissals, with_dismissal, with_dismissals, with_response_back, with_settled, with_settled_in, without_in_flight, without_transaction}
+use Rattle.mmtel_call.specs.RelayedTransactions.{call_after_update, dismissal_of, is_in_flight, is_updating, on_final_relayed, on_response_in_flight, on_response_relayed}
+use Rattle.mmtel_call.specs.RelayedTransactions.{on_timeout_in_flight, on_timeout_relayed, output_after_dismissal, updating_side, with_all_dismissals, with_dismissal}
+use Rattle.mmtel_call.specs.RelayedTransactions.{with_dismissals, with_response_back, with_settled, with_settled_in, without_in_flight, without_transaction}
 use Rattle.mmtel_call.specs.Detaching.{call_finish, finish_of_phase}
 use Rattle.mmtel_call.specs.AttemptStarts.{attempt_dialog_of, attempt_start}
 use Rattle.mmtel_call.specs.Opening.{call_after_opening, caller_of, new_call, unless_refused}
-use Rattle.mmtel_call.specs.Reinvites.{abandoned_across, after_invite_across, ends_dialog, on_accepted_reinvite, on_bye_reinviting, on_cancel_across, on_provisional_across, on_reinvite, on_response_across, on_timeout_across, reinvite_after_cancel, reinvite_after_provisional, with_byes, with_cancel_if_due, with_refusal_back, with_relayed_back}
+use Rattle.mmtel_call.specs.Reinvites.{abandoned_across, after_invite_across, ends_dialog, on_accepted_reinvite, on_bye_reinviting, on_cancel_across, on_provisional_across, on_reinvite}
+use Rattle.mmtel_call.specs.Reinvites.{on_response_across, on_timeout_across, reinvite_after_cancel, reinvite_after_provisional, with_byes, with_cancel_if_due, with_refusal_back, with_relayed_back}
 use Rattle.mmtel_call.specs.Reliable.{after_prack_across, named_rseq, on_named_prack, on_rack, on_refused_prack, own_rseq_for, rack_in, status_of_refusal, with_reliable_response}
 use Rattle.mmtel_call.specs.Requests.{is_bye, is_invite, is_prack, is_update, leg_after_receiving, request_check, with_refused_request, with_unlisted_response}
 use Rattle.mmtel_call.specs.Ringing as ringing
-use Rattle.mmtel_call.specs.Ringing.{on_answer, with_no_reply_timer, with_no_reply_timer_in, with_attempt_cancel, on_failure, on_caller_cancel, end_before_answer, attempt_after_request, call_without_attempt, on_cancel, on_due, on_valid_request, on_other, on_prack_of, on_request, on_request_if, on_response, on_provisional_by, on_numbered_provisional, on_plain_provisional, offered_request_check, on_timeout, on_attempt_timeout, on_trying, with_abandoned, with_ack_timer, with_expiry_timer, expiries, expiry_in}
+use Rattle.mmtel_call.specs.Ringing.{on_answer, with_no_reply_timer, with_no_reply_timer_in, with_attempt_cancel, on_failure, on_caller_cancel, end_before_answer, attempt_after_request}
+use Rattle.mmtel_call.specs.Ringing.{call_without_attempt, on_cancel, on_due, on_valid_request, on_other, on_prack_of, on_request, on_request_if, on_response, on_provisional_by, on_numbered_provisional}
+use Rattle.mmtel_call.specs.Ringing.{on_plain_provisional, offered_request_check, on_timeout, on_attempt_timeout, on_trying, with_abandoned, with_ack_timer, with_expiry_timer, expiries, expiry_in}
 use Rattle.mmtel_call.specs.Sending.{with_diversion_notification, with_relay_to_caller, with_status_to, with_status_to_caller}
-use Rattle.mmtel_call.specs.Stages.{after_bye_at, after_timer_at, busy_in, has_departed, is_due_at, on_ack_at, on_bye, on_cancel_at, on_due_at, on_invite, on_request_at, on_request_at_if, on_response_at, on_timeout_at, on_valid_request_at}
+use Rattle.mmtel_call.specs.Stages.{after_bye_at, after_timer_at, busy_in, has_departed, is_due_at, on_ack_at, on_bye, on_cancel_at}
+use Rattle.mmtel_call.specs.Stages.{on_due_at, on_invite, on_request_at, on_request_at_if, on_response_at, on_timeout_at, on_valid_request_at}
 use Rattle.mmtel_call.specs.Table.{ack_in, cancel_in, due_in, is_current, leaves, on_response_to, on_timeout_of, request_in, response_in, step, timeout_in, transition}
 use Rattle.mmtel_call.specs.Updates.{accepts_updates, after_update_relay, attempt_after_update, on_early_retry, on_early_update, on_glare, on_stable_update, on_update, on_update_at, other_leg, unless_updating}
 use Rattle.mmtel_call.specs.declared.calls.Attempt.{Attempt}
@@ -234,11 +242,13 @@ module _ (own : ℕ → Bool) (config : CallConfigView) (before : List Emit) whe
 
   -- the final response is relayed back
 
-  agreed_transition : (kind : RelayedKind) (at : ℕ) (side : Side) (request response : MessageView) (c : Call) (output : StepOutput) → At c.phase → Opens c → Replied output → Good (flying.on_accepted_in_flight kind config at side request response c output)
+  agreed_transition : (kind : RelayedKind) (at : ℕ) (side : Side) (request response : MessageView) (c : Call) (output : StepOutput) → At c.phase → Opens c → Replied output →
+      Good (flying.on_accepted_in_flight kind config at side request response c output)
   agreed_transition Prack at side request response c output p k had = onward_good c output p k had
   agreed_transition Update at side request response c output p k had = onward_good (call_after_update side request c) (with_expiry_timer config at response c output) p k (expiry_awaited at response c output had)
 
-  final_transition : (at : ℕ) (flight : RelayedTransaction) (m : MessageView) (code : ℕ) (c : Call) (output : StepOutput) → RelayedIsOf own flight → At c.phase → Opens c → Replied output → Good (on_final_relayed config at flight m code c output)
+  final_transition : (at : ℕ) (flight : RelayedTransaction) (m : MessageView) (code : ℕ) (c : Call) (output : StepOutput) → RelayedIsOf own flight → At c.phase → Opens c → Replied output →
+      Good (on_final_relayed config at flight m code c output)
   final_transition at flight m code c output is p k had =
       let back : StepOutput = with_response_back config flight m c output in
       let told : Replied back = emit_in _ output is had in
@@ -248,7 +258,8 @@ module _ (own : ℕ → Bool) (config : CallConfigView) (before : List Emit) whe
   without_relayed_in : (place : ℕ) (c : Call) → Opens c → Opens (without_transaction place c)
   without_relayed_in place c k = (k.0, each_without (RelayedIsOf own) place c.relayed k.1)
 
-  relayed_transition : (at : ℕ) (m : MessageView) (code place : ℕ) (o : Option RelayedTransaction) (c : Call) (output : StepOutput) → IfSome o (RelayedIsOf own) → At c.phase → Opens c → Replied output → Good (on_response_relayed config at m code place o c output)
+  relayed_transition : (at : ℕ) (m : MessageView) (code place : ℕ) (o : Option RelayedTransaction) (c : Call) (output : StepOutput) → IfSome o (RelayedIsOf own) → At c.phase → Opens c →
+      Replied output → Good (on_response_relayed config at m code place o c output)
   relayed_transition at m code place None c output is p k had = onward_good c output p k had
   relayed_transition at m code place (Some flight) c output is p k had =
       if_good (nat_lt code 200) (step_result c output) (on_final_relayed config at flight m code (without_transaction place c) output)
@@ -258,10 +269,12 @@ module _ (own : ℕ → Bool) (config : CallConfigView) (before : List Emit) whe
   in_flight_transition at m None c output p k had = onward_good c output p k had
   in_flight_transition at m (Some place) c output p k had = relayed_transition at m (status_of m.parsed.start) place (slice_get c.relayed place) c output (each_get (RelayedIsOf own) c.relayed place k.1) p k had
 
-  timed_out_relayed_transition : (place : ℕ) (o : Option RelayedTransaction) (c : Call) (output : StepOutput) → IfSome o (RelayedIsOf own) → At c.phase → Opens c → Replied output → Good (on_timeout_relayed config place o c output)
+  timed_out_relayed_transition : (place : ℕ) (o : Option RelayedTransaction) (c : Call) (output : StepOutput) → IfSome o (RelayedIsOf own) → At c.phase → Opens c → Replied output →
+      Good (on_timeout_relayed config place o c output)
   timed_out_relayed_transition place None c output is p k had = onward_good c output p k had
   timed_out_relayed_transition place (Some flight) c output is p k had =
-      onward_good (without_transaction place c) (with_status_to config c flight.exchange.key flight.exchange.request 408 output) p (without_relayed_in place c k) (replied_in c flight.exchange.key flight.exchange.request 408 output is had)
+      onward_good (without_transaction place c) (with_status_to config c flight.exchange.key flight.exchange.request 408 output) p (without_relayed_in place c k)
+      (replied_in c flight.exchange.key flight.exchange.request 408 output is had)
 
   timed_out_in_flight_transition : (o : Option ℕ) (c : Call) (output : StepOutput) → At c.phase → Opens c → Replied output → Good (on_timeout_in_flight config o c output)
   timed_out_in_flight_transition None c output p k had = onward_good c output p k had
@@ -276,10 +289,12 @@ module _ (own : ℕ → Bool) (config : CallConfigView) (before : List Emit) whe
   prack_refused_transition key m c output a p k had =
       let code : ℕ = status_of_refusal (rack_in m) in onward_good c (with_status_to config c key m code output) p k (replied_in c key m code output a had)
 
-  acknowledging_transition : (x : OfferedAttempt) (key : TKey) (m : MessageView) (rack : Rack) (o : Option ℕ) (c : Call) (output : StepOutput) → Own key → At c.phase → Opens c → Replied output → Good (on_named_prack config x key m rack o c output)
+  acknowledging_transition : (x : OfferedAttempt) (key : TKey) (m : MessageView) (rack : Rack) (o : Option ℕ) (c : Call) (output : StepOutput) → Own key → At c.phase → Opens c → Replied output →
+      Good (on_named_prack config x key m rack o c output)
   acknowledging_transition x key m rack None c output a p k had = prack_refused_transition key m c output a p k had
   acknowledging_transition x key m rack (Some answer) c output a p k had =
-      good (after_prack_across config x key m rack answer c output) tt (k.0, with_relayed_in _ c a k) (emit_in _ (after_draw (with_settled config (Some rack.answer) c output)) tt (settled_good (Some rack.answer) c output had))
+      good (after_prack_across config x key m rack answer c output) tt (k.0, with_relayed_in _ c a k)
+      (emit_in _ (after_draw (with_settled config (Some rack.answer) c output)) tt (settled_good (Some rack.answer) c output had))
 
   rack_transition : (x : OfferedAttempt) (key : TKey) (m : MessageView) (o : Option Rack) (c : Call) (output : StepOutput) → Own key → At c.phase → Opens c → Replied output → Good (on_rack config x key m o c output)
   rack_transition x key m None c output a p k had = prack_refused_transition key m c output a p k had
@@ -295,13 +310,15 @@ module _ (own : ℕ → Bool) (config : CallConfigView) (before : List Emit) whe
   crossing_transition : (key : TKey) (m : MessageView) (c : Call) (output : StepOutput) → Own key → At c.phase → Opens c → Replied output → Good (on_glare config key m c output)
   crossing_transition key m c output a p k had = onward_good c (with_status_to config c key m 491 output) p k (replied_in c key m 491 output a had)
 
-  unless_transition : (o : Option Side) (across : Call → StepOutput → StepResult) (side : Side) (key : TKey) (m : MessageView) (c : Call) (output : StepOutput) → Own key → At c.phase → Opens c → Replied output → Good (across c output) →
+  unless_transition : (o : Option Side) (across : Call → StepOutput → StepResult) (side : Side) (key : TKey) (m : MessageView) (c : Call) (output : StepOutput) → Own key → At c.phase → Opens c →
+      Replied output → Good (across c output) →
       Good (unless_updating o across config side key m c output)
   unless_transition None across side key m c output a p k had is = is
   unless_transition (Some other) across side key m c output a p k had is =
       if_good (is_same_side other side) (on_early_retry config key m c output) (on_glare config key m c output) (later_transition key m c output a p k had) (crossing_transition key m c output a p k had)
 
-  asked_on_transition : (service : Option Service) (side : Side) (leg : Leg) (key : TKey) (m : MessageView) (c : Call) (output : StepOutput) → Own key → At c.phase → Opens c → Replied output → Good (after_update_relay config service side leg key m c output)
+  asked_on_transition : (service : Option Service) (side : Side) (leg : Leg) (key : TKey) (m : MessageView) (c : Call) (output : StepOutput) → Own key → At c.phase → Opens c → Replied output →
+      Good (after_update_relay config service side leg key m c output)
   asked_on_transition service side leg key m c output a p k had = good (after_update_relay config service side leg key m c output) p (k.0, with_relayed_in _ c a k) (emit_in _ (after_draw output) tt had)
 
   update_transition : (x : OfferedAttempt) (side : Side) (key : TKey) (m : MessageView) (c : Call) (output : StepOutput) → Own key → At c.phase → Opens c → Replied output → Good (on_update config x side key m c output)
@@ -323,13 +340,15 @@ module _ (own : ℕ → Bool) (config : CallConfigView) (before : List Emit) whe
   refused_good : (at : ℕ) (caller : Leg) (cause : Cause) (c : Call) (output : StepOutput) → Opens c → Replied output → Good (call_refusal config at caller cause c output)
   refused_good at caller cause c output k had = over_good at cause caller.meter None c (with_status_to_caller config c (of_causes.status_of cause) output) k (status_in c (of_causes.status_of cause) output k had)
 
-  refused_by_good : (at : ℕ) (caller : Leg) (service : Option Service) (m : Option MessageView) (cause : Cause) (c : Call) (output : StepOutput) → Opens c → Replied output → Good (relayed_refusal config at caller service m cause c output)
+  refused_by_good : (at : ℕ) (caller : Leg) (service : Option Service) (m : Option MessageView) (cause : Cause) (c : Call) (output : StepOutput) → Opens c → Replied output →
+      Good (relayed_refusal config at caller service m cause c output)
   refused_by_good at caller service None cause c output k had = refused_good at caller cause c output k had
   refused_by_good at caller service (Some m) cause c output k had =
       if_good (is_status (status_of m.parsed.start) (relayed_status cause)) (call_end at cause caller.meter None c (with_relay_to_caller config c service m output)) (call_refusal config at caller cause c output)
       (over_good at cause caller.meter None c (with_relay_to_caller config c service m output) k (relayed_in c service m output k had)) (refused_good at caller cause c output k had)
 
-  offer_good : (at : ℕ) (caller : Leg) (service : Option Service) (waiting : Bool) (destination : Destination) (c : Call) (output : StepOutput) → Opens c → Replied output → Good (attempt_start config at caller service waiting destination c output)
+  offer_good : (at : ℕ) (caller : Leg) (service : Option Service) (waiting : Bool) (destination : Destination) (c : Call) (output : StepOutput) → Opens c → Replied output →
+      Good (attempt_start config at caller service waiting destination c output)
   offer_good at caller service waiting destination c output k had =
       let third : StepOutput = after_draw (after_draw output) in
       let m : Message Start = invite_of (attempt_dialog_of c.opening destination output) config.sip (token third) (attempt_lines config c.opening c.diversions service destination.peer) waiting c.opening.invite.parsed in
@@ -373,7 +392,8 @@ module _ (own : ℕ → Bool) (config : CallConfigView) (before : List Emit) whe
   reach_good : (now : SnapshotView) (caller : Leg) (cause : Option ℕ) (target : Target) (c : Call) (output : StepOutput) → Opens c → Replied output → Good (reach config now caller cause target c output)
   reach_good now caller cause target c output k had = target_good c.diversions.remaining now caller (divert_good c.diversions.remaining now caller) cause target c output k had
 
-  end_good : (now : SnapshotView) (caller : Leg) (service : Option Service) (m : Option MessageView) (after : StepAfterAttemptView) (c : Call) (output : StepOutput) → Opens c → Replied output → Good (on_end config now caller service m after c output)
+  end_good : (now : SnapshotView) (caller : Leg) (service : Option Service) (m : Option MessageView) (after : StepAfterAttemptView) (c : Call) (output : StepOutput) → Opens c → Replied output →
+      Good (on_end config now caller service m after c output)
   end_good now caller service m EndAnswered c output k had = over_good now.at causes.Ended caller.meter None c output k had
   end_good now caller service m (EndDivert due) c output k had = divert_good c.diversions.remaining now caller service due c output k had
   end_good now caller service m (EndRefuse cause) c output k had = refused_by_good now.at caller service m cause c output k had
@@ -393,21 +413,24 @@ module _ (own : ℕ → Bool) (config : CallConfigView) (before : List Emit) whe
 
   armed_good : (code at : ℕ) (attempt : Attempt) (c : Call) (output : StepOutput) → Replied output → Replied (with_no_reply_timer code at attempt c output)
   armed_good code at attempt c output had =
-      if_output (rings code && not attempt.rang) (with_no_reply_timer_in (no_reply_time_of (service_sheet attempt.service)) at attempt c output) output (armed_in_good (no_reply_time_of (service_sheet attempt.service)) at attempt c output had) had
+      if_output (rings code && not attempt.rang) (with_no_reply_timer_in (no_reply_time_of (service_sheet attempt.service)) at attempt c output) output
+      (armed_in_good (no_reply_time_of (service_sheet attempt.service)) at attempt c output had) had
 
   plainly_good : (at : ℕ) (x : OfferedAttempt) (key : TKey) (m : MessageView) (code : ℕ) (c : Call) (output : StepOutput) → Opens c → Replied output → Good (on_plain_provisional config at x key m code c output)
   plainly_good at x key m code c output k had =
       good (on_plain_provisional config at x key m code c output) tt k
       (armed_good code at x.attempt c (with_relay_to_caller config c x.attempt.service m output) (relayed_in c x.attempt.service m output k had))
 
-  relayed_if_good : (o : Option ℕ) (rseq at : ℕ) (x : OfferedAttempt) (key : TKey) (m : MessageView) (code : ℕ) (c : Call) (output : StepOutput) → Opens c → Replied output → Good (on_numbered_provisional o rseq config at x key m code c output)
+  relayed_if_good : (o : Option ℕ) (rseq at : ℕ) (x : OfferedAttempt) (key : TKey) (m : MessageView) (code : ℕ) (c : Call) (output : StepOutput) → Opens c → Replied output →
+      Good (on_numbered_provisional o rseq config at x key m code c output)
   relayed_if_good None rseq at x key m code c output k had = tried_good key x c output k had
   relayed_if_good (Some number) rseq at x key m code c output k had =
       good (on_numbered_provisional (Some number) rseq config at x key m code c output) tt k
       (emit_in _ (with_no_reply_timer code at x.attempt c (with_reliable_response config c x.attempt.service number m output)) tt
       (armed_good code at x.attempt c (with_reliable_response config c x.attempt.service number m output) (emit_in _ output k.0 had)))
 
-  proceeding_by_good : (o : Option ℕ) (at : ℕ) (x : OfferedAttempt) (key : TKey) (m : MessageView) (code : ℕ) (c : Call) (output : StepOutput) → Opens c → Replied output → Good (on_provisional_by o config at x key m code c output)
+  proceeding_by_good : (o : Option ℕ) (at : ℕ) (x : OfferedAttempt) (key : TKey) (m : MessageView) (code : ℕ) (c : Call) (output : StepOutput) → Opens c → Replied output →
+      Good (on_provisional_by o config at x key m code c output)
   proceeding_by_good None at x key m code c output k had = plainly_good at x key m code c output k had
   proceeding_by_good (Some rseq) at x key m code c output k had = relayed_if_good (own_rseq_for rseq x m c) rseq at x key m code c output k had
 
@@ -423,9 +446,11 @@ module _ (own : ℕ → Bool) (config : CallConfigView) (before : List Emit) whe
   failed_good now x key m code c output k had =
       goes_on_good now x (end_by_final code (redirect_of m) x.attempt.rang) (Some m) c (with_final_ack config.sip key x.attempt.invite m.parsed output) k (final_acked_in key x.attempt.invite m.parsed output had)
 
-  response_transition : (now : SnapshotView) (x : OfferedAttempt) (key : TKey) (m : MessageView) (code : ℕ) (c : Call) (output : StepOutput) → Opens c → Replied output → Good (on_response config now x key m code c output)
+  response_transition : (now : SnapshotView) (x : OfferedAttempt) (key : TKey) (m : MessageView) (code : ℕ) (c : Call) (output : StepOutput) → Opens c → Replied output →
+      Good (on_response config now x key m code c output)
   response_transition now x key m code c output k had =
-      if_good (nat_lt code 101) (on_trying key x c output) (if nat_lt code 200 then ringing.on_provisional config now.at x key m code c output else if nat_lt code 300 then on_answer config now.at x key m c output else on_failure config now x key m code c output)
+      if_good (nat_lt code 101) (on_trying key x c output)
+      (if nat_lt code 200 then ringing.on_provisional config now.at x key m code c output else if nat_lt code 300 then on_answer config now.at x key m c output else on_failure config now x key m code c output)
       (tried_good key x c output k had)
       (if_good (nat_lt code 200) (ringing.on_provisional config now.at x key m code c output) (if nat_lt code 300 then on_answer config now.at x key m c output else on_failure config now x key m code c output)
       (proceeding_good now.at x key m code c output k had)
@@ -464,14 +489,17 @@ module _ (own : ℕ → Bool) (config : CallConfigView) (before : List Emit) whe
   given_up_good : (at : ℕ) (x : OfferedAttempt) (c : Call) (output : StepOutput) → Opens c → Replied output → Good (on_caller_cancel config at x c output)
   given_up_good at x c output k had = given_up_by_good causes.Cancelled at x c output k had
 
-  cancel_transition : (at : ℕ) (x : OfferedAttempt) (key : TKey) (m : MessageView) (invite : TKey) (c : Call) (output : StepOutput) → Own key → Opens c → Replied output → Good (on_cancel config at x key m invite (offered_call x c) output)
+  cancel_transition : (at : ℕ) (x : OfferedAttempt) (key : TKey) (m : MessageView) (invite : TKey) (c : Call) (output : StepOutput) → Own key → Opens c → Replied output →
+      Good (on_cancel config at x key m invite (offered_call x c) output)
   cancel_transition at x key m invite c output a k had =
       let told : Replied (with_status_to config (offered_call x c) key m 200 output) = replied_in (offered_call x c) key m 200 output a had in
-      if_good (invite.0 == c.opening.key.0) (on_caller_cancel config at x (offered_call x c) (with_status_to config (offered_call x c) key m 200 output)) (step_result (offered_call x c) (with_status_to config (offered_call x c) key m 200 output))
+      if_good (invite.0 == c.opening.key.0) (on_caller_cancel config at x (offered_call x c) (with_status_to config (offered_call x c) key m 200 output))
+      (step_result (offered_call x c) (with_status_to config (offered_call x c) key m 200 output))
       (given_up_good at x (offered_call x c) (with_status_to config (offered_call x c) key m 200 output) k told)
       (onward_good (offered_call x c) (with_status_to config (offered_call x c) key m 200 output) tt k told)
 
-  received_transition : (at : ℕ) (x : OfferedAttempt) (side : Side) (key : TKey) (m : MessageView) (c : Call) (output : StepOutput) → Own key → Opens c → Replied output → Good (on_valid_request config at x side key m (offered_call x c) output)
+  received_transition : (at : ℕ) (x : OfferedAttempt) (side : Side) (key : TKey) (m : MessageView) (c : Call) (output : StepOutput) → Own key → Opens c → Replied output →
+      Good (on_valid_request config at x side key m (offered_call x c) output)
   received_transition at x Caller key m c output a k had =
       if_good (is_bye m) (on_caller_cancel config at x (offered_call x c) (with_status_to config (offered_call x c) key m 200 output)) (on_other config x Caller key m (offered_call x c) output)
       (given_up_good at x (offered_call x c) (with_status_to config (offered_call x c) key m 200 output) k (replied_in (offered_call x c) key m 200 output a had))
@@ -481,9 +509,11 @@ module _ (own : ℕ → Bool) (config : CallConfigView) (before : List Emit) whe
   request_if_transition : (r : Result (Unit {0}) DialogueFault) (at : ℕ) (x : OfferedAttempt) (side : Side) (key : TKey) (m : MessageView) (c : Call) (output : StepOutput) →
       Own key → Opens c → Replied output → Good (on_request_if r config at x side key m (offered_call x c) output)
   request_if_transition (Ok received) at x side key m c output a k had = received_transition at (attempt_after_request side m x) side key m c output a k had
-  request_if_transition (Err fault) at x side key m c output a k had = onward_good (offered_call x c) (with_refused_request config (offered_call x c) key m fault output) tt k (refused_request_in (offered_call x c) key m fault output a had)
+  request_if_transition (Err fault) at x side key m c output a k had =
+      onward_good (offered_call x c) (with_refused_request config (offered_call x c) key m fault output) tt k (refused_request_in (offered_call x c) key m fault output a had)
 
-  request_transition : (at : ℕ) (x : OfferedAttempt) (side : Side) (key : TKey) (m : MessageView) (c : Call) (output : StepOutput) → Own key → Opens c → Replied output → Good (on_request config at x side key m (offered_call x c) output)
+  request_transition : (at : ℕ) (x : OfferedAttempt) (side : Side) (key : TKey) (m : MessageView) (c : Call) (output : StepOutput) → Own key → Opens c → Replied output →
+      Good (on_request config at x side key m (offered_call x c) output)
   request_transition at x side key m c output a k had = request_if_transition (offered_request_check x side m) at x side key m c output a k had
 
   -- ---- once it is answered
@@ -512,9 +542,11 @@ module _ (own : ℕ → Bool) (config : CallConfigView) (before : List Emit) whe
 
   unacknowledged_good : (at : ℕ) (x : EstablishedLegs) (side : Side) (c : Call) (output : StepOutput) → Opens c → Replied output → Good (after_ack_timeout config at x side c output)
   unacknowledged_good at x side c output k had =
-      over_established_good at x c (with_bye_to config x side (with_ack_and_bye config x (other_side side) output)) k (bye_to_in x side (with_ack_and_bye config x (other_side side) output) (acked_remaining_in x (other_side side) output had))
+      over_established_good at x c (with_bye_to config x side (with_ack_and_bye config x (other_side side) output)) k
+      (bye_to_in x side (with_ack_and_bye config x (other_side side) output) (acked_remaining_in x (other_side side) output had))
 
-  bye_before_good : (at : ℕ) (x : EstablishedLegs) (waiting : Side) (success : Success) (side : Side) (c : Call) (output : StepOutput) → Opens c → Replied output → Good (after_bye_before_ack config at x waiting success side c output)
+  bye_before_good : (at : ℕ) (x : EstablishedLegs) (waiting : Side) (success : Success) (side : Side) (c : Call) (output : StepOutput) → Opens c → Replied output →
+      Good (after_bye_before_ack config at x waiting success side c output)
   bye_before_good at x waiting success side c output k had =
       if_good (is_same_side waiting side) (established_call_end at x c (with_ack_and_bye config x (other_side side) output)) (step_result (at_stage x (Departing waiting success) c) output)
       (over_established_good at x c (with_ack_and_bye config x (other_side side) output) k (acked_remaining_in x (other_side side) output had))
@@ -533,17 +565,20 @@ module _ (own : ℕ → Bool) (config : CallConfigView) (before : List Emit) whe
   relayed_back_in : (x : EstablishedLegs) (side : Side) (q : Reinvite) (m : MessageView) (c : Call) (output : StepOutput) → Own q.key → Replied output → Replied (with_relayed_back config x side q m c output)
   relayed_back_in x side q m c output is had = emit_in _ output is had
 
-  proceeding_across_good : (x : EstablishedLegs) (side : Side) (q : Reinvite) (key : TKey) (c : Call) (output : StepOutput) → AtStage (Reinviting side q) → Opens c → Replied output → Good (on_provisional_across config x side q key c output)
+  proceeding_across_good : (x : EstablishedLegs) (side : Side) (q : Reinvite) (key : TKey) (c : Call) (output : StepOutput) → AtStage (Reinviting side q) → Opens c → Replied output →
+      Good (on_provisional_across config x side q key c output)
   proceeding_across_good x side q key c output e k had =
       staged_good x (Reinviting side (reinvite_after_provisional key q)) c (with_cancel_if_due config key q output) e k
       (if_output q.cancel_due (with_due_cancel config.sip (with_provisional key q.invite) output) output (cancelled_in (with_provisional key q.invite) output had) had)
 
-  agreed_good : (at : ℕ) (x : EstablishedLegs) (side : Side) (q : Reinvite) (key : TKey) (m : MessageView) (c : Call) (output : StepOutput) → AtStage (Reinviting side q) → Opens c → Replied output → Good (on_accepted_reinvite config at x side q key m c output)
+  agreed_good : (at : ℕ) (x : EstablishedLegs) (side : Side) (q : Reinvite) (key : TKey) (m : MessageView) (c : Call) (output : StepOutput) → AtStage (Reinviting side q) → Opens c → Replied output →
+      Good (on_accepted_reinvite config at x side q key m c output)
   agreed_good at x side q key m c output e k had =
       let back : StepOutput = with_relayed_back config x side q m c output in
       good (on_accepted_reinvite config at x side q key m c output) tt k (expiry_awaited at m c (with_ack_timer at c back) (emit_in _ back tt (relayed_back_in x side q m c output e had)))
 
-  refused_back_in : (x : EstablishedLegs) (side : Side) (q : Reinvite) (key : TKey) (m : MessageView) (c : Call) (output : StepOutput) → Own q.key → Replied output → Replied (with_refusal_back config x side q key m c output)
+  refused_back_in : (x : EstablishedLegs) (side : Side) (q : Reinvite) (key : TKey) (m : MessageView) (c : Call) (output : StepOutput) → Own q.key → Replied output →
+      Replied (with_refusal_back config x side q key m c output)
   refused_back_in x side q key m c output is had = relayed_back_in x side q m c (with_final_ack config.sip key q.invite m.parsed output) is (final_acked_in key q.invite m.parsed output had)
 
   bye_both_in : (x : EstablishedLegs) (output : StepOutput) → Replied output → Replied (with_byes config x output)
@@ -554,7 +589,8 @@ module _ (own : ℕ → Bool) (config : CallConfigView) (before : List Emit) whe
   across_good at x side q key m code c output e k had =
       let back : StepOutput = with_refusal_back config x side q key m c output in
       let told : Replied back = refused_back_in x side q key m c output e had in
-      if_good (nat_lt code 200) (on_provisional_across config x side q key c output) (if nat_lt code 300 then on_accepted_reinvite config at x side q key m c output else if ends_dialog code then established_call_end at x c (with_byes config x back) else step_result (at_stage x Stable c) back)
+      if_good (nat_lt code 200) (on_provisional_across config x side q key c output) (if nat_lt code 300 then on_accepted_reinvite config at x side q key m c output else if ends_dialog code
+      then established_call_end at x c (with_byes config x back) else step_result (at_stage x Stable c) back)
       (proceeding_across_good x side q key c output e k had)
       (if_good (nat_lt code 300) (on_accepted_reinvite config at x side q key m c output) (if ends_dialog code then established_call_end at x c (with_byes config x back) else step_result (at_stage x Stable c) back)
       (agreed_good at x side q key m c output e k had)
@@ -564,13 +600,15 @@ module _ (own : ℕ → Bool) (config : CallConfigView) (before : List Emit) whe
 
   timed_out_across_good : (at : ℕ) (x : EstablishedLegs) (q : Reinvite) (c : Call) (output : StepOutput) → Own q.key → Opens c → Replied output → Good (on_timeout_across config at x q c output)
   timed_out_across_good at x q c output e k had =
-      over_established_good at x c (with_byes config x (with_status_to config c q.key q.request 408 output)) k (bye_both_in x (with_status_to config c q.key q.request 408 output) (replied_in c q.key q.request 408 output e had))
+      over_established_good at x c (with_byes config x (with_status_to config c q.key q.request 408 output)) k
+      (bye_both_in x (with_status_to config c q.key q.request 408 output) (replied_in c q.key q.request 408 output e had))
 
   cancelled_across_good : (x : EstablishedLegs) (side : Side) (q : Reinvite) (c : Call) (output : StepOutput) → AtStage (Reinviting side q) → Opens c → Replied output → Good (on_cancel_across config x side q c output)
   cancelled_across_good x side q c output e k had =
       staged_good x (Reinviting side (reinvite_after_cancel q)) c (with_due_cancel config.sip q.invite output) e k (cancelled_in q.invite output had)
 
-  bye_while_good : (at : ℕ) (x : EstablishedLegs) (asking : Side) (q : Reinvite) (leaving : Side) (c : Call) (output : StepOutput) → AtStage (Reinviting asking q) → Opens c → Replied output → Good (on_bye_reinviting config at x asking q leaving c output)
+  bye_while_good : (at : ℕ) (x : EstablishedLegs) (asking : Side) (q : Reinvite) (leaving : Side) (c : Call) (output : StepOutput) → AtStage (Reinviting asking q) → Opens c → Replied output →
+      Good (on_bye_reinviting config at x asking q leaving c output)
   bye_while_good at x asking q leaving c output e k had =
       over_established_good at x (with_abandoned (abandoned_across x asking leaving q) c) (with_bye_to config x (other_side leaving) (with_status_to config c q.key q.request 487 output))
       k
@@ -579,7 +617,8 @@ module _ (own : ℕ → Bool) (config : CallConfigView) (before : List Emit) whe
   expired_good : (at : ℕ) (x : EstablishedLegs) (c : Call) (output : StepOutput) → Opens c → Replied output → Good (after_expiry config at x c output)
   expired_good at x c output k had = over_established_good at x c (with_byes config x output) k (bye_both_in x output had)
 
-  expired_reinviting_good : (at : ℕ) (x : EstablishedLegs) (asking : Side) (q : Reinvite) (c : Call) (output : StepOutput) → Own q.key → Opens c → Replied output → Good (after_expiry_reinviting config at x asking q c output)
+  expired_reinviting_good : (at : ℕ) (x : EstablishedLegs) (asking : Side) (q : Reinvite) (c : Call) (output : StepOutput) → Own q.key → Opens c → Replied output →
+      Good (after_expiry_reinviting config at x asking q c output)
   expired_reinviting_good at x asking q c output e k had =
       over_established_good at x (with_abandoned (abandoned_across x asking asking q) c) (with_byes config x (with_status_to config c q.key q.request 487 output))
       k
@@ -587,13 +626,15 @@ module _ (own : ℕ → Bool) (config : CallConfigView) (before : List Emit) whe
 
   -- by stage
 
-  invite_transition : (stage : Stage) (x : EstablishedLegs) (side : Side) (key : TKey) (m : MessageView) (c : Call) (output : StepOutput) → Own key → AtStage stage → Opens c → Replied output → Good (on_invite stage config x side key m (established x stage c) output)
+  invite_transition : (stage : Stage) (x : EstablishedLegs) (side : Side) (key : TKey) (m : MessageView) (c : Call) (output : StepOutput) → Own key → AtStage stage → Opens c → Replied output →
+      Good (on_invite stage config x side key m (established x stage c) output)
   invite_transition (Answered waiting success) x side key m c output a e k had = staged_good x (Answered waiting success) c output e k had
   invite_transition (Departing waiting success) x side key m c output a e k had = staged_good x (Departing waiting success) c output e k had
   invite_transition Stable x side key m c output a e k had = invited_good x side key m (established x Stable c) output a k had
   invite_transition (Reinviting asking q) x side key m c output a e k had = staged_good x (Reinviting asking q) c output e k had
 
-  left_transition : (stage : Stage) (at : ℕ) (x : EstablishedLegs) (side : Side) (m : MessageView) (c : Call) (output : StepOutput) → AtStage stage → Opens c → Replied output → Good (after_bye_at stage config at x side m c output)
+  left_transition : (stage : Stage) (at : ℕ) (x : EstablishedLegs) (side : Side) (m : MessageView) (c : Call) (output : StepOutput) → AtStage stage → Opens c → Replied output →
+      Good (after_bye_at stage config at x side m c output)
   left_transition (Answered waiting success) at x side m c output e k had = bye_before_good at x waiting success side c output k had
   left_transition (Departing waiting success) at x side m c output e k had = over_established_good at x c output k had
   left_transition Stable at x side m c output e k had =
@@ -601,9 +642,11 @@ module _ (own : ℕ → Bool) (config : CallConfigView) (before : List Emit) whe
       (bye_for (leg_of (other_side side) x).dialogue (copied_across config c x side m) m.parsed output had)
   left_transition (Reinviting asking q) at x side m c output e k had = bye_while_good at x asking q side c output e k had
 
-  bye_transition : (stage : Stage) (at : ℕ) (x : EstablishedLegs) (side : Side) (key : TKey) (m : MessageView) (c : Call) (output : StepOutput) → Own key → AtStage stage → Opens c → Replied output → Good (on_bye stage config at x side key m (established x stage c) output)
+  bye_transition : (stage : Stage) (at : ℕ) (x : EstablishedLegs) (side : Side) (key : TKey) (m : MessageView) (c : Call) (output : StepOutput) → Own key → AtStage stage → Opens c → Replied output →
+      Good (on_bye stage config at x side key m (established x stage c) output)
   bye_transition stage at x side key m c output a e k had =
-      if_good (has_departed stage side) (step_result (established x stage c) (with_status_to config (established x stage c) key m 481 output)) (after_bye_at stage config at x side m (established x stage c) (with_status_to config (established x stage c) key m 200 output))
+      if_good (has_departed stage side) (step_result (established x stage c) (with_status_to config (established x stage c) key m 481 output))
+      (after_bye_at stage config at x side m (established x stage c) (with_status_to config (established x stage c) key m 200 output))
       (staged_good x stage c (with_status_to config (established x stage c) key m 481 output) e k (replied_in (established x stage c) key m 481 output a had))
       (left_transition stage at x side m (established x stage c) (with_status_to config (established x stage c) key m 200 output) e k (replied_in (established x stage c) key m 200 output a had))
 
@@ -616,11 +659,13 @@ module _ (own : ℕ → Bool) (config : CallConfigView) (before : List Emit) whe
       (asked_on_transition x.service side (leg_of (other_side side) x) key m _ output a tt k had)
   update_at_transition (Reinviting asking q) x side key m c output a e k had = crossing_transition key m (established x (Reinviting asking q) c) output a e k had
 
-  received_at_transition : (stage : Stage) (at : ℕ) (x : EstablishedLegs) (side : Side) (key : TKey) (m : MessageView) (c : Call) (output : StepOutput) → Own key → AtStage stage → Opens c → Replied output → Good (on_valid_request_at stage config at x side key m (established x stage c) output)
+  received_at_transition : (stage : Stage) (at : ℕ) (x : EstablishedLegs) (side : Side) (key : TKey) (m : MessageView) (c : Call) (output : StepOutput) → Own key → AtStage stage → Opens c →
+      Replied output → Good (on_valid_request_at stage config at x side key m (established x stage c) output)
   received_at_transition stage at x side key m c output a e k had =
       let now : Call = established x stage c in
       let rest : StepResult = if is_prack m then on_refused_prack config key m now output else step_result now (with_unlisted_response config now key m output) in
-      if_good (is_invite m) (on_invite stage config x side key m now output) (if is_bye m then on_bye stage config at x side key m now output else if is_update m then on_update_at stage config x side key m now output else rest)
+      if_good (is_invite m) (on_invite stage config x side key m now output)
+      (if is_bye m then on_bye stage config at x side key m now output else if is_update m then on_update_at stage config x side key m now output else rest)
       (invite_transition stage x side key m c output a e k had)
       (if_good (is_bye m) (on_bye stage config at x side key m now output) (if is_update m then on_update_at stage config x side key m now output else rest)
       (bye_transition stage at x side key m c output a e k had)
@@ -633,12 +678,15 @@ module _ (own : ℕ → Bool) (config : CallConfigView) (before : List Emit) whe
   request_at_if_transition : (r : Result (Unit {0}) DialogueFault) (stage : Stage) (at : ℕ) (x : EstablishedLegs) (side : Side) (key : TKey) (m : MessageView) (c : Call) (output : StepOutput) →
       Own key → AtStage stage → Opens c → Replied output → Good (on_request_at_if r stage config at x side key m (established x stage c) output)
   request_at_if_transition (Ok received) stage at x side key m c output a e k had = received_at_transition stage at (with_leg side (leg_after_receiving (leg_of side x) m) x) side key m c output a e k had
-  request_at_if_transition (Err fault) stage at x side key m c output a e k had = staged_good x stage c (with_refused_request config (established x stage c) key m fault output) e k (refused_request_in (established x stage c) key m fault output a had)
+  request_at_if_transition (Err fault) stage at x side key m c output a e k had =
+      staged_good x stage c (with_refused_request config (established x stage c) key m fault output) e k (refused_request_in (established x stage c) key m fault output a had)
 
-  request_at_transition : (stage : Stage) (at : ℕ) (x : EstablishedLegs) (side : Side) (key : TKey) (m : MessageView) (c : Call) (output : StepOutput) → Own key → AtStage stage → Opens c → Replied output → Good (on_request_at stage config at x side key m (established x stage c) output)
+  request_at_transition : (stage : Stage) (at : ℕ) (x : EstablishedLegs) (side : Side) (key : TKey) (m : MessageView) (c : Call) (output : StepOutput) → Own key → AtStage stage → Opens c →
+      Replied output → Good (on_request_at stage config at x side key m (established x stage c) output)
   request_at_transition stage at x side key m c output a e k had = request_at_if_transition (request_check (leg_of side x) m (busy_in stage side)) stage at x side key m c output a e k had
 
-  ack_at_transition : (stage : Stage) (at : ℕ) (x : EstablishedLegs) (side : Side) (m : MessageView) (c : Call) (output : StepOutput) → AtStage stage → Opens c → Replied output → Good (on_ack_at stage config at x side m (established x stage c) output)
+  ack_at_transition : (stage : Stage) (at : ℕ) (x : EstablishedLegs) (side : Side) (m : MessageView) (c : Call) (output : StepOutput) → AtStage stage → Opens c → Replied output →
+      Good (on_ack_at stage config at x side m (established x stage c) output)
   ack_at_transition (Answered waiting success) at x side m c output e k had =
       if_good (acknowledges waiting success side m) (after_ack_across config x side success m (established x (Answered waiting success) c) output) (step_result (established x (Answered waiting success) c) output)
       (acked_across_good x side success m (established x (Answered waiting success) c) output k had) (staged_good x (Answered waiting success) c output e k had)
@@ -648,7 +696,8 @@ module _ (own : ℕ → Bool) (config : CallConfigView) (before : List Emit) whe
   ack_at_transition Stable at x side m c output e k had = staged_good x Stable c output e k had
   ack_at_transition (Reinviting asking q) at x side m c output e k had = staged_good x (Reinviting asking q) c output e k had
 
-  cancel_at_transition : (stage : Stage) (x : EstablishedLegs) (invite : TKey) (c : Call) (output : StepOutput) → AtStage stage → Opens c → Replied output → Good (on_cancel_at stage config x invite (established x stage c) output)
+  cancel_at_transition : (stage : Stage) (x : EstablishedLegs) (invite : TKey) (c : Call) (output : StepOutput) → AtStage stage → Opens c → Replied output →
+      Good (on_cancel_at stage config x invite (established x stage c) output)
   cancel_at_transition (Answered waiting success) x invite c output e k had = staged_good x (Answered waiting success) c output e k had
   cancel_at_transition (Departing waiting success) x invite c output e k had = staged_good x (Departing waiting success) c output e k had
   cancel_at_transition Stable x invite c output e k had = staged_good x Stable c output e k had
@@ -656,7 +705,8 @@ module _ (own : ℕ → Bool) (config : CallConfigView) (before : List Emit) whe
       if_good (invite.0 == q.key.0) (on_cancel_across config x asking q (established x (Reinviting asking q) c) output) (step_result (established x (Reinviting asking q) c) output)
       (cancelled_across_good x asking q (established x (Reinviting asking q) c) output e k had) (staged_good x (Reinviting asking q) c output e k had)
 
-  response_at_transition : (stage : Stage) (at : ℕ) (x : EstablishedLegs) (key : TKey) (m : MessageView) (c : Call) (output : StepOutput) → AtStage stage → Opens c → Replied output → Good (on_response_at stage config at x key m (established x stage c) output)
+  response_at_transition : (stage : Stage) (at : ℕ) (x : EstablishedLegs) (key : TKey) (m : MessageView) (c : Call) (output : StepOutput) → AtStage stage → Opens c → Replied output →
+      Good (on_response_at stage config at x key m (established x stage c) output)
   response_at_transition (Answered waiting success) at x key m c output e k had = staged_good x (Answered waiting success) c output e k had
   response_at_transition (Departing waiting success) at x key m c output e k had = staged_good x (Departing waiting success) c output e k had
   response_at_transition Stable at x key m c output e k had = staged_good x Stable c output e k had
@@ -674,9 +724,11 @@ module _ (own : ℕ → Bool) (config : CallConfigView) (before : List Emit) whe
   rung_transition Stable at x c output e k had = expired_good at x (established x Stable c) output k had
   rung_transition (Reinviting asking q) at x c output e k had = expired_reinviting_good at x asking q (established x (Reinviting asking q) c) output e k had
 
-  due_at_transition : (stage : Stage) (at : ℕ) (x : EstablishedLegs) (what : DueWord) (c : Call) (output : StepOutput) → AtStage stage → Opens c → Replied output → Good (on_due_at stage config at x what (established x stage c) output)
+  due_at_transition : (stage : Stage) (at : ℕ) (x : EstablishedLegs) (what : DueWord) (c : Call) (output : StepOutput) → AtStage stage → Opens c → Replied output →
+      Good (on_due_at stage config at x what (established x stage c) output)
   due_at_transition stage at x what c output e k had =
-      if_good (is_due_at stage c.successes what) (after_timer_at stage config at x (established x stage c) output) (step_result (established x stage c) output) (rung_transition stage at x c output e k had) (staged_good x stage c output e k had)
+      if_good (is_due_at stage c.successes what) (after_timer_at stage config at x (established x stage c) output) (step_result (established x stage c) output)
+      (rung_transition stage at x c output e k had) (staged_good x stage c output e k had)
 
   -- ---- INVITEs for which the call does not wait
 
@@ -699,13 +751,15 @@ module _ (own : ℕ → Bool) (config : CallConfigView) (before : List Emit) whe
   late_response key m l output had =
       let said : AbandonedInvite = after_provisional key m l in
       let known : AbandonedInvite = with_invite l (with_key key l.invite) in
-      if_rest (nat_lt (status_of m.start) 200) (after_due_cancel config.sip said output) (if nat_lt (status_of m.start) 300 then on_success config.sip known (remote_of Callee m.lines) output else record { remaining = None; output = with_final_ack config.sip key l.invite m output })
+      if_rest (nat_lt (status_of m.start) 200) (after_due_cancel config.sip said output)
+      (if nat_lt (status_of m.start) 300 then on_success config.sip known (remote_of Callee m.lines) output else record { remaining = None; output = with_final_ack config.sip key l.invite m output })
       (late_rest said output had)
       (if_rest (nat_lt (status_of m.start) 300) (on_success config.sip known (remote_of Callee m.lines) output) (record { remaining = None; output = with_final_ack config.sip key l.invite m output })
       (success_rest known (remote_of Callee m.lines) (ended_dialog known (remote_of Callee m.lines).tag) output had)
       (final_acked_in key l.invite m output had))
 
-  abandoned_transition : (key : TKey) (m : MessageView) (at : ℕ) (o : Option AbandonedInvite) (c : Call) (output : StepOutput) → At c.phase → Opens c → Replied output → Good (on_response_abandoned config key m at o c output)
+  abandoned_transition : (key : TKey) (m : MessageView) (at : ℕ) (o : Option AbandonedInvite) (c : Call) (output : StepOutput) → At c.phase → Opens c → Replied output →
+      Good (on_response_abandoned config key m at o c output)
   abandoned_transition key m at None c output p k had = onward_good c output p k had
   abandoned_transition key m at (Some l) c output p k had = good (on_response_abandoned config key m at (Some l) c output) p k (late_response key m.parsed l output had)
 
@@ -716,7 +770,8 @@ module _ (own : ℕ → Bool) (config : CallConfigView) (before : List Emit) whe
   acked_again_in t None output had = had
   acked_again_in t (Some sample) output had = emit_in _ output tt had
 
-  answered_transition : (key : TKey) (m : MessageView) (at : ℕ) (o : Option AnsweredInvite) (c : Call) (output : StepOutput) → At c.phase → Opens c → Replied output → Good (on_response_answered config key m at o c output)
+  answered_transition : (key : TKey) (m : MessageView) (at : ℕ) (o : Option AnsweredInvite) (c : Call) (output : StepOutput) → At c.phase → Opens c → Replied output →
+      Good (on_response_answered config key m at o c output)
   answered_transition key m at None c output p k had = onward_good c output p k had
   answered_transition key m at (Some t) c output p k had =
       if_good (not (is_success (status_of m.parsed.start))) (step_result c output) (if is_fork t m then on_forked_response config key m at t c output else on_retransmitted_success t c output)
@@ -725,11 +780,13 @@ module _ (own : ℕ → Bool) (config : CallConfigView) (before : List Emit) whe
       (onward_good c (if is_stable c.phase then with_retransmitted_ack t t.invite.ack output else output) p k
       (if_output (is_stable c.phase) (with_retransmitted_ack t t.invite.ack output) output (acked_again_in t t.invite.ack output had) had)))
 
-  answered_at_transition : (at : ℕ) (key : TKey) (m : MessageView) (branch : List ℕ) (o : Option ℕ) (c : Call) (output : StepOutput) → At c.phase → Opens c → Replied output → Good (on_response_answered_at config at key m branch o c output)
+  answered_at_transition : (at : ℕ) (key : TKey) (m : MessageView) (branch : List ℕ) (o : Option ℕ) (c : Call) (output : StepOutput) → At c.phase → Opens c → Replied output →
+      Good (on_response_answered_at config at key m branch o c output)
   answered_at_transition at key m branch None c output p k had = in_flight_transition at m (position (is_in_flight branch) c.relayed) c output p k had
   answered_at_transition at key m branch (Some place) c output p k had = answered_transition key m place (slice_get c.answered_invites place) c output p k had
 
-  at_transition : (at : ℕ) (key : TKey) (m : MessageView) (branch : List ℕ) (o : Option ℕ) (c : Call) (output : StepOutput) → At c.phase → Opens c → Replied output → Good (on_other_response_at config at key m branch o c output)
+  at_transition : (at : ℕ) (key : TKey) (m : MessageView) (branch : List ℕ) (o : Option ℕ) (c : Call) (output : StepOutput) → At c.phase → Opens c → Replied output →
+      Good (on_other_response_at config at key m branch o c output)
   at_transition at key m branch None c output p k had = answered_at_transition at key m branch (position (is_answered_invite branch) c.answered_invites) c output p k had
   at_transition at key m branch (Some place) c output p k had = abandoned_transition key m place (slice_get c.abandoned place) c output p k had
 
@@ -752,7 +809,8 @@ module _ (own : ℕ → Bool) (config : CallConfigView) (before : List Emit) whe
   abbrev at_phase : Phase → Call → Call
   at_phase phase c = record c { phase = phase }
 
-  response_good : (phase : Phase) (now : SnapshotView) (key : TKey) (m : MessageView) (c : Call) (output : StepOutput) → At phase → Opens c → Replied output → Good (response_in phase config now key m (at_phase phase c) output)
+  response_good : (phase : Phase) (now : SnapshotView) (key : TKey) (m : MessageView) (c : Call) (output : StepOutput) → At phase → Opens c → Replied output →
+      Good (response_in phase config now key m (at_phase phase c) output)
   response_good (Offered x) now key m c output p k had = response_transition now x key m (status_of m.parsed.start) (at_phase (Offered x) c) output k had
   response_good (Established x stage) now key m c output p k had = response_at_transition stage now.at x key m c output p k had
   response_good (Detached detached) now key m c output p k had = onward_good (at_phase (Detached detached) c) output p k had
@@ -764,7 +822,8 @@ module _ (own : ℕ → Bool) (config : CallConfigView) (before : List Emit) whe
   timeout_good (Detached detached) now c output p k had = onward_good (at_phase (Detached detached) c) output p k had
   timeout_good (Over cause) now c output p k had = onward_good (at_phase (Over cause) c) output p k had
 
-  request_good : (phase : Phase) (at : ℕ) (side : Side) (key : TKey) (m : MessageView) (c : Call) (output : StepOutput) → Own key → At phase → Opens c → Replied output → Good (request_in phase config at side key m (at_phase phase c) output)
+  request_good : (phase : Phase) (at : ℕ) (side : Side) (key : TKey) (m : MessageView) (c : Call) (output : StepOutput) → Own key → At phase → Opens c → Replied output →
+      Good (request_in phase config at side key m (at_phase phase c) output)
   request_good (Offered x) at side key m c output a p k had = request_transition at x side key m c output a k had
   request_good (Established x stage) at side key m c output a p k had = request_at_transition stage at x side key m c output a p k had
   request_good (Detached detached) at side key m c output a p k had = onward_good (at_phase (Detached detached) c) output p k had
@@ -776,7 +835,8 @@ module _ (own : ℕ → Bool) (config : CallConfigView) (before : List Emit) whe
   ack_good (Detached detached) at side m c output p k had = onward_good (at_phase (Detached detached) c) output p k had
   ack_good (Over cause) at side m c output p k had = onward_good (at_phase (Over cause) c) output p k had
 
-  cancel_good : (phase : Phase) (at : ℕ) (key : TKey) (m : MessageView) (invite : TKey) (c : Call) (output : StepOutput) → Own key → At phase → Opens c → Replied output → Good (cancel_in phase config at key m invite (at_phase phase c) output)
+  cancel_good : (phase : Phase) (at : ℕ) (key : TKey) (m : MessageView) (invite : TKey) (c : Call) (output : StepOutput) → Own key → At phase → Opens c → Replied output →
+      Good (cancel_in phase config at key m invite (at_phase phase c) output)
   cancel_good (Offered x) at key m invite c output a p k had = cancel_transition at x key m invite c output a k had
   cancel_good (Established x stage) at key m invite c output a p k had =
       cancel_at_transition stage x invite c (with_status_to config (at_phase (Established x stage) c) key m 200 output) p k (replied_in (at_phase (Established x stage) c) key m 200 output a had)
@@ -789,7 +849,8 @@ module _ (own : ℕ → Bool) (config : CallConfigView) (before : List Emit) whe
   due_good (Detached detached) now what c output p k had = onward_good (at_phase (Detached detached) c) output p k had
   due_good (Over cause) now what c output p k had = onward_good (at_phase (Over cause) c) output p k had
 
-  answer_good : (branch : Option (List ℕ)) (now : SnapshotView) (key : TKey) (m : MessageView) (c : Call) (output : StepOutput) → At c.phase → Opens c → Replied output → Good (on_response_to branch config now key m c output)
+  answer_good : (branch : Option (List ℕ)) (now : SnapshotView) (key : TKey) (m : MessageView) (c : Call) (output : StepOutput) → At c.phase → Opens c → Replied output →
+      Good (on_response_to branch config now key m c output)
   answer_good None now key m c output p k had = onward_good c output p k had
   answer_good (Some branch) now key m c output p k had =
       if_good (is_current branch c) (response_in c.phase config now key m c output) (on_other_response config now.at key m branch c output)
@@ -837,7 +898,8 @@ module _ (own : ℕ → Bool) (config : CallConfigView) (before : List Emit) whe
   finished_in_good (Detached detached) at c output p k had =
       let left : Call = at_phase (Detached detached) c in
       let told : StepOutput = output_after_dismissal config left output in
-      over_good at causes.Ended _ _ (without_in_flight left) (with_bye config.sip (released_leg detached.remaining).dialogue told) (k.0, tt) (bye_in (released_leg detached.remaining).dialogue told (dismissing_in left output k had))
+      over_good at causes.Ended _ _ (without_in_flight left) (with_bye config.sip (released_leg detached.remaining).dialogue told) (k.0, tt)
+      (bye_in (released_leg detached.remaining).dialogue told (dismissing_in left output k had))
   finished_in_good (Over cause) at c output p k had = onward_good (at_phase (Over cause) c) output p k had
 
   pub finished_good : (at : ℕ) (c : Call) (output : StepOutput) → At c.phase → Opens c → Replied output → Good (call_finish config at c output)

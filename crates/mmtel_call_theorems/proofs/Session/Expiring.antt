@@ -71,7 +71,8 @@ other_label : (key asked : TKey) (m : Message StartLine) → (asked.0 == key.0) 
 other_label key asked m e = ap (λ b. if b then final_label (status_of m.start) else []) e
 
 -- what is dismissed before contains no BYE to a side, and nothing that is observed for the server transaction of another request
-dismissed_none : (config : CallConfigView) (c : Call) (flights : List RelayedTransaction) → (new : List Emit) × ((output : StepOutput) → (with_dismissals config c flights output).out ≡ output.out ++ new) × (byes_of new ≡ []) × ((key : TKey) → InFlightHasOtherKeys key flights → labels_of key new ≡ [])
+dismissed_none : (config : CallConfigView) (c : Call) (flights : List RelayedTransaction) → (new : List Emit)
+    × ((output : StepOutput) → (with_dismissals config c flights output).out ≡ output.out ++ new) × (byes_of new ≡ []) × ((key : TKey) → InFlightHasOtherKeys key flights → labels_of key new ≡ [])
 dismissed_none config c [] = ([], λ output. sym (append-nil output.out), refl, λ key fly. refl)
 dismissed_none config c (flight ∷ flights) =
     let (new, out, byes, signs) = dismissed_none config c flights in
@@ -79,7 +80,8 @@ dismissed_none config c (flight ∷ flights) =
       e ∷ new,
       λ output. out (with_dismissal config c flight output) ∙ append_assoc output.out (e ∷ []) new,
       byes,
-      λ key fly. ap (λ l. l ++ labels_of key new) (other_label key flight.exchange.key (own_response (contact_text config.sip) flight.exchange.request c.opening.tag (status_by flight.kind) [] [] []) fly.0) ∙ signs key fly.1,
+      λ key fly. ap (λ l. l ++ labels_of key new)
+          (other_label key flight.exchange.key (own_response (contact_text config.sip) flight.exchange.request c.opening.tag (status_by flight.kind) [] [] []) fly.0) ∙ signs key fly.1,
     )
 
 -- all that is in flight
@@ -109,7 +111,8 @@ all_dismissed config c output =
     }
 
 -- in an established call no reliable response waits
-established_dismissed : (config : CallConfigView) (x : EstablishedLegs) (stage : Stage) (c : Call) (output : StepOutput) → c.phase ≡ Established x stage → Dismissed config c output (output_after_dismissal config c output)
+established_dismissed : (config : CallConfigView) (x : EstablishedLegs) (stage : Stage) (c : Call) (output : StepOutput) → c.phase ≡ Established x stage →
+    Dismissed config c output (output_after_dismissal config c output)
 established_dismissed config x stage c output is = subst (λ phase. Dismissed config c output (with_settled_in phase config c (with_all_dismissals config c output))) (sym is) (all_dismissed config c output)
 
 -- an INVITE of a side that has no final response is refused
@@ -130,7 +133,8 @@ record Leaves (x : EstablishedLegs) (stage : Stage) (before : StepOutput) (s : S
 talks_expired : (config : CallConfigView) (at : ℕ) (x : EstablishedLegs) (c : Call) (output : StepOutput) → Leaves x Stable output (after_expiry config at x c output)
 talks_expired config at x c output = record { over = ap Over (ended_so c.answered); new = _; out = append_assoc output.out (_ ∷ []) (_ ∷ []); byes = refl; refused = tt }
 
-asks_expired : (config : CallConfigView) (at : ℕ) (x : EstablishedLegs) (asking : Side) (q : Reinvite) (c : Call) (output : StepOutput) → Leaves x (Reinviting asking q) output (after_expiry_reinviting config at x asking q c output)
+asks_expired : (config : CallConfigView) (at : ℕ) (x : EstablishedLegs) (asking : Side) (q : Reinvite) (c : Call) (output : StepOutput) →
+    Leaves x (Reinviting asking q) output (after_expiry_reinviting config at x asking q c output)
 unfolding response
 asks_expired config at x asking q c output = record {
   over = ap Over (ended_so c.answered);
@@ -147,7 +151,8 @@ by_stage config at x Stable c output refreshable = talks_expired config at x c o
 by_stage config at x (Reinviting asking q) c output refreshable = asks_expired config at x asking q c output
 
 -- what an established call does on a deadline
-hit : (config : CallConfigView) (at : ℕ) (x : EstablishedLegs) (stage : Stage) (c : Call) (output : StepOutput) → is_refreshable_at stage ≡ true → Leaves x stage output (on_due_at stage config at x (due.Expired c.successes) c output)
+hit : (config : CallConfigView) (at : ℕ) (x : EstablishedLegs) (stage : Stage) (c : Call) (output : StepOutput) → is_refreshable_at stage ≡ true →
+    Leaves x stage output (on_due_at stage config at x (due.Expired c.successes) c output)
 hit config at x (Answered waiting success) c output refreshable = absurd (let e : false ≡ true = refreshable in cc)
 hit config at x (Departing waiting success) c output refreshable = absurd (let e : false ≡ true = refreshable in cc)
 hit config at x Stable c output refreshable =
@@ -168,14 +173,16 @@ its_deadline (Departing waiting success) count refreshable = absurd (let e : fal
 its_deadline Stable count refreshable = eq-eqb count count refl
 its_deadline (Reinviting asking q) count refreshable = eq-eqb count count refl
 
-refused_then : (stage : Stage) (flights : List RelayedTransaction) (one two : List Emit) (before : StepOutput) (s : StepResult) → items_added before.out s.output.out ≡ one ++ two → ((key : TKey) → InFlightHasOtherKeys key flights → labels_of key one ≡ []) → IsRefused stage two →
+refused_then : (stage : Stage) (flights : List RelayedTransaction) (one two : List Emit) (before : StepOutput) (s : StepResult) → items_added before.out s.output.out ≡ one ++ two →
+    ((key : TKey) → InFlightHasOtherKeys key flights → labels_of key one ≡ []) → IsRefused stage two →
     IsRefusedIn stage flights before s
 refused_then (Answered waiting success) flights one two before s is signs r = tt
 refused_then (Departing waiting success) flights one two before s is signs r = tt
 refused_then Stable flights one two before s is signs r = tt
 refused_then (Reinviting asking q) flights one two before s is signs r = λ fly. ap (labels_of q.key) is ∙ labels-append q.key one two ∙ ap (λ l. l ++ labels_of q.key two) (signs q.key fly) ∙ r
 
-left_so : (config : CallConfigView) (x : EstablishedLegs) (stage : Stage) (c : Call) (output before : StepOutput) (s : StepResult) → Dismissed config c output before → Leaves x stage before s → HasExpired x stage c.relayed output s
+left_so : (config : CallConfigView) (x : EstablishedLegs) (stage : Stage) (c : Call) (output before : StepOutput) (s : StepResult) → Dismissed config c output before → Leaves x stage before s →
+    HasExpired x stage c.relayed output s
 left_so config x stage c output before s d l =
     let out : items_added output.out s.output.out ≡ d.new ++ l.new = added_new output.out (d.new ++ l.new) s.output.out (l.out ∙ ap (λ o. o ++ l.new) d.out ∙ append_assoc output.out d.new l.new) in
     record {
@@ -187,7 +194,8 @@ left_so config x stage c output before s d l =
 leaving : (c : Call) (x : EstablishedLegs) (stage : Stage) → c.phase ≡ Established x stage → is_refreshable_at stage ≡ true → leaves (signal.Due (due.Expired c.successes)) c ≡ true
 leaving c x stage is refreshable = ap (λ phase. leaves_on_due phase (due.Expired c.successes) c) is ∙ its_deadline stage c.successes refreshable
 
-transition_expires : (config : CallConfigView) (now : SnapshotView) (x : EstablishedLegs) (stage : Stage) (c : Call) (output : StepOutput) → c.phase ≡ Established x stage → is_refreshable_at stage ≡ true → Leaves x stage output (transition config now (signal.Due (due.Expired c.successes)) c output)
+transition_expires : (config : CallConfigView) (now : SnapshotView) (x : EstablishedLegs) (stage : Stage) (c : Call) (output : StepOutput) → c.phase ≡ Established x stage →
+    is_refreshable_at stage ≡ true → Leaves x stage output (transition config now (signal.Due (due.Expired c.successes)) c output)
 unfolding transition
 transition_expires config now x stage c output is refreshable = due_hit config now c.phase x stage c output is refreshable
 
@@ -198,7 +206,8 @@ expires config now x stage c output is refreshable =
     let received : Signal = signal.Due (due.Expired c.successes) in
     let before : StepOutput = output_after_dismissal config c output in
     subst (λ b. HasExpired x stage c.relayed output (if b then transition config now received (without_in_flight c) before else transition config now received c output)) (sym (leaving c x stage is refreshable))
-    (left_so config x stage c output before (transition config now received (without_in_flight c) before) (established_dismissed config x stage c output is) (transition_expires config now x stage (without_in_flight c) before is refreshable))
+    (left_so config x stage c output before (transition config now received (without_in_flight c) before) (established_dismissed config x stage c output is)
+    (transition_expires config now x stage (without_in_flight c) before is refreshable))
 
 -- ---- and no other deadline
 
@@ -241,7 +250,8 @@ stays_in (Established x stage) what c refreshable other = stays_at stage what c.
 stays_in (Detached detached) what c refreshable other = absurd (let e : false ≡ true = refreshable in cc)
 stays_in (Over cause) what c refreshable other = absurd (let e : false ≡ true = refreshable in cc)
 
-transition_missed : (config : CallConfigView) (now : SnapshotView) (what : DueWord) (c : Call) (output : StepOutput) → is_refreshable c.phase ≡ true → is_expiry c.successes what ≡ false → transition config now (signal.Due what) c output ≡ step_result c output
+transition_missed : (config : CallConfigView) (now : SnapshotView) (what : DueWord) (c : Call) (output : StepOutput) → is_refreshable c.phase ≡ true → is_expiry c.successes what ≡ false →
+    transition config now (signal.Due what) c output ≡ step_result c output
 unfolding transition
 transition_missed config now what c output refreshable other = missed config now c.phase what c output refreshable other
 
@@ -250,9 +260,11 @@ no_other : (config : CallConfigView) (now : SnapshotView) (what : DueWord) (c : 
 unfolding step
 no_other config now what c output refreshable other =
     let miss = not_expiry c.successes what other in
-    ap (λ b. if b then transition config now (signal.Due what) (without_in_flight c) (output_after_dismissal config c output) else transition config now (signal.Due what) c output) (stays_in c.phase what c refreshable miss) ∙ transition_missed config now what c output refreshable miss
+    ap (λ b. if b then transition config now (signal.Due what) (without_in_flight c) (output_after_dismissal config c output) else transition config now (signal.Due what) c output)
+    (stays_in c.phase what c refreshable miss) ∙ transition_missed config now what c output refreshable miss
 
-passed : (config : CallConfigView) (now : SnapshotView) (phase : Phase) (number : ℕ) (c : Call) (output : StepOutput) → is_refreshable phase ≡ false → due_in phase config now (due.Expired number) c output ≡ step_result c output
+passed : (config : CallConfigView) (now : SnapshotView) (phase : Phase) (number : ℕ) (c : Call) (output : StepOutput) → is_refreshable phase ≡ false →
+    due_in phase config now (due.Expired number) c output ≡ step_result c output
 passed config now (Offered x) number c output closed = refl
 passed config now (Established x (Answered waiting success)) number c output closed = refl
 passed config now (Established x (Departing waiting success)) number c output closed = refl
@@ -270,15 +282,18 @@ closed_stays (Established x (Reinviting asking q)) number c closed = absurd (let
 closed_stays (Detached detached) number c closed = refl
 closed_stays (Over cause) number c closed = refl
 
-transition_passed : (config : CallConfigView) (now : SnapshotView) (number : ℕ) (c : Call) (output : StepOutput) → is_refreshable c.phase ≡ false → transition config now (signal.Due (due.Expired number)) c output ≡ step_result c output
+transition_passed : (config : CallConfigView) (now : SnapshotView) (number : ℕ) (c : Call) (output : StepOutput) → is_refreshable c.phase ≡ false →
+    transition config now (signal.Due (due.Expired number)) c output ≡ step_result c output
 unfolding transition
 transition_passed config now number c output closed = passed config now c.phase number c output closed
 
-elsewhere : (config : CallConfigView) (now : SnapshotView) (number : ℕ) (c : Call) (output : StepOutput) → is_refreshable c.phase ≡ false → step config now (signal.Due (due.Expired number)) c output ≡ step_result c output
+elsewhere : (config : CallConfigView) (now : SnapshotView) (number : ℕ) (c : Call) (output : StepOutput) → is_refreshable c.phase ≡ false →
+    step config now (signal.Due (due.Expired number)) c output ≡ step_result c output
 unfolding step
 elsewhere config now number c output closed =
     let received : Signal = signal.Due (due.Expired number) in
-    ap (λ b. if b then transition config now received (without_in_flight c) (output_after_dismissal config c output) else transition config now received c output) (closed_stays c.phase number c closed) ∙ transition_passed config now number c output closed
+    ap (λ b. if b then transition config now received (without_in_flight c) (output_after_dismissal config c output) else transition config now received c output)
+    (closed_stays c.phase number c closed) ∙ transition_passed config now number c output closed
 
 pub sessions_expire : SessionsExpire
 sessions_expire = record { expires = expires; no_other = no_other; elsewhere = elsewhere }

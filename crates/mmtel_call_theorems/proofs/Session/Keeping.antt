@@ -138,7 +138,8 @@ module _ (config : CallConfigView) (c : Call) (w : Session) (seen : IsSessionObs
 step_observed : (config : CallConfigView) (now : SnapshotView) (received : Signal) (c : Call) (output : StepOutput) (w : Session) → IsSessionObserved config.timer c w →
     IsSessionObserved config.timer (step config now received c output).call (session_after_step now.at c.opening.number c received (items_added output.out (step config now received c output).output.out) w)
 step_observed config now received c output w seen =
-    goes_observed config c w seen now.at (success_received received c) output.out (step config now received c output) (rows.step_goes config c.opening.number c.successes output.out now received c output (refl, refl) refl)
+    goes_observed config c w seen now.at (success_received received c) output.out (step config now received c output)
+    (rows.step_goes config c.opening.number c.successes output.out now received c output (refl, refl) refl)
 
 first_observed : (s : TraceStart) → IsSessionObserved s.config.timer (first_step s).call (initial_session s.arrival.number (items_added s.output.out (first_step s).output.out))
 first_observed s =

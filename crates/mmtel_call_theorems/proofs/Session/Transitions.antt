@@ -1,5 +1,6 @@
 -- The effect of each transition of the step table on the session: it relays a 2xx, with the deadline that is due for it, or it arms none and the number of the call does not change.
-use Rattle.std.proofs.Common.{◌≡◌, ◌==◌, ◌&&◌, ◌||◌, ◌+◌, ◌++◌, ◌∙◌, Bool, true, false, not, ℕ, zero, suc, List, [], ◌∷◌, Option, Some, None, nat_lt, Result, Ok, Err, codes, refl, ap, subst, sym, append_assoc, append-nil, arith}
+use Rattle.std.proofs.Common.{◌≡◌, ◌==◌, ◌&&◌, ◌||◌, ◌+◌, ◌++◌, ◌∙◌, Bool, true, false, not, ℕ, zero, suc, List, [], ◌∷◌, Option}
+use Rattle.std.proofs.Common.{Some, None, nat_lt, Result, Ok, Err, codes, refl, ap, subst, sym, append_assoc, append-nil, arith}
 use Rattle.std.proofs.lemmas.Bool.{eq-eqb}
 use Rattle.std.proofs.lemmas.Bool.Decides.{nat_tests}
 use Rattle.std.specs.List.{filter, list_any}
@@ -19,21 +20,27 @@ use Rattle.mmtel_call_services.specs.declared.openings.Arrival.{Arrival}
 use Rattle.mmtel_call_services.specs.declared.openings.Service.{Service}
 use Rattle.mmtel_call.specs.Answered.{acknowledges, after_ack_across, after_ack_timeout, after_bye_before_ack, after_departure, at_stage, copied_across, leg_of, with_ack_and_bye, with_bye_to, with_leg}
 use Rattle.mmtel_call.specs.Closing.{StepResult, call_end, established_call_end, step_result, with_past}
-use Rattle.mmtel_call.specs.Diverting.{after_attempt, at_target, call_after_diversion, call_refusal, diversion_refusal, diversion_step, diversion_unless_refused, divert, is_diverted, on_end, on_next_step, reach, relayed_refusal, with_notification_of, with_unoffered_meter}
+use Rattle.mmtel_call.specs.Diverting.{after_attempt, at_target, call_after_diversion, call_refusal, diversion_refusal, diversion_step, diversion_unless_refused}
+use Rattle.mmtel_call.specs.Diverting.{divert, is_diverted, on_end, on_next_step, reach, relayed_refusal, with_notification_of, with_unoffered_meter}
 use Rattle.mmtel_call.specs.Dismissal.{leaves_on_status}
 use Rattle.mmtel_call.specs.RelayedTransactions as in_flight
 use Rattle.mmtel_call.specs.RelayedTransactions.{updating_side, with_settled}
-use Rattle.mmtel_call.specs.OtherRequests.{as_abandoned, is_answered_invite, is_fork, is_stable, is_success, on_forked_response, on_other_response, on_other_response_at, on_other_timeout, on_other_timeout_at, on_response_abandoned, on_response_answered, on_response_answered_at, on_retransmitted_success, with_retransmitted_ack, without_key, without_timed_out}
+use Rattle.mmtel_call.specs.OtherRequests.{as_abandoned, is_answered_invite, is_fork, is_stable, is_success, on_forked_response, on_other_response, on_other_response_at, on_other_timeout, on_other_timeout_at}
+use Rattle.mmtel_call.specs.OtherRequests.{on_response_abandoned, on_response_answered, on_response_answered_at, on_retransmitted_success, with_retransmitted_ack, without_key, without_timed_out}
 use Rattle.mmtel_call.specs.Detaching.{call_finish, finish_of_phase}
 use Rattle.mmtel_call.specs.AttemptStarts.{attempt_dialog_of, attempt_start}
 use Rattle.mmtel_call.specs.Opening.{call_after_opening, caller_of, new_call, unless_refused}
-use Rattle.mmtel_call.specs.Reinvites.{abandoned_across, after_invite_across, ends_dialog, on_accepted_reinvite, on_bye_reinviting, on_cancel_across, on_provisional_across, on_reinvite, on_response_across, on_timeout_across, reinvite_after_cancel, reinvite_after_provisional, with_byes, with_cancel_if_due, with_refusal_back, with_relayed_back}
+use Rattle.mmtel_call.specs.Reinvites.{abandoned_across, after_invite_across, ends_dialog, on_accepted_reinvite, on_bye_reinviting, on_cancel_across, on_provisional_across, on_reinvite}
+use Rattle.mmtel_call.specs.Reinvites.{on_response_across, on_timeout_across, reinvite_after_cancel, reinvite_after_provisional, with_byes, with_cancel_if_due, with_refusal_back, with_relayed_back}
 use Rattle.mmtel_call.specs.Reliable.{named_rseq, on_named_prack, on_rack, on_refused_prack, own_rseq_for, rack_in, status_of_refusal, with_reliable_response}
 use Rattle.mmtel_call.specs.Requests.{is_bye, is_invite, is_prack, is_update, leg_after_receiving, request_check, with_refused_request, with_unlisted_response}
 use Rattle.mmtel_call.specs.Ringing as ringing
-use Rattle.mmtel_call.specs.Ringing.{on_answer, with_no_reply_timer, with_no_reply_timer_in, with_attempt_cancel, on_failure, on_caller_cancel, end_before_answer, attempt_after_request, call_without_attempt, on_cancel, on_due, on_valid_request, on_other, on_prack_of, on_request, on_request_if, on_response, offered_request_check, on_timeout, on_attempt_timeout, on_trying, with_abandoned, with_expiry_timer, expiries, expiry_in}
+use Rattle.mmtel_call.specs.Ringing.{on_answer, with_no_reply_timer, with_no_reply_timer_in, with_attempt_cancel, on_failure, on_caller_cancel, end_before_answer}
+use Rattle.mmtel_call.specs.Ringing.{attempt_after_request, call_without_attempt, on_cancel, on_due, on_valid_request, on_other, on_prack_of, on_request, on_request_if}
+use Rattle.mmtel_call.specs.Ringing.{on_response, offered_request_check, on_timeout, on_attempt_timeout, on_trying, with_abandoned, with_expiry_timer, expiries, expiry_in}
 use Rattle.mmtel_call.specs.Sending.{with_diversion_notification, with_relay_to_caller, with_status_to, with_status_to_caller}
-use Rattle.mmtel_call.specs.Stages.{after_bye_at, after_timer_at, busy_in, has_departed, is_due_at, on_ack_at, on_bye, on_cancel_at, on_due_at, on_invite, on_request_at, on_request_at_if, on_response_at, on_timeout_at, on_valid_request_at}
+use Rattle.mmtel_call.specs.Stages.{after_bye_at, after_timer_at, busy_in, has_departed, is_due_at, on_ack_at, on_bye, on_cancel_at}
+use Rattle.mmtel_call.specs.Stages.{on_due_at, on_invite, on_request_at, on_request_at_if, on_response_at, on_timeout_at, on_valid_request_at}
 use Rattle.mmtel_call.specs.Table.{ack_in, cancel_in, due_in, is_current, leaves, leaves_on_response, on_response_to, on_timeout_of, request_in, response_in, step, timeout_in, transition}
 use Rattle.mmtel_call.specs.Updates.{accepts_updates, on_early_retry, on_early_update, on_glare, on_stable_update, on_update, on_update_at, unless_updating}
 use Rattle.mmtel_call.specs.declared.calls.Attempt.{Attempt}
@@ -265,18 +272,21 @@ module _ (config : CallConfigView) (own : CallNo) (count : ℕ) (before : List E
   refused_good : (at : ℕ) (caller : Leg) (cause : Cause) (c : Call) (output : StepOutput) → Opens c → Quiet output → Good (call_refusal config at caller cause c output)
   refused_good at caller cause c output k had = over_good at cause caller.meter None c (with_status_to_caller config c (of_causes.status_of cause) output) k (status_in c (of_causes.status_of cause) output had)
 
-  refused_by_good : (at : ℕ) (caller : Leg) (service : Option Service) (m : Option MessageView) (cause : Cause) (c : Call) (output : StepOutput) → Opens c → Quiet output → Good (relayed_refusal config at caller service m cause c output)
+  refused_by_good : (at : ℕ) (caller : Leg) (service : Option Service) (m : Option MessageView) (cause : Cause) (c : Call) (output : StepOutput) → Opens c → Quiet output →
+      Good (relayed_refusal config at caller service m cause c output)
   refused_by_good at caller service None cause c output k had = refused_good at caller cause c output k had
   refused_by_good at caller service (Some m) cause c output k had =
       if_good (is_status (status_of m.parsed.start) (relayed_status cause)) (call_end at cause caller.meter None c (with_relay_to_caller config c service m output)) (call_refusal config at caller cause c output)
       (over_good at cause caller.meter None c (with_relay_to_caller config c service m output) k (relayed_in c service m output had)) (refused_good at caller cause c output k had)
 
-  offer_good : (at : ℕ) (caller : Leg) (service : Option Service) (waiting : Bool) (destination : Destination) (c : Call) (output : StepOutput) → Opens c → Quiet output → Good (attempt_start config at caller service waiting destination c output)
+  offer_good : (at : ℕ) (caller : Leg) (service : Option Service) (waiting : Bool) (destination : Destination) (c : Call) (output : StepOutput) → Opens c → Quiet output →
+      Good (attempt_start config at caller service waiting destination c output)
   offer_good at caller service waiting destination c output k had =
       let third : StepOutput = after_draw (after_draw output) in
       let m : Message Start = invite_of (attempt_dialog_of c.opening destination output) config.sip (token third) (attempt_lines config c.opening c.diversions service destination.peer) waiting c.opening.invite.parsed in
       let asked : StepOutput = with_emit (emit.Ask destination.peer m) (after_draw third) in
-      good (attempt_start config at caller service waiting destination c output) k (emit_in _ asked refl (emit_in (emit.Ask destination.peer m) (after_draw third) refl (drew_in true third (drew_in true (after_draw output) (drew_in true output had)))))
+      good (attempt_start config at caller service waiting destination c output) k
+      (emit_in _ asked refl (emit_in (emit.Ask destination.peer m) (after_draw third) refl (drew_in true third (drew_in true (after_draw output) (drew_in true output had)))))
 
   abbrev Diverts : ℕ → SnapshotView → Leg → Type 0
   Diverts left now caller = (service : Option Service) (due : DueDiversionView) (c : Call) (output : StepOutput) → Opens c → Quiet output → Good (divert left config now caller service due c output)
@@ -315,7 +325,8 @@ module _ (config : CallConfigView) (own : CallNo) (count : ℕ) (before : List E
   reach_good : (now : SnapshotView) (caller : Leg) (cause : Option ℕ) (target : Target) (c : Call) (output : StepOutput) → Opens c → Quiet output → Good (reach config now caller cause target c output)
   reach_good now caller cause target c output k had = target_good c.diversions.remaining now caller (divert_good c.diversions.remaining now caller) cause target c output k had
 
-  end_good : (now : SnapshotView) (caller : Leg) (service : Option Service) (m : Option MessageView) (after : StepAfterAttemptView) (c : Call) (output : StepOutput) → Opens c → Quiet output → Good (on_end config now caller service m after c output)
+  end_good : (now : SnapshotView) (caller : Leg) (service : Option Service) (m : Option MessageView) (after : StepAfterAttemptView) (c : Call) (output : StepOutput) → Opens c → Quiet output →
+      Good (on_end config now caller service m after c output)
   end_good now caller service m EndAnswered c output k had = over_good now.at causes.Ended caller.meter None c output k had
   end_good now caller service m (EndDivert due) c output k had = divert_good c.diversions.remaining now caller service due c output k had
   end_good now caller service m (EndRefuse cause) c output k had = refused_by_good now.at caller service m cause c output k had
@@ -335,15 +346,19 @@ module _ (config : CallConfigView) (own : CallNo) (count : ℕ) (before : List E
 
   armed_good : (code at : ℕ) (attempt : Attempt) (c : Call) (output : StepOutput) → Quiet output → Quiet (with_no_reply_timer code at attempt c output)
   armed_good code at attempt c output had =
-      if_output (rings code && not attempt.rang) (with_no_reply_timer_in (no_reply_time_of (service_sheet attempt.service)) at attempt c output) output (armed_in_good (no_reply_time_of (service_sheet attempt.service)) at attempt c output had) had
+      if_output (rings code && not attempt.rang) (with_no_reply_timer_in (no_reply_time_of (service_sheet attempt.service)) at attempt c output) output
+      (armed_in_good (no_reply_time_of (service_sheet attempt.service)) at attempt c output had) had
 
-  relays_good : (own_number : Option ℕ) (rseq at : ℕ) (x : OfferedAttempt) (key : TKey) (m : MessageView) (code : ℕ) (c : Call) (output : StepOutput) → Opens c → Quiet output → Good (ringing.on_numbered_provisional own_number rseq config at x key m code c output)
+  relays_good : (own_number : Option ℕ) (rseq at : ℕ) (x : OfferedAttempt) (key : TKey) (m : MessageView) (code : ℕ) (c : Call) (output : StepOutput) → Opens c → Quiet output →
+      Good (ringing.on_numbered_provisional own_number rseq config at x key m code c output)
   relays_good None rseq at x key m code c output k had = tried_good key x c output k had
   relays_good (Some number) rseq at x key m code c output k had =
       let passed : StepOutput = with_reliable_response config c x.attempt.service number m output in
-      good (ringing.on_numbered_provisional (Some number) rseq config at x key m code c output) k (emit_in _ (with_no_reply_timer code at x.attempt c passed) refl (armed_good code at x.attempt c passed (emit_in _ output refl had)))
+      good (ringing.on_numbered_provisional (Some number) rseq config at x key m code c output) k
+      (emit_in _ (with_no_reply_timer code at x.attempt c passed) refl (armed_good code at x.attempt c passed (emit_in _ output refl had)))
 
-  proceeding_by_good : (number : Option ℕ) (at : ℕ) (x : OfferedAttempt) (key : TKey) (m : MessageView) (code : ℕ) (c : Call) (output : StepOutput) → Opens c → Quiet output → Good (ringing.on_provisional_by number config at x key m code c output)
+  proceeding_by_good : (number : Option ℕ) (at : ℕ) (x : OfferedAttempt) (key : TKey) (m : MessageView) (code : ℕ) (c : Call) (output : StepOutput) → Opens c → Quiet output →
+      Good (ringing.on_provisional_by number config at x key m code c output)
   proceeding_by_good None at x key m code c output k had =
       good (ringing.on_plain_provisional config at x key m code c output) k
       (armed_good code at x.attempt c (with_relay_to_caller config c x.attempt.service m output) (relayed_in c x.attempt.service m output had))
@@ -406,7 +421,8 @@ module _ (config : CallConfigView) (own : CallNo) (count : ℕ) (before : List E
       or_true true = refl
       or_true false = refl
 
-  answered_agrees : (at : ℕ) (x : OfferedAttempt) (key : TKey) (m : MessageView) (c : Call) (output : StepOutput) → is_success (status_of m.parsed.start) ≡ true → Opens c → Quiet output → Agrees at m (on_answer config at x key m c output)
+  answered_agrees : (at : ℕ) (x : OfferedAttempt) (key : TKey) (m : MessageView) (c : Call) (output : StepOutput) → is_success (status_of m.parsed.start) ≡ true → Opens c → Quiet output →
+      Agrees at m (on_answer config at x key m c output)
   unfolding response
   answered_agrees at x key m c output is k had =
       passes_on at m _ c (on_answer config at x key m c output).call output refl is k (ap next_number k.0) k.1 had
@@ -437,7 +453,8 @@ module _ (config : CallConfigView) (own : CallNo) (count : ℕ) (before : List E
   some_of : (m : MessageView) → is_success (status_of m.parsed.start) ≡ true → received_of m ≡ Some m
   some_of m is = ap (λ b. if b then Some m else None) is
 
-  response_goes : (now : SnapshotView) (x : OfferedAttempt) (key : TKey) (m : MessageView) (c : Call) (output : StepOutput) → Opens c → NoSuccess output → Goes now.at (received_of m) (on_response config now x key m (status_of m.parsed.start) c output)
+  response_goes : (now : SnapshotView) (x : OfferedAttempt) (key : TKey) (m : MessageView) (c : Call) (output : StepOutput) → Opens c → NoSuccess output →
+      Goes now.at (received_of m) (on_response config now x key m (status_of m.parsed.start) c output)
   response_goes now x key m c output k unsaid =
       let code : ℕ = status_of m.parsed.start in
       let at : ℕ = now.at in
@@ -479,10 +496,12 @@ module _ (config : CallConfigView) (own : CallNo) (count : ℕ) (before : List E
   due_transition now x (due.NoAck number) c output k had = onward_good (offered_call x c) output k had
   due_transition now x (due.Expired number) c output k had = onward_good (offered_call x c) output k had
 
-  cancel_transition : (at : ℕ) (x : OfferedAttempt) (key : TKey) (m : MessageView) (invite : TKey) (c : Call) (output : StepOutput) → Opens c → Quiet output → Good (on_cancel config at x key m invite (offered_call x c) output)
+  cancel_transition : (at : ℕ) (x : OfferedAttempt) (key : TKey) (m : MessageView) (invite : TKey) (c : Call) (output : StepOutput) → Opens c → Quiet output →
+      Good (on_cancel config at x key m invite (offered_call x c) output)
   cancel_transition at x key m invite c output k had =
       let told : Quiet (with_status_to config (offered_call x c) key m 200 output) = replied_in (offered_call x c) key m 200 output had in
-      if_good (invite.0 == c.opening.key.0) (on_caller_cancel config at x (offered_call x c) (with_status_to config (offered_call x c) key m 200 output)) (step_result (offered_call x c) (with_status_to config (offered_call x c) key m 200 output))
+      if_good (invite.0 == c.opening.key.0) (on_caller_cancel config at x (offered_call x c) (with_status_to config (offered_call x c) key m 200 output))
+      (step_result (offered_call x c) (with_status_to config (offered_call x c) key m 200 output))
       (given_up_good causes.Cancelled at x (offered_call x c) (with_status_to config (offered_call x c) key m 200 output) k told)
       (onward_good (offered_call x c) (with_status_to config (offered_call x c) key m 200 output) k told)
 
@@ -497,7 +516,8 @@ module _ (config : CallConfigView) (own : CallNo) (count : ℕ) (before : List E
   prack_refused_good : (key : TKey) (m : MessageView) (c : Call) (output : StepOutput) → Opens c → Quiet output → Good (on_refused_prack config key m c output)
   prack_refused_good key m c output k had = onward_good c _ k (replied_in c key m (status_of_refusal (rack_in m)) output had)
 
-  acknowledging_good : (x : OfferedAttempt) (key : TKey) (m : MessageView) (rack : Rack) (answer : Option ℕ) (c : Call) (output : StepOutput) → Opens c → Quiet output → Good (on_named_prack config x key m rack answer c output)
+  acknowledging_good : (x : OfferedAttempt) (key : TKey) (m : MessageView) (rack : Rack) (answer : Option ℕ) (c : Call) (output : StepOutput) → Opens c → Quiet output →
+      Good (on_named_prack config x key m rack answer c output)
   acknowledging_good x key m rack None c output k had = prack_refused_good key m c output k had
   acknowledging_good x key m rack (Some answer) c output k had =
       let before_it : StepOutput = with_settled config (Some rack.answer) c output in
@@ -531,10 +551,13 @@ module _ (config : CallConfigView) (own : CallNo) (count : ℕ) (before : List E
 
   other_received_good : (x : OfferedAttempt) (side : Side) (key : TKey) (m : MessageView) (c : Call) (output : StepOutput) → Opens c → Quiet output → Good (on_other config x side key m c output)
   other_received_good x side key m c output k had =
-      if_good (is_prack m) (on_prack_of side config x key m c output) (if is_update m then on_update config x side key m c output else step_result c (with_unlisted_response config c key m output)) (prack_of_good side x key m c output k had)
-      (if_good (is_update m) (on_update config x side key m c output) (step_result c (with_unlisted_response config c key m output)) (update_good x side key m c output k had) (onward_good c (with_unlisted_response config c key m output) k (unlisted_in c key m output had)))
+      if_good (is_prack m) (on_prack_of side config x key m c output) (if is_update m then on_update config x side key m c output else step_result c (with_unlisted_response config c key m output))
+      (prack_of_good side x key m c output k had)
+      (if_good (is_update m) (on_update config x side key m c output) (step_result c (with_unlisted_response config c key m output)) (update_good x side key m c output k had)
+      (onward_good c (with_unlisted_response config c key m output) k (unlisted_in c key m output had)))
 
-  received_transition : (at : ℕ) (x : OfferedAttempt) (side : Side) (key : TKey) (m : MessageView) (c : Call) (output : StepOutput) → Opens c → Quiet output → Good (on_valid_request config at x side key m (offered_call x c) output)
+  received_transition : (at : ℕ) (x : OfferedAttempt) (side : Side) (key : TKey) (m : MessageView) (c : Call) (output : StepOutput) → Opens c → Quiet output →
+      Good (on_valid_request config at x side key m (offered_call x c) output)
   received_transition at x Caller key m c output k had =
       if_good (is_bye m) (on_caller_cancel config at x (offered_call x c) (with_status_to config (offered_call x c) key m 200 output)) (on_other config x Caller key m (offered_call x c) output)
       (given_up_good causes.Cancelled at x (offered_call x c) (with_status_to config (offered_call x c) key m 200 output) k (replied_in (offered_call x c) key m 200 output had))
@@ -544,9 +567,11 @@ module _ (config : CallConfigView) (own : CallNo) (count : ℕ) (before : List E
   request_if_transition : (r : Result (Unit {0}) DialogueFault) (at : ℕ) (x : OfferedAttempt) (side : Side) (key : TKey) (m : MessageView) (c : Call) (output : StepOutput) →
       Opens c → Quiet output → Good (on_request_if r config at x side key m (offered_call x c) output)
   request_if_transition (Ok received) at x side key m c output k had = received_transition at (attempt_after_request side m x) side key m c output k had
-  request_if_transition (Err fault) at x side key m c output k had = onward_good (offered_call x c) (with_refused_request config (offered_call x c) key m fault output) k (refused_request_in (offered_call x c) key m fault output had)
+  request_if_transition (Err fault) at x side key m c output k had =
+      onward_good (offered_call x c) (with_refused_request config (offered_call x c) key m fault output) k (refused_request_in (offered_call x c) key m fault output had)
 
-  request_transition : (at : ℕ) (x : OfferedAttempt) (side : Side) (key : TKey) (m : MessageView) (c : Call) (output : StepOutput) → Opens c → Quiet output → Good (on_request config at x side key m (offered_call x c) output)
+  request_transition : (at : ℕ) (x : OfferedAttempt) (side : Side) (key : TKey) (m : MessageView) (c : Call) (output : StepOutput) → Opens c → Quiet output →
+      Good (on_request config at x side key m (offered_call x c) output)
   request_transition at x side key m c output k had = request_if_transition (offered_request_check x side m) at x side key m c output k had
 
   -- ---- once it is answered
@@ -575,9 +600,11 @@ module _ (config : CallConfigView) (own : CallNo) (count : ℕ) (before : List E
 
   unacknowledged_good : (at : ℕ) (x : EstablishedLegs) (side : Side) (c : Call) (output : StepOutput) → Opens c → Quiet output → Good (after_ack_timeout config at x side c output)
   unacknowledged_good at x side c output k had =
-      over_established_good at x c (with_bye_to config x side (with_ack_and_bye config x (other_side side) output)) k (bye_to_in x side (with_ack_and_bye config x (other_side side) output) (acked_remaining_in x (other_side side) output had))
+      over_established_good at x c (with_bye_to config x side (with_ack_and_bye config x (other_side side) output)) k
+      (bye_to_in x side (with_ack_and_bye config x (other_side side) output) (acked_remaining_in x (other_side side) output had))
 
-  bye_before_good : (at : ℕ) (x : EstablishedLegs) (waiting : Side) (success : Success) (side : Side) (c : Call) (output : StepOutput) → Opens c → Quiet output → Good (after_bye_before_ack config at x waiting success side c output)
+  bye_before_good : (at : ℕ) (x : EstablishedLegs) (waiting : Side) (success : Success) (side : Side) (c : Call) (output : StepOutput) → Opens c → Quiet output →
+      Good (after_bye_before_ack config at x waiting success side c output)
   bye_before_good at x waiting success side c output k had =
       if_good (is_same_side waiting side) (established_call_end at x c (with_ack_and_bye config x (other_side side) output)) (step_result (at_stage x (Departing waiting success) c) output)
       (over_established_good at x c (with_ack_and_bye config x (other_side side) output) k (acked_remaining_in x (other_side side) output had))
@@ -621,14 +648,16 @@ module _ (config : CallConfigView) (own : CallNo) (count : ℕ) (before : List E
       let told : Quiet back = refused_back_in x side q key m c output had in
       goes_if at (received_of m) (nat_lt code 200) (on_provisional_across config x side q key c output) _
       (λ low. ReceivesNone (none_of m (low_status code low)) (proceeding_across_good x side q key c output k had))
-      (λ above. goes_if at (received_of m) (nat_lt code 300) (on_accepted_reinvite config at x side q key m c output) (if ends_dialog code then established_call_end at x c (with_byes config x back) else step_result (at_stage x Stable c) back)
+      (λ above. goes_if at (received_of m) (nat_lt code 300) (on_accepted_reinvite config at x side q key m c output)
+      (if ends_dialog code then established_call_end at x c (with_byes config x back) else step_result (at_stage x Stable c) back)
       (λ below. let yes = success_status code above below in Passes m (some_of m yes) (agreed_agrees at x side q key m c output yes k had))
       (λ beyond. ReceivesNone (none_of m (high_status code beyond)) (if_good (ends_dialog code) (established_call_end at x c (with_byes config x back)) (step_result (at_stage x Stable c) back)
       (over_established_good at x c (with_byes config x back) k (bye_both_in x back told)) (staged_good x Stable c back k told))))
 
   timed_out_across_good : (at : ℕ) (x : EstablishedLegs) (q : Reinvite) (c : Call) (output : StepOutput) → Opens c → Quiet output → Good (on_timeout_across config at x q c output)
   timed_out_across_good at x q c output k had =
-      over_established_good at x c (with_byes config x (with_status_to config c q.key q.request 408 output)) k (bye_both_in x (with_status_to config c q.key q.request 408 output) (replied_in c q.key q.request 408 output had))
+      over_established_good at x c (with_byes config x (with_status_to config c q.key q.request 408 output)) k
+      (bye_both_in x (with_status_to config c q.key q.request 408 output) (replied_in c q.key q.request 408 output had))
 
   cancelled_across_good : (x : EstablishedLegs) (side : Side) (q : Reinvite) (c : Call) (output : StepOutput) → Opens c → Quiet output → Good (on_cancel_across config x side q c output)
   cancelled_across_good x side q c output k had =
@@ -651,7 +680,8 @@ module _ (config : CallConfigView) (own : CallNo) (count : ℕ) (before : List E
 
   -- by stage
 
-  invite_transition : (stage : Stage) (x : EstablishedLegs) (side : Side) (key : TKey) (m : MessageView) (c : Call) (output : StepOutput) → Opens c → Quiet output → Good (on_invite stage config x side key m (established x stage c) output)
+  invite_transition : (stage : Stage) (x : EstablishedLegs) (side : Side) (key : TKey) (m : MessageView) (c : Call) (output : StepOutput) → Opens c → Quiet output →
+      Good (on_invite stage config x side key m (established x stage c) output)
   invite_transition (Answered waiting success) x side key m c output k had = staged_good x (Answered waiting success) c output k had
   invite_transition (Departing waiting success) x side key m c output k had = staged_good x (Departing waiting success) c output k had
   invite_transition Stable x side key m c output k had = invited_good x side key m (established x Stable c) output k had
@@ -665,24 +695,31 @@ module _ (config : CallConfigView) (own : CallNo) (count : ℕ) (before : List E
       (bye_for (leg_of (other_side side) x).dialogue (copied_across config c x side m) m.parsed output had)
   left_transition (Reinviting asking q) at x side m c output k had = bye_while_good at x asking q side c output k had
 
-  bye_transition : (stage : Stage) (at : ℕ) (x : EstablishedLegs) (side : Side) (key : TKey) (m : MessageView) (c : Call) (output : StepOutput) → Opens c → Quiet output → Good (on_bye stage config at x side key m (established x stage c) output)
+  bye_transition : (stage : Stage) (at : ℕ) (x : EstablishedLegs) (side : Side) (key : TKey) (m : MessageView) (c : Call) (output : StepOutput) → Opens c → Quiet output →
+      Good (on_bye stage config at x side key m (established x stage c) output)
   bye_transition stage at x side key m c output k had =
-      if_good (has_departed stage side) (step_result (established x stage c) (with_status_to config (established x stage c) key m 481 output)) (after_bye_at stage config at x side m (established x stage c) (with_status_to config (established x stage c) key m 200 output))
+      if_good (has_departed stage side) (step_result (established x stage c) (with_status_to config (established x stage c) key m 481 output))
+      (after_bye_at stage config at x side m (established x stage c) (with_status_to config (established x stage c) key m 200 output))
       (staged_good x stage c (with_status_to config (established x stage c) key m 481 output) k (replied_in (established x stage c) key m 481 output had))
       (left_transition stage at x side m (established x stage c) (with_status_to config (established x stage c) key m 200 output) k (replied_in (established x stage c) key m 200 output had))
 
-  update_at_transition : (stage : Stage) (x : EstablishedLegs) (side : Side) (key : TKey) (m : MessageView) (c : Call) (output : StepOutput) → Opens c → Quiet output → Good (on_update_at stage config x side key m c output)
+  update_at_transition : (stage : Stage) (x : EstablishedLegs) (side : Side) (key : TKey) (m : MessageView) (c : Call) (output : StepOutput) → Opens c → Quiet output →
+      Good (on_update_at stage config x side key m c output)
   update_at_transition (Answered waiting success) x side key m c output k had = crossing_good key m c output k had
   update_at_transition (Departing waiting success) x side key m c output k had = crossing_good key m c output k had
   update_at_transition Stable x side key m c output k had =
-      unless_updating_good (updating_side c.relayed) (on_stable_update config x side key m) side key m c output k had (good (on_stable_update config x side key m c output) k (sent_in true _ (after_draw output) refl refl (drew_in true output had)))
+      unless_updating_good (updating_side c.relayed) (on_stable_update config x side key m) side key m c output k had
+      (good (on_stable_update config x side key m c output) k (sent_in true _ (after_draw output) refl refl (drew_in true output had)))
   update_at_transition (Reinviting asking q) x side key m c output k had = crossing_good key m c output k had
 
-  rest_at_transition : (key : TKey) (m : MessageView) (c : Call) (output : StepOutput) → Opens c → Quiet output → Good (if is_prack m then on_refused_prack config key m c output else step_result c (with_unlisted_response config c key m output))
+  rest_at_transition : (key : TKey) (m : MessageView) (c : Call) (output : StepOutput) → Opens c → Quiet output →
+      Good (if is_prack m then on_refused_prack config key m c output else step_result c (with_unlisted_response config c key m output))
   rest_at_transition key m c output k had =
-      if_good (is_prack m) (on_refused_prack config key m c output) (step_result c (with_unlisted_response config c key m output)) (prack_refused_good key m c output k had) (onward_good c (with_unlisted_response config c key m output) k (unlisted_in c key m output had))
+      if_good (is_prack m) (on_refused_prack config key m c output) (step_result c (with_unlisted_response config c key m output)) (prack_refused_good key m c output k had)
+      (onward_good c (with_unlisted_response config c key m output) k (unlisted_in c key m output had))
 
-  received_at_transition : (stage : Stage) (at : ℕ) (x : EstablishedLegs) (side : Side) (key : TKey) (m : MessageView) (c : Call) (output : StepOutput) → Opens c → Quiet output → Good (on_valid_request_at stage config at x side key m (established x stage c) output)
+  received_at_transition : (stage : Stage) (at : ℕ) (x : EstablishedLegs) (side : Side) (key : TKey) (m : MessageView) (c : Call) (output : StepOutput) → Opens c → Quiet output →
+      Good (on_valid_request_at stage config at x side key m (established x stage c) output)
   received_at_transition stage at x side key m c output k had =
       let d : Call = established x stage c in
       if_good (is_invite m) (on_invite stage config x side key m d output) _ (invite_transition stage x side key m c output k had)
@@ -692,12 +729,15 @@ module _ (config : CallConfigView) (own : CallNo) (count : ℕ) (before : List E
   request_at_if_transition : (r : Result (Unit {0}) DialogueFault) (stage : Stage) (at : ℕ) (x : EstablishedLegs) (side : Side) (key : TKey) (m : MessageView) (c : Call) (output : StepOutput) →
       Opens c → Quiet output → Good (on_request_at_if r stage config at x side key m (established x stage c) output)
   request_at_if_transition (Ok received) stage at x side key m c output k had = received_at_transition stage at (with_leg side (leg_after_receiving (leg_of side x) m) x) side key m c output k had
-  request_at_if_transition (Err fault) stage at x side key m c output k had = staged_good x stage c (with_refused_request config (established x stage c) key m fault output) k (refused_request_in (established x stage c) key m fault output had)
+  request_at_if_transition (Err fault) stage at x side key m c output k had =
+      staged_good x stage c (with_refused_request config (established x stage c) key m fault output) k (refused_request_in (established x stage c) key m fault output had)
 
-  request_at_transition : (stage : Stage) (at : ℕ) (x : EstablishedLegs) (side : Side) (key : TKey) (m : MessageView) (c : Call) (output : StepOutput) → Opens c → Quiet output → Good (on_request_at stage config at x side key m (established x stage c) output)
+  request_at_transition : (stage : Stage) (at : ℕ) (x : EstablishedLegs) (side : Side) (key : TKey) (m : MessageView) (c : Call) (output : StepOutput) → Opens c → Quiet output →
+      Good (on_request_at stage config at x side key m (established x stage c) output)
   request_at_transition stage at x side key m c output k had = request_at_if_transition (request_check (leg_of side x) m (busy_in stage side)) stage at x side key m c output k had
 
-  ack_at_transition : (stage : Stage) (at : ℕ) (x : EstablishedLegs) (side : Side) (m : MessageView) (c : Call) (output : StepOutput) → Opens c → Quiet output → Good (on_ack_at stage config at x side m (established x stage c) output)
+  ack_at_transition : (stage : Stage) (at : ℕ) (x : EstablishedLegs) (side : Side) (m : MessageView) (c : Call) (output : StepOutput) → Opens c → Quiet output →
+      Good (on_ack_at stage config at x side m (established x stage c) output)
   ack_at_transition (Answered waiting success) at x side m c output k had =
       if_good (acknowledges waiting success side m) (after_ack_across config x side success m (established x (Answered waiting success) c) output) (step_result (established x (Answered waiting success) c) output)
       (acked_across_good x side success m (established x (Answered waiting success) c) output k had) (staged_good x (Answered waiting success) c output k had)
@@ -718,7 +758,8 @@ module _ (config : CallConfigView) (own : CallNo) (count : ℕ) (before : List E
   nothing_said : (c : Call) (output : StepOutput) → Opens c → NoSuccess output → Stays false (step_result c output)
   nothing_said c output k unsaid = record { call_in = k; output_in = unsaid }
 
-  response_at_goes : (stage : Stage) (at : ℕ) (x : EstablishedLegs) (key : TKey) (m : MessageView) (c : Call) (output : StepOutput) → Opens c → NoSuccess output → Goes at (received_of m) (on_response_at stage config at x key m (established x stage c) output)
+  response_at_goes : (stage : Stage) (at : ℕ) (x : EstablishedLegs) (key : TKey) (m : MessageView) (c : Call) (output : StepOutput) → Opens c → NoSuccess output →
+      Goes at (received_of m) (on_response_at stage config at x key m (established x stage c) output)
   response_at_goes (Answered waiting success) at x key m c output k is = SaysNone (nothing_said (established x (Answered waiting success) c) output k is)
   response_at_goes (Departing waiting success) at x key m c output k is = SaysNone (nothing_said (established x (Departing waiting success) c) output k is)
   response_at_goes Stable at x key m c output k is = SaysNone (nothing_said (established x Stable c) output k is)
@@ -738,7 +779,8 @@ module _ (config : CallConfigView) (own : CallNo) (count : ℕ) (before : List E
 
   due_at_transition : (stage : Stage) (at : ℕ) (x : EstablishedLegs) (what : DueWord) (c : Call) (output : StepOutput) → Opens c → Quiet output → Good (on_due_at stage config at x what (established x stage c) output)
   due_at_transition stage at x what c output k had =
-      if_good (is_due_at stage c.successes what) (after_timer_at stage config at x (established x stage c) output) (step_result (established x stage c) output) (rung_transition stage at x c output k had) (staged_good x stage c output k had)
+      if_good (is_due_at stage c.successes what) (after_timer_at stage config at x (established x stage c) output) (step_result (established x stage c) output)
+      (rung_transition stage at x c output k had) (staged_good x stage c output k had)
 
   -- ---- INVITEs for which the call does not wait
 
@@ -771,7 +813,8 @@ module _ (config : CallConfigView) (own : CallNo) (count : ℕ) (before : List E
   late_response key m l output had =
       let said : AbandonedInvite = after_provisional key m l in
       let known : AbandonedInvite = with_invite l (with_key key l.invite) in
-      if_rest (nat_lt (status_of m.start) 200) (after_due_cancel config.sip said output) (if nat_lt (status_of m.start) 300 then on_success config.sip known (remote_of Callee m.lines) output else record { remaining = None; output = with_final_ack config.sip key l.invite m output })
+      if_rest (nat_lt (status_of m.start) 200) (after_due_cancel config.sip said output)
+      (if nat_lt (status_of m.start) 300 then on_success config.sip known (remote_of Callee m.lines) output else record { remaining = None; output = with_final_ack config.sip key l.invite m output })
       (late_rest said output had)
       (if_rest (nat_lt (status_of m.start) 300) (on_success config.sip known (remote_of Callee m.lines) output) (record { remaining = None; output = with_final_ack config.sip key l.invite m output })
       (success_rest known (remote_of Callee m.lines) (ended_dialog known (remote_of Callee m.lines).tag) output had)
@@ -808,7 +851,8 @@ module _ (config : CallConfigView) (own : CallNo) (count : ℕ) (before : List E
         number = number;
         opening = opening;
         new = had.new ++ e ∷ armed;
-        out = ap (λ l. (l ++ e ∷ []) ++ armed) had.out ∙ ap (λ l. l ++ armed) (append_assoc before had.new (e ∷ [])) ∙ append_assoc before (had.new ++ e ∷ []) armed ∙ ap (λ l. before ++ l) (append_assoc had.new (e ∷ []) armed);
+        out = ap (λ l. (l ++ e ∷ []) ++ armed) had.out ∙ ap (λ l. l ++ armed) (append_assoc before had.new (e ∷ [])) ∙ append_assoc before (had.new ++ e ∷ []) armed
+            ∙ ap (λ l. before ++ l) (append_assoc had.new (e ∷ []) armed);
         armed = expiries_append own had.new (e ∷ armed) ∙ (λ i. had.none i ++ (quiet i ++ expiry_observed config.timer (expiry_interval_of m.parsed.session) at c k i));
         accepted = any_append had.new (e ∷ armed) ∙ ap (λ b. list_any is_accepted had.new || (b || list_any is_accepted armed)) said ∙ or_true (list_any is_accepted had.new);
       }
@@ -838,7 +882,8 @@ module _ (config : CallConfigView) (own : CallNo) (count : ℕ) (before : List E
       let back : StepOutput = in_flight.with_response_back config flight m gone output in
       let told : Good (step_result gone back) = onward_good gone back k (emit_in _ output refl (quiet_of output unsaid)) in
       ReceivesNone refl
-      (if_good (nat_lt (status_of m.parsed.start) 200) (step_result c output) (if is_success (status_of m.parsed.start) then step_result gone back else step_result gone back) (onward_good c output k (quiet_of output unsaid))
+      (if_good (nat_lt (status_of m.parsed.start) 200) (step_result c output) (if is_success (status_of m.parsed.start) then step_result gone back else step_result gone back)
+      (onward_good c output k (quiet_of output unsaid))
       (if_good (is_success (status_of m.parsed.start)) (step_result gone back) (step_result gone back) told told))
   kind_goes Update at flight m place c output k unsaid =
       let gone : Call = in_flight.without_transaction place c in
@@ -862,15 +907,18 @@ module _ (config : CallConfigView) (own : CallNo) (count : ℕ) (before : List E
   abbrev received_at : (branch : List ℕ) → MessageView → Call → Option MessageView
   received_at branch m c = if not (is_prack_at (position (in_flight.is_in_flight branch) c.relayed) c.relayed) && is_success (status_of m.parsed.start) then Some m else None
 
-  answered_at_goes : (at : ℕ) (key : TKey) (m : MessageView) (branch : List ℕ) (o : Option ℕ) (c : Call) (output : StepOutput) → Opens c → NoSuccess output → Goes at (received_at branch m c) (on_response_answered_at config at key m branch o c output)
+  answered_at_goes : (at : ℕ) (key : TKey) (m : MessageView) (branch : List ℕ) (o : Option ℕ) (c : Call) (output : StepOutput) → Opens c → NoSuccess output →
+      Goes at (received_at branch m c) (on_response_answered_at config at key m branch o c output)
   answered_at_goes at key m branch None c output k unsaid = in_flight_goes at m (position (in_flight.is_in_flight branch) c.relayed) c output k unsaid
   answered_at_goes at key m branch (Some place) c output k unsaid = SaysNone (answered_transition key m place (slice_get c.answered_invites place) c output k unsaid)
 
-  at_goes : (at : ℕ) (key : TKey) (m : MessageView) (branch : List ℕ) (o : Option ℕ) (c : Call) (output : StepOutput) → Opens c → NoSuccess output → Goes at (received_at branch m c) (on_other_response_at config at key m branch o c output)
+  at_goes : (at : ℕ) (key : TKey) (m : MessageView) (branch : List ℕ) (o : Option ℕ) (c : Call) (output : StepOutput) → Opens c → NoSuccess output →
+      Goes at (received_at branch m c) (on_other_response_at config at key m branch o c output)
   at_goes at key m branch None c output k unsaid = answered_at_goes at key m branch (position (is_answered_invite branch) c.answered_invites) c output k unsaid
   at_goes at key m branch (Some place) c output k unsaid = SaysNone (abandoned_transition key m place (slice_get c.abandoned place) c output k unsaid)
 
-  other_goes : (at : ℕ) (key : TKey) (m : MessageView) (branch : List ℕ) (c : Call) (output : StepOutput) → Opens c → NoSuccess output → Goes at (received_at branch m c) (on_other_response config at key m branch c output)
+  other_goes : (at : ℕ) (key : TKey) (m : MessageView) (branch : List ℕ) (c : Call) (output : StepOutput) → Opens c → NoSuccess output →
+      Goes at (received_at branch m c) (on_other_response config at key m branch c output)
   unfolding on_other_response
   other_goes at key m branch c output k unsaid = at_goes at key m branch (position (is_of_branch branch) c.abandoned) c output k unsaid
 
@@ -897,7 +945,8 @@ module _ (config : CallConfigView) (own : CallNo) (count : ℕ) (before : List E
   settled_in_output accepts (Detached detached) c output had = had
   settled_in_output accepts (Over cause) c output had = had
 
-  dismissed_in : (kind : RelayedKind) (flight : RelayedTransaction) (c : Call) (output : StepOutput) → NoSuccess output → NoSuccess (with_status_to config c flight.exchange.key flight.exchange.request (in_flight.dismissal_of kind) output)
+  dismissed_in : (kind : RelayedKind) (flight : RelayedTransaction) (c : Call) (output : StepOutput) → NoSuccess output →
+      NoSuccess (with_status_to config c flight.exchange.key flight.exchange.request (in_flight.dismissal_of kind) output)
   unfolding response
   dismissed_in Prack flight c output had = sent_in false _ output refl refl had
   dismissed_in Update flight c output had = sent_in false _ output refl refl had
@@ -919,7 +968,8 @@ module _ (config : CallConfigView) (own : CallNo) (count : ℕ) (before : List E
   abbrev at_phase : Phase → Call → Call
   at_phase phase c = record c { phase = phase }
 
-  response_in_goes : (phase : Phase) (now : SnapshotView) (key : TKey) (m : MessageView) (c : Call) (output : StepOutput) → Opens c → NoSuccess output → Goes now.at (received_of m) (response_in phase config now key m (at_phase phase c) output)
+  response_in_goes : (phase : Phase) (now : SnapshotView) (key : TKey) (m : MessageView) (c : Call) (output : StepOutput) → Opens c → NoSuccess output →
+      Goes now.at (received_of m) (response_in phase config now key m (at_phase phase c) output)
   response_in_goes (Offered x) now key m c output k is = response_goes now x key m (at_phase (Offered x) c) output k is
   response_in_goes (Established x stage) now key m c output k is = response_at_goes stage now.at x key m c output k is
   response_in_goes (Detached detached) now key m c output k is = SaysNone (nothing_said (at_phase (Detached detached) c) output k is)
@@ -962,7 +1012,8 @@ module _ (config : CallConfigView) (own : CallNo) (count : ℕ) (before : List E
   answer_either true branch now key m c output k unsaid = response_in_goes c.phase now key m c output k unsaid
   answer_either false branch now key m c output k unsaid = other_goes now.at key m branch c output k unsaid
 
-  answer_goes : (branch : Option (List ℕ)) (now : SnapshotView) (key : TKey) (m : MessageView) (c : Call) (output : StepOutput) → Opens c → NoSuccess output → Goes now.at (success_to branch m c) (on_response_to branch config now key m c output)
+  answer_goes : (branch : Option (List ℕ)) (now : SnapshotView) (key : TKey) (m : MessageView) (c : Call) (output : StepOutput) → Opens c → NoSuccess output →
+      Goes now.at (success_to branch m c) (on_response_to branch config now key m c output)
   answer_goes None now key m c output k unsaid = SaysNone (nothing_said c output k unsaid)
   answer_goes (Some branch) now key m c output k unsaid = answer_either (is_current branch c) branch now key m c output k unsaid
 
@@ -1000,7 +1051,8 @@ module _ (config : CallConfigView) (own : CallNo) (count : ℕ) (before : List E
 
       by : (branch : Option (List ℕ)) → leaves_on_response branch response c ≡ true → success_to branch response (in_flight.without_in_flight c) ≡ success_to branch response c
       by None e = refl
-      by (Some branch) e = waited (is_current branch c) (is_prack_at (position (in_flight.is_in_flight branch) c.relayed) c.relayed) (current (is_current branch c) (leaves_on_status (status_of response.parsed.start) c.phase) e)
+      by (Some branch) e = waited (is_current branch c) (is_prack_at (position (in_flight.is_in_flight branch) c.relayed) c.relayed)
+          (current (is_current branch c) (leaves_on_status (status_of response.parsed.start) c.phase) e)
   leaving_received (signal.Silent branch method) c is = refl
   leaving_received (signal.Due what) c is = refl
   leaving_received (signal.Ended key) c is = refl

@@ -295,14 +295,18 @@ end_observed key last w received = observed_end_in key last w.in_progress w.acks
 abbrev pub attempt_after_response : (now : ℕ) → AttemptInProgress → Option MessageView → AttemptInProgress
 attempt_after_response now g passed = record g { rang_at = first_ringing now g.rang_at (rings_by passed); early = early_by g.early passed }
 
-abbrev pub observed_after_signal : CallConfigView → Opening → (now : ℕ) → ObservedAttempts → (last : Option ℕ) → AttemptInProgress → Signal → Option AttemptEndView → ObservedAttempts
-observed_after_signal config o now w last g received None = record w { in_progress = Some (attempt_after_response now g (relayed_response config o g w.acks received)); acks = acks_after config o last g w.acks received }
+abbrev pub observed_after_signal : CallConfigView → Opening → (now : ℕ) → ObservedAttempts → (last : Option ℕ) → AttemptInProgress →
+    Signal → Option AttemptEndView → ObservedAttempts
+observed_after_signal config o now w last g received None =
+    record w { in_progress = Some (attempt_after_response now g (relayed_response config o g w.acks received)); acks = acks_after config o last g w.acks received }
 observed_after_signal config o now w last g received (Some how) = record w { earlier = w.earlier ++ g.armed; in_progress = None }
 
 -- once none is current, none follows
-abbrev pub observed_step_from : CallConfigView → Opening → (now : ℕ) → ObservedAttempts → Option AttemptInProgress → (last : Option ℕ) → Signal → List AttemptEvent → ObservedAttempts
+abbrev pub observed_step_from : CallConfigView → Opening → (now : ℕ) → ObservedAttempts → Option AttemptInProgress → (last : Option ℕ) →
+    Signal → List AttemptEvent → ObservedAttempts
 observed_step_from config o now w None last received marks = w
-observed_step_from config o now w (Some g) last received marks = after_events now (observed_after_signal config o now w last g received (observed_end o.key last g w.acks received)) marks
+observed_step_from config o now w (Some g) last received marks =
+    after_events now (observed_after_signal config o now w last g received (observed_end o.key last g w.acks received)) marks
 
 -- of the call that was opened in this way
 abbrev pub observed_step : CallConfigView → Opening → (now : ℕ) → ObservedAttempts → (last : Option ℕ) → Signal → List AttemptEvent → ObservedAttempts

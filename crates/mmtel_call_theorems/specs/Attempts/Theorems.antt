@@ -79,7 +79,8 @@ PhaseIsObserved bound time acks (Detached detached) w = w.in_progress ≡ None
 PhaseIsObserved bound time acks (Over cause) w = w.in_progress ≡ None
 
 abbrev pub AttemptsAreObserved : Type 0
-AttemptsAreObserved = (s : TraceStart) (received : List TraceStep) → PhaseIsObserved s.config.bound (no_reply_after s received) (call_after s received).acks (call_after s received).phase (observed_after s received)
+AttemptsAreObserved = (s : TraceStart) (received : List TraceStep) → PhaseIsObserved s.config.bound (no_reply_after s received)
+    (call_after s received).acks (call_after s received).phase (observed_after s received)
 
 -- so how attempts ended is determined by what was sent and received alone
 abbrev pub EndingsAreObserved : Type 0
@@ -114,4 +115,5 @@ IsLastOf (Over cause) signs = Unit {0}
 
 -- of the INVITEs to the targets to which it is offered according to Outcome
 abbrev pub TargetsAreObserved : Type 0
-TargetsAreObserved = (s : TraceStart) (received : List TraceStep) → HaveEmptyOutputs s received → IsLastOf (call_after s received).phase (labels_of_targets (opening_in s) (outcome_after s received).targets)
+TargetsAreObserved = (s : TraceStart) (received : List TraceStep) → HaveEmptyOutputs s received →
+    IsLastOf (call_after s received).phase (labels_of_targets (opening_in s) (outcome_after s received).targets)

@@ -109,7 +109,8 @@ abbrev pub RelayedWasSent : ((method branch : List ℕ) → Peer → Type 0) →
 RelayedWasSent asked flight = SentInviteWasSent (asked (method_of flight.kind)) flight.exchange.invite
 
 -- those for which the call does not wait
-pub record OthersWereSent (asked : (method branch : List ℕ) → Peer → Type 0) (abandoned : List AbandonedInvite) (taken : List AnsweredInvite) (flights : List RelayedTransaction) : Type 0 where
+pub record OthersWereSent (asked : (method branch : List ℕ) → Peer → Type 0) (abandoned : List AbandonedInvite)
+    (taken : List AnsweredInvite) (flights : List RelayedTransaction) : Type 0 where
   pub abandoned_in : Each (AbandonedWasSent (asked (codes "INVITE"))) abandoned
   pub answered_in : Each (AnsweredWasSent (asked (codes "INVITE"))) taken
   pub in_flight_in : Each (RelayedWasSent asked) flights

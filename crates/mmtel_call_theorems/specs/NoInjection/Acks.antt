@@ -68,7 +68,8 @@ pub record IsRelayedAck (acks : List ReceivedAck) (dialogue : Dialogue) (given :
   pub among : IsIn received acks
   pub dialog : dialogue ≡ received.dialogue
   pub history : List Entry
-  pub is : given ≡ relayed_parts given.sip given.branch (shown_lines received.facing received.to_trusted history received.ack.parsed.start received.ack.parsed.lines) received.ack.parsed
+  pub is : given ≡ relayed_parts given.sip given.branch
+      (shown_lines received.facing received.to_trusted history received.ack.parsed.start received.ack.parsed.lines) received.ack.parsed
 
 -- or the server acknowledges by itself, without such content
 abbrev pub IsPassedTo : (acks : List ReceivedAck) → Dialogue → RequestPartsView → Type 0

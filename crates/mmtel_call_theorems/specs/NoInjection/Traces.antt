@@ -56,12 +56,15 @@ AreAmong some acks = Each (λ (acked : ReceivedAck). IsIn acked acks) some
 
 -- each message of it is clean, whatever happened before; and an ACK of a 2xx has no header fields but those that are copied from an ACK that the call received on the other side
 abbrev pub EmitsHaveNoInjection : Type 0
-EmitsHaveNoInjection = (acks : List ReceivedAck) (s : TraceStart) (received : List TraceStep) → TraceStartHasNoInjection acks s → Each (TraceStepHasNoInjection acks) received → AreAmong (received_acks_after s received) acks →
+EmitsHaveNoInjection = (acks : List ReceivedAck) (s : TraceStart) (received : List TraceStep) → TraceStartHasNoInjection acks s →
+    Each (TraceStepHasNoInjection acks) received → AreAmong (received_acks_after s received) acks →
     Each (EmitHasNoInjection acks) (output_after s received).out
 
 -- and so is what is sent where a leg is detached from the call then, and the call ends without it
 abbrev pub FinishEmitsHaveNoInjection : Type 0
-FinishEmitsHaveNoInjection = (acks : List ReceivedAck) (s : TraceStart) (received : List TraceStep) (side : Side) (at : ℕ) (output : StepOutput) → TraceStartHasNoInjection acks s → Each (TraceStepHasNoInjection acks) received →
+FinishEmitsHaveNoInjection =
+    (acks : List ReceivedAck) (s : TraceStart) (received : List TraceStep) (side : Side) (at : ℕ) (output : StepOutput) →
+    TraceStartHasNoInjection acks s → Each (TraceStepHasNoInjection acks) received →
     AreAmong (received_acks_after s received) acks → OutputHasNoInjection acks output →
     Each (EmitHasNoInjection acks) (call_finish s.config at (detached_in (call_after s received).phase side (call_after s received)) output).output.out
 
@@ -78,5 +81,6 @@ SendsOwnFields acks (emit.Arm call what at) = Unit {0}
 SendsOwnFields acks (emit.ArmSeat room seat what at) = Unit {0}
 
 abbrev pub EmitsHaveOwnFields : Type 0
-EmitsHaveOwnFields = (acks : List ReceivedAck) (s : TraceStart) (received : List TraceStep) → TraceStartHasNoInjection acks s → Each (TraceStepHasNoInjection acks) received → AreAmong (received_acks_after s received) acks →
+EmitsHaveOwnFields = (acks : List ReceivedAck) (s : TraceStart) (received : List TraceStep) → TraceStartHasNoInjection acks s →
+    Each (TraceStepHasNoInjection acks) received → AreAmong (received_acks_after s received) acks →
     Each (SendsOwnFields acks) (output_after s received).out

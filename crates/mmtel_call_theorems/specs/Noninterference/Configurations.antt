@@ -131,12 +131,14 @@ OpeningsSeeLookupsAlone = (records : List Sheet) (one other : CallConfigView) (n
 
 -- the end of a call of which a leg is detached looks up none
 abbrev pub EndsLookUpNone : Type 0
-EndsLookUpNone = (one other : CallConfigView) (at : ℕ) (c : Call) (output : StepOutput) → EqualButForAccounts one other → call_finish one at c output ≡ call_finish other at c output
+EndsLookUpNone = (one other : CallConfigView) (at : ℕ) (c : Call) (output : StepOutput) → EqualButForAccounts one other →
+    call_finish one at c output ≡ call_finish other at c output
 
 -- ---- so two indistinguishable calls continue indistinguishably, each under its configuration
 
 abbrev pub StepsKeepEquivalenceInBoth : Type 0
-StepsKeepEquivalenceInBoth = (records : List Sheet) (config far : CallConfigView) (keys : TKey → Bool) (now : SnapshotView) (x y : Signal) (role second : Role) (c d : Call) (one other : StepOutput) →
+StepsKeepEquivalenceInBoth = (records : List Sheet) (config far : CallConfigView) (keys : TKey → Bool) (now : SnapshotView) (x y : Signal)
+    (role second : Role) (c d : Call) (one other : StepOutput) →
     EqualButForAccounts config far → RecordsDivertEqually records config far → SignalRedirectsEqually config far second y →
     RecordsCoverSnapshot records now → EquivalentCalls records (trusts config) c d → public_signal role x ≡ public_signal second y →
     IsReceived records (trust_of config keys) x role c → IsReceived records (trust_of config keys) y second d → EquivalentOutputs (trust_of config keys) one other →
@@ -144,7 +146,8 @@ StepsKeepEquivalenceInBoth = (records : List Sheet) (config far : CallConfigView
 
 -- and remain indistinguishable
 abbrev pub CallsStayEquivalentInBoth : Type 0
-CallsStayEquivalentInBoth = (records : List Sheet) (config far : CallConfigView) (keys : TKey → Bool) (now : SnapshotView) (x y : Signal) (role second : Role) (c d : Call) (one other : StepOutput) →
+CallsStayEquivalentInBoth = (records : List Sheet) (config far : CallConfigView) (keys : TKey → Bool) (now : SnapshotView) (x y : Signal)
+    (role second : Role) (c d : Call) (one other : StepOutput) →
     EqualButForAccounts config far → RecordsDivertEqually records config far → SignalRedirectsEqually config far second y →
     RecordsCoverSnapshot records now → EquivalentCalls records (trusts config) c d → public_signal role x ≡ public_signal second y →
     IsReceived records (trust_of config keys) x role c → IsReceived records (trust_of config keys) y second d → EquivalentOutputs (trust_of config keys) one other →
@@ -154,9 +157,11 @@ CallsStayEquivalentInBoth = (records : List Sheet) (config far : CallConfigView)
 abbrev pub OpeningsAreEquivalentInBoth : Type 0
 OpeningsAreEquivalentInBoth = (records : List Sheet) (config far : CallConfigView) (keys : TKey → Bool) (now : SnapshotView) (a b : Arrival) (one other : StepOutput) →
     EqualButForAccounts config far → RecordsDivertEqually records config far → ArrivalLooksUpEqually config far b →
-    IsFromOwnPeer (trust_of config keys) a.key a.invite → IsFromOwnPeer (trust_of config keys) b.key b.invite → RecordsCoverSnapshot records now → AreDecidedEqually records a.identities b.identities →
+    IsFromOwnPeer (trust_of config keys) a.key a.invite → IsFromOwnPeer (trust_of config keys) b.key b.invite →
+    RecordsCoverSnapshot records now → AreDecidedEqually records a.identities b.identities →
     public_arrival now nobody a ≡ public_arrival now nobody b → EquivalentOutputs (trust_of config keys) one other →
-    EquivalentSteps (trust_of config keys) (call_after_opening config now a one) (call_after_opening far now b other) × EquivalentCalls records (trusts config) (call_after_opening config now a one).call (call_after_opening far now b other).call
+    EquivalentSteps (trust_of config keys) (call_after_opening config now a one) (call_after_opening far now b other)
+    × EquivalentCalls records (trusts config) (call_after_opening config now a one).call (call_after_opening far now b other).call
 
 -- through every two traces, each under its configuration, indistinguishable calls remain so, and each step has the same observable output
 abbrev pub ReceiveEquivalentInBoth : (records : List Sheet) → (config far : CallConfigView) → (keys : TKey → Bool) → StepPair → Call → Call → Type 0

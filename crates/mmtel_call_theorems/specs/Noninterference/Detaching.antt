@@ -27,7 +27,8 @@ pub record DetachingKeepsEquivalence : Type 0 where
       EquivalentCalls records known (with_leg_restored c.phase leg c) (with_leg_restored d.phase other d)
   -- the calls end without it; requests in flight get their final responses
   pub ends : (records : List Sheet) (config : CallConfigView) (keys : TKey → Bool) (at : ℕ) (c d : Call) (one other : StepOutput) → EquivalentCalls records (trusts config) c d →
-      in_flight_is_from_own_peers (trust_of config keys) c.relayed → in_flight_is_from_own_peers (trust_of config keys) d.relayed → EquivalentOutputs (trust_of config keys) one other →
+      in_flight_is_from_own_peers (trust_of config keys) c.relayed → in_flight_is_from_own_peers (trust_of config keys) d.relayed →
+      EquivalentOutputs (trust_of config keys) one other →
       EquivalentSteps (trust_of config keys) (call_finish config at c one) (call_finish config at d other)
   pub ended : (records : List Sheet) (config : CallConfigView) (keys : TKey → Bool) (at : ℕ) (c d : Call) (one other : StepOutput) → EquivalentCalls records (trusts config) c d →
       EquivalentOutputs (trust_of config keys) one other →

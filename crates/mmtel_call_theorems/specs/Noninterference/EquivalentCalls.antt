@@ -30,7 +30,8 @@ pub record IsReceived (records : List Sheet) (t : Trust) (x : Signal) (role : Ro
 -- two indistinguishable calls that receive the same but for private places continue indistinguishably: their public parts remain the same, untrusted peers see the same, of what is
 -- sent to trusted peers the heads are the same, and so are deadlines, CDRs and tokens
 abbrev pub StepsKeepEquivalence : Type 0
-StepsKeepEquivalence = (records : List Sheet) (config : CallConfigView) (keys : TKey → Bool) (now : SnapshotView) (x y : Signal) (role second : Role) (c d : Call) (one other : StepOutput) →
+StepsKeepEquivalence = (records : List Sheet) (config : CallConfigView) (keys : TKey → Bool) (now : SnapshotView) (x y : Signal)
+    (role second : Role) (c d : Call) (one other : StepOutput) →
     RecordsCoverSnapshot records now → EquivalentCalls records (trusts config) c d → public_signal role x ≡ public_signal second y →
     IsReceived records (trust_of config keys) x role c → IsReceived records (trust_of config keys) y second d → EquivalentOutputs (trust_of config keys) one other →
     EquivalentSteps (trust_of config keys) (step config now x c one) (step config now y d other)
@@ -41,7 +42,8 @@ OpeningsStay = (config : CallConfigView) (now : SnapshotView) (x : Signal) (c : 
 
 -- so two indistinguishable calls remain so
 abbrev pub CallsStayEquivalent : Type 0
-CallsStayEquivalent = (records : List Sheet) (config : CallConfigView) (keys : TKey → Bool) (now : SnapshotView) (x y : Signal) (role second : Role) (c d : Call) (one other : StepOutput) →
+CallsStayEquivalent = (records : List Sheet) (config : CallConfigView) (keys : TKey → Bool) (now : SnapshotView) (x y : Signal)
+    (role second : Role) (c d : Call) (one other : StepOutput) →
     RecordsCoverSnapshot records now → EquivalentCalls records (trusts config) c d → public_signal role x ≡ public_signal second y →
     IsReceived records (trust_of config keys) x role c → IsReceived records (trust_of config keys) y second d → EquivalentOutputs (trust_of config keys) one other →
     EquivalentCalls records (trusts config) (step config now x c one).call (step config now y d other).call

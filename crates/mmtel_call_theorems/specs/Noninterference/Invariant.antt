@@ -34,11 +34,14 @@ SignalIsFromOwnPeer t (signal.Due what) = Unit {0}
 SignalIsFromOwnPeer t (signal.Ended key) = Unit {0}
 
 pub record CallsKeepTheirInvariant : Type 0 where
-  pub steps : (records : List Sheet) (t : Trust) (config : CallConfigView) (now : SnapshotView) (x : Signal) (c : Call) (output : StepOutput) → RecordsCoverSnapshot records now → SignalIsFromOwnPeer t x →
+  pub steps : (records : List Sheet) (t : Trust) (config : CallConfigView) (now : SnapshotView) (x : Signal) (c : Call) (output : StepOutput) →
+      RecordsCoverSnapshot records now → SignalIsFromOwnPeer t x →
       CallInvariant records t c → CallInvariant records t (step config now x c output).call
-  pub openings : (records : List Sheet) (t : Trust) (config : CallConfigView) (now : SnapshotView) (a : Arrival) (output : StepOutput) → RecordsCoverSnapshot records now → IsFromOwnPeer t a.key a.invite →
+  pub openings : (records : List Sheet) (t : Trust) (config : CallConfigView) (now : SnapshotView) (a : Arrival) (output : StepOutput) →
+      RecordsCoverSnapshot records now → IsFromOwnPeer t a.key a.invite →
       CallInvariant records t (call_after_opening config now a output).call
   -- a leg is detached or put back, or the call ends without it
   pub out : (records : List Sheet) (t : Trust) (side : Side) (c : Call) → CallInvariant records t c → CallInvariant records t (detached_in c.phase side c)
   pub back : (records : List Sheet) (t : Trust) (leg : Released) (c : Call) → CallInvariant records t c → CallInvariant records t (with_leg_restored c.phase leg c)
-  pub ended : (records : List Sheet) (t : Trust) (config : CallConfigView) (at : ℕ) (c : Call) (output : StepOutput) → CallInvariant records t c → CallInvariant records t (call_finish config at c output).call
+  pub ended : (records : List Sheet) (t : Trust) (config : CallConfigView) (at : ℕ) (c : Call) (output : StepOutput) →
+      CallInvariant records t c → CallInvariant records t (call_finish config at c output).call

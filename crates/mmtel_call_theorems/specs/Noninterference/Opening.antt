@@ -25,19 +25,22 @@ public_arrival now who a = record a { invite = without_private (opening_role (is
 -- the 100, the 181s, the offer or the refusal, and the call that opens
 abbrev pub OpeningsSeePublicParts : Type 0
 OpeningsSeePublicParts = (records : List Sheet) (config : CallConfigView) (keys : TKey → Bool) (now : SnapshotView) (who : Identities2) (a : Arrival) (one other : StepOutput) →
-    IsFromOwnPeer (trust_of config keys) a.key a.invite → AreDecidedEqually records who a.identities → RecordsCoverSnapshot records now → EquivalentOutputs (trust_of config keys) one other →
+    IsFromOwnPeer (trust_of config keys) a.key a.invite → AreDecidedEqually records who a.identities → RecordsCoverSnapshot records now →
+    EquivalentOutputs (trust_of config keys) one other →
     EquivalentSteps (trust_of config keys) (call_after_opening config now (public_arrival now who a) one) (call_after_opening config now a other)
 
 -- two INVITEs that are the same but for private places, of callers on whom the same is decided, open indistinguishable calls
 abbrev pub OpeningsAreEquivalent : Type 0
 OpeningsAreEquivalent = (records : List Sheet) (config : CallConfigView) (keys : TKey → Bool) (now : SnapshotView) (a b : Arrival) (one other : StepOutput) →
-    IsFromOwnPeer (trust_of config keys) a.key a.invite → IsFromOwnPeer (trust_of config keys) b.key b.invite → RecordsCoverSnapshot records now → AreDecidedEqually records a.identities b.identities →
+    IsFromOwnPeer (trust_of config keys) a.key a.invite → IsFromOwnPeer (trust_of config keys) b.key b.invite →
+    RecordsCoverSnapshot records now → AreDecidedEqually records a.identities b.identities →
     public_arrival now nobody a ≡ public_arrival now nobody b → EquivalentOutputs (trust_of config keys) one other →
     EquivalentSteps (trust_of config keys) (call_after_opening config now a one) (call_after_opening config now b other)
 
 -- they are indistinguishable: on the callers that are recorded in them the same is decided
 abbrev pub OpeningsGiveEquivalentCalls : Type 0
 OpeningsGiveEquivalentCalls = (records : List Sheet) (config : CallConfigView) (keys : TKey → Bool) (now : SnapshotView) (a b : Arrival) (one other : StepOutput) →
-    IsFromOwnPeer (trust_of config keys) a.key a.invite → IsFromOwnPeer (trust_of config keys) b.key b.invite → RecordsCoverSnapshot records now → AreDecidedEqually records a.identities b.identities →
+    IsFromOwnPeer (trust_of config keys) a.key a.invite → IsFromOwnPeer (trust_of config keys) b.key b.invite →
+    RecordsCoverSnapshot records now → AreDecidedEqually records a.identities b.identities →
     public_arrival now nobody a ≡ public_arrival now nobody b → EquivalentOutputs (trust_of config keys) one other →
     EquivalentCalls records (trusts config) (call_after_opening config now a one).call (call_after_opening config now b other).call

@@ -124,8 +124,10 @@ pub record IsTargets (t : Trust) (key : TKey) (x : OfferedAttempt) (role : Role)
 
 -- a response to an INVITE, or to a request in flight: the latter is sent by the side other than the one that sent the request
 pub record MayReceiveOther (t : Trust) (key : TKey) (branch : List ℕ) (role : Role) (m : MessageView) (c : Call) : Type 0 where
-  pub abandoned : (at : ℕ) (l : AbandonedInvite) → position (is_of_branch branch) c.abandoned ≡ Some at → slice_get c.abandoned at ≡ Some l → IsResponseOf t key l.invite.dialogue.peer role m
-  pub answered : (at : ℕ) (x : AnsweredInvite) → position (is_answered_invite branch) c.answered_invites ≡ Some at → slice_get c.answered_invites at ≡ Some x → IsResponseOf t key x.invite.dialogue.peer role m
+  pub abandoned : (at : ℕ) (l : AbandonedInvite) → position (is_of_branch branch) c.abandoned ≡ Some at →
+      slice_get c.abandoned at ≡ Some l → IsResponseOf t key l.invite.dialogue.peer role m
+  pub answered : (at : ℕ) (x : AnsweredInvite) → position (is_answered_invite branch) c.answered_invites ≡ Some at →
+      slice_get c.answered_invites at ≡ Some x → IsResponseOf t key x.invite.dialogue.peer role m
   pub in_flight : position (is_of_branch branch) c.abandoned ≡ None → position (is_answered_invite branch) c.answered_invites ≡ None → (at : ℕ) (flight : RelayedTransaction) →
       position (is_in_flight branch) c.relayed ≡ Some at → slice_get c.relayed at ≡ Some flight → Fits c.opening (service_in c.phase) (other_side flight.side) m role
 

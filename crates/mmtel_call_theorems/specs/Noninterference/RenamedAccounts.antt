@@ -20,11 +20,13 @@ names_none renamed es u = not (list_any (λ (e : AccountIdentity). is_theirs ren
 
 -- such a URI belongs to an account exactly if it belongs to one of the others, and to the same one
 abbrev pub LookupsSkipOtherAccounts : Type 0
-LookupsSkipOtherAccounts = (renamed : List Account) (es : List AccountIdentity) (u : Uri) → names_none renamed es u ≡ true → account_of es u ≡ account_of (identities_without renamed es) u
+LookupsSkipOtherAccounts = (renamed : List Account) (es : List AccountIdentity) (u : Uri) → names_none renamed es u ≡ true →
+    account_of es u ≡ account_of (identities_without renamed es) u
 
 -- so it belongs to the same account in any two configurations that differ in these accounts alone, or to none
 abbrev pub LookupsAgree : Type 0
-LookupsAgree = (renamed : List Account) (es others : List AccountIdentity) (u : Uri) → identities_without renamed es ≡ identities_without renamed others → names_none renamed es u ≡ true →
+LookupsAgree = (renamed : List Account) (es others : List AccountIdentity) (u : Uri) →
+    identities_without renamed es ≡ identities_without renamed others → names_none renamed es u ≡ true →
     names_none renamed others u ≡ true → account_of es u ≡ account_of others u
 
 -- without renamed accounts nothing is ignored

@@ -5,7 +5,8 @@ use Rattle.mmtel_compose.specs.ReceivedMessages.{MessageView}
 use Rattle.mmtel_call.specs.Requests.{is_prack, is_update}
 use Rattle.mmtel_message.specs.Faults.{is_request}
 use Rattle.mmtel_trust.specs.ParsedMessage.{ParsedMessage}
-use Rattle.mmtel_trust.specs.PrivateFields.{NoEntries, PrivateFields, hidden_entries, hidden_uri, joined_fields, masked_lines, only_entries, private_fields_in, private_in_callee_requests, private_in_callee_responses, private_in_caller_requests, private_in_caller_responses, private_in_opening}
+use Rattle.mmtel_trust.specs.PrivateFields.{NoEntries, PrivateFields, hidden_entries, hidden_uri, joined_fields, masked_lines, only_entries, private_fields_in}
+use Rattle.mmtel_trust.specs.PrivateFields.{private_in_callee_requests, private_in_callee_responses, private_in_caller_requests, private_in_caller_responses, private_in_opening}
 use Rattle.mmtel_trust.specs.MaskedMessages.{private_entries}
 use Rattle.mmtel_types.specs.declared.sides.Side.{Side}
 use Rattle.mmtel_types.specs.declared.sides.Side.TheVariants.{Caller, Callee}

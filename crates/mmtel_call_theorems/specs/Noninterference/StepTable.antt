@@ -18,7 +18,8 @@ use Rattle.mmtel_call.specs.Table.{is_current, step}
 use Rattle.mmtel_call.specs.declared.signals.Signal.{Signal}
 use Rattle.mmtel_call.specs.declared.signals.Signal.TheVariants as signal
 use Rattle.mmtel_call_theorems.specs.Noninterference.PublicCall.{public_call}
-use Rattle.mmtel_call_theorems.specs.Noninterference.Premises.{CanContinue, Fits, FitsOffered, IsFromOwnPeer, IsResponseOf, IsTargets, MayReceiveOther, RecordsCoverService, requests_are_from_own_peers, stage_is_sent}
+use Rattle.mmtel_call_theorems.specs.Noninterference.Premises.{CanContinue, Fits, FitsOffered, IsFromOwnPeer, IsResponseOf, IsTargets}
+use Rattle.mmtel_call_theorems.specs.Noninterference.Premises.{MayReceiveOther, RecordsCoverService, requests_are_from_own_peers, stage_is_sent}
 use Rattle.mmtel_call_theorems.specs.Noninterference.Roles.{Role, without_private}
 use Rattle.mmtel_call_theorems.specs.Noninterference.Observations.{EquivalentOutputs, EquivalentSteps, Trust, trust_of}
 
@@ -65,7 +66,8 @@ RespondsIn (Over cause) t key role m c = Unit {0}
 -- by the request to which it belongs: the INVITE for which the call waits, or another one
 abbrev pub RespondsToOne : Option (List ℕ) → Trust → TKey → Role → MessageView → Call → Type 0
 RespondsToOne None t key role m c = Unit {0}
-RespondsToOne (Some branch) t key role m c = (is_current branch c ≡ true → RespondsIn c.phase t key role m c) × (is_current branch c ≡ false → MayReceiveOther t key branch role m c)
+RespondsToOne (Some branch) t key role m c =
+    (is_current branch c ≡ true → RespondsIn c.phase t key role m c) × (is_current branch c ≡ false → MayReceiveOther t key branch role m c)
 
 abbrev pub MayReceive : Signal → Trust → Role → Call → Type 0
 MayReceive (signal.Request side key request) t role c = IsFromOwnPeer t key request × FitsIn c.phase c side request role
@@ -81,7 +83,9 @@ MayReceive (signal.Ended key) t role c = Unit {0}
 -- on any signal: with the public parts in the place of the call and of the signal, and another caller on whom the same is decided, the call after a step has the same public part,
 -- and the observable output is the same
 abbrev pub StepsSeePublicParts : Type 0
-StepsSeePublicParts = (records : List Sheet) (config : CallConfigView) (keys : TKey → Bool) (now : SnapshotView) (who : Identities2) (x : Signal) (role : Role) (c : Call) (one other : StepOutput) →
-    CanContinue records (trust_of config keys) now who c → requests_are_from_own_peers (trust_of config keys) c → ServedIn c.phase records → MayReceive x (trust_of config keys) role c →
+StepsSeePublicParts = (records : List Sheet) (config : CallConfigView) (keys : TKey → Bool) (now : SnapshotView) (who : Identities2)
+    (x : Signal) (role : Role) (c : Call) (one other : StepOutput) →
+    CanContinue records (trust_of config keys) now who c → requests_are_from_own_peers (trust_of config keys) c → ServedIn c.phase records →
+    MayReceive x (trust_of config keys) role c →
     EquivalentOutputs (trust_of config keys) one other →
     EquivalentSteps (trust_of config keys) (step config now (public_signal role x) (public_call (trusts config) who c) one) (step config now x c other)

@@ -59,6 +59,7 @@ AllReceiveEquivalent records config keys c d (both ∷ earlier) =
 pub record TracesStayEquivalent : Type 0 where
   pub calls : (records : List Sheet) (config : CallConfigView) (keys : TKey → Bool) (c d : Call) (trace : List StepPair) → EquivalentCalls records (trusts config) c d →
       AllReceiveEquivalent records config keys c d trace → EquivalentCalls records (trusts config) (one_after config c trace) (other_after config d trace)
-  pub steps : (records : List Sheet) (config : CallConfigView) (keys : TKey → Bool) (c d : Call) (both : StepPair) (earlier : List StepPair) → EquivalentCalls records (trusts config) c d →
+  pub steps : (records : List Sheet) (config : CallConfigView) (keys : TKey → Bool) (c d : Call) (both : StepPair) (earlier : List StepPair) →
+      EquivalentCalls records (trusts config) c d →
       AllReceiveEquivalent records config keys c d (both ∷ earlier) →
       EquivalentSteps (trust_of config keys) (next config both.now both.one (one_after config c earlier)) (next config both.now both.other (other_after config d earlier))

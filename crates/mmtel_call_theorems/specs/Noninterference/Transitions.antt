@@ -25,7 +25,8 @@ use Rattle.mmtel_call.specs.OtherRequests.{on_other_response, on_other_timeout}
 use Rattle.mmtel_call.specs.Ringing.{on_answer, on_cancel, on_due, on_provisional, on_request, on_response, on_timeout, on_trying}
 use Rattle.mmtel_call.specs.Stages.{on_ack_at, on_cancel_at, on_due_at, on_request_at, on_response_at, on_timeout_at}
 use Rattle.mmtel_call_theorems.specs.Noninterference.PublicCall.{public_call, public_established, public_offered, public_stage}
-use Rattle.mmtel_call_theorems.specs.Noninterference.Premises.{AreDecidedEqually, CanContinue, Fits, FitsOffered, HasNothingPrivate, IsFromOwnPeer, IsResponseOf, IsTargets, MayReceiveOther, RecordsCoverService, RecordsCoverSnapshot}
+use Rattle.mmtel_call_theorems.specs.Noninterference.Premises.{AreDecidedEqually, CanContinue, Fits, FitsOffered, HasNothingPrivate, IsFromOwnPeer}
+use Rattle.mmtel_call_theorems.specs.Noninterference.Premises.{IsResponseOf, IsTargets, MayReceiveOther, RecordsCoverService, RecordsCoverSnapshot}
 use Rattle.mmtel_call_theorems.specs.Noninterference.Premises.{in_flight_is_from_own_peers, stage_is_from_own_peer, stage_is_sent}
 use Rattle.mmtel_call_theorems.specs.Noninterference.Roles.{Role, without_private}
 use Rattle.mmtel_call_theorems.specs.Noninterference.Observations.{EquivalentOutputs, EquivalentSteps, trust_of}
@@ -55,7 +56,8 @@ CancelsWhileOffered = (config : CallConfigView) (keys : TKey →
 abbrev pub RequestsOnceAnswered : Type 0
 RequestsOnceAnswered = (stage : Stage) (config : CallConfigView) (keys : TKey →
     Bool) (who : Identities2) (at : ℕ) (x : EstablishedLegs) (side : Side) (key : TKey) (role : Role) (m : MessageView) (c : Call) (one other : StepOutput) →
-    IsFromOwnPeer (trust_of config keys) key m → Fits c.opening x.service side m role → stage_is_from_own_peer (trust_of config keys) stage → EquivalentOutputs (trust_of config keys) one other →
+    IsFromOwnPeer (trust_of config keys) key m → Fits c.opening x.service side m role →
+    stage_is_from_own_peer (trust_of config keys) stage → EquivalentOutputs (trust_of config keys) one other →
     EquivalentSteps (trust_of config keys)
     (on_request_at (public_stage (trusts config) stage) config at (public_established (trusts config) x) side key (without_private role m) (public_call (trusts config) who c) one)
     (on_request_at stage config at x side key m c other)
@@ -64,14 +66,16 @@ RequestsOnceAnswered = (stage : Stage) (config : CallConfigView) (keys : TKey �
 abbrev pub CancelsOnceAnswered : Type 0
 CancelsOnceAnswered = (stage : Stage) (config : CallConfigView) (keys : TKey → Bool) (who : Identities2) (x : EstablishedLegs) (invite : TKey) (c : Call) (one other : StepOutput) →
     EquivalentOutputs (trust_of config keys) one other →
-    EquivalentSteps (trust_of config keys) (on_cancel_at (public_stage (trusts config) stage) config (public_established (trusts config) x) invite (public_call (trusts config) who c) one)
+    EquivalentSteps (trust_of config keys)
+    (on_cancel_at (public_stage (trusts config) stage) config (public_established (trusts config) x) invite (public_call (trusts config) who c) one)
     (on_cancel_at stage config x invite c other)
 
 -- the other side's response to that INVITE, and its timeout
 abbrev pub ResponsesAcross : Type 0
 ResponsesAcross = (asking : Side) (q : Reinvite) (config : CallConfigView) (keys : TKey →
     Bool) (who : Identities2) (at : ℕ) (x : EstablishedLegs) (key : TKey) (role : Role) (m : MessageView) (c : Call) (one other : StepOutput) →
-    IsFromOwnPeer (trust_of config keys) q.key q.request → IsResponseOf (trust_of config keys) key q.invite.dialogue.peer role m → Fits c.opening x.service (other_side asking) m role →
+    IsFromOwnPeer (trust_of config keys) q.key q.request → IsResponseOf (trust_of config keys) key q.invite.dialogue.peer role m →
+    Fits c.opening x.service (other_side asking) m role →
     EquivalentOutputs (trust_of config keys) one other →
     EquivalentSteps (trust_of config keys)
     (on_response_at (public_stage (trusts config) (Reinviting asking q)) config at (public_established (trusts config) x) key (without_private role m)
@@ -80,21 +84,25 @@ ResponsesAcross = (asking : Side) (q : Reinvite) (config : CallConfigView) (keys
 abbrev pub TimeoutsOnceAnswered : Type 0
 TimeoutsOnceAnswered = (stage : Stage) (config : CallConfigView) (keys : TKey → Bool) (who : Identities2) (at : ℕ) (x : EstablishedLegs) (c : Call) (one other : StepOutput) →
     stage_is_from_own_peer (trust_of config keys) stage → EquivalentOutputs (trust_of config keys) one other →
-    EquivalentSteps (trust_of config keys) (on_timeout_at (public_stage (trusts config) stage) config at (public_established (trusts config) x) (public_call (trusts config) who c) one)
+    EquivalentSteps (trust_of config keys)
+    (on_timeout_at (public_stage (trusts config) stage) config at (public_established (trusts config) x) (public_call (trusts config) who c) one)
     (on_timeout_at stage config at x c other)
 
 -- a 2xx that got no ACK, and a session that nobody refreshed
 abbrev pub DeadlinesOnceAnswered : Type 0
-DeadlinesOnceAnswered = (stage : Stage) (config : CallConfigView) (keys : TKey → Bool) (who : Identities2) (at : ℕ) (x : EstablishedLegs) (what : DueWord) (c : Call) (one other : StepOutput) →
+DeadlinesOnceAnswered = (stage : Stage) (config : CallConfigView) (keys : TKey → Bool) (who : Identities2) (at : ℕ) (x : EstablishedLegs)
+    (what : DueWord) (c : Call) (one other : StepOutput) →
     stage_is_from_own_peer (trust_of config keys) stage → EquivalentOutputs (trust_of config keys) one other →
-    EquivalentSteps (trust_of config keys) (on_due_at (public_stage (trusts config) stage) config at (public_established (trusts config) x) what (public_call (trusts config) who c) one)
+    EquivalentSteps (trust_of config keys)
+    (on_due_at (public_stage (trusts config) stage) config at (public_established (trusts config) x) what (public_call (trusts config) who c) one)
     (on_due_at stage config at x what c other)
 
 -- ---- what the target sends before it refuses (§12.1.2, §13.2.2, §16.7)
 
 -- 100, which is not relayed, and other provisional responses, which are relayed to the caller, as reliable ones or not
 abbrev pub ProvisionalToAttempt : Type 0
-ProvisionalToAttempt = (config : CallConfigView) (keys : TKey → Bool) (who : Identities2) (at : ℕ) (x : OfferedAttempt) (key : TKey) (role : Role) (m : MessageView) (code : ℕ) (c : Call) (one other : StepOutput) →
+ProvisionalToAttempt = (config : CallConfigView) (keys : TKey → Bool) (who : Identities2) (at : ℕ) (x : OfferedAttempt) (key : TKey)
+    (role : Role) (m : MessageView) (code : ℕ) (c : Call) (one other : StepOutput) →
     IsFromOwnPeer (trust_of config keys) c.opening.key c.opening.invite → Fits c.opening x.attempt.service Callee m role →
     (trusts config x.callee.leg.dialogue.peer ≡ false → HasNothingPrivate role m) → (trusts config x.attempt.invite.dialogue.peer ≡ false → HasNothingPrivate role m) →
     EquivalentOutputs (trust_of config keys) one other →
@@ -105,7 +113,8 @@ ProvisionalToAttempt = (config : CallConfigView) (keys : TKey → Bool) (who : I
 
 -- the 2xx
 abbrev pub SuccessToAttempt : Type 0
-SuccessToAttempt = (config : CallConfigView) (keys : TKey → Bool) (who : Identities2) (at : ℕ) (x : OfferedAttempt) (key : TKey) (role : Role) (m : MessageView) (c : Call) (one other : StepOutput) →
+SuccessToAttempt = (config : CallConfigView) (keys : TKey → Bool) (who : Identities2) (at : ℕ) (x : OfferedAttempt) (key : TKey)
+    (role : Role) (m : MessageView) (c : Call) (one other : StepOutput) →
     IsFromOwnPeer (trust_of config keys) c.opening.key c.opening.invite → Fits c.opening x.attempt.service Callee m role →
     (trusts config x.callee.leg.dialogue.peer ≡ false → HasNothingPrivate role m) → EquivalentOutputs (trust_of config keys) one other →
     EquivalentSteps (trust_of config keys) (on_answer config at (public_offered (trusts config) x) key (without_private role m) (public_call (trusts config) who c) one)
@@ -117,9 +126,11 @@ SuccessToAttempt = (config : CallConfigView) (keys : TKey → Bool) (who : Ident
 abbrev pub EndsOfAttempts : Type 0
 EndsOfAttempts = (records : List Sheet) (config : CallConfigView) (keys : TKey →
     Bool) (now : SnapshotView) (who : Identities2) (x : OfferedAttempt) (how : AttemptEndView) (role : Role) (m : Option MessageView) (c : Call) (one other : StepOutput) →
-    IsFromOwnPeer (trust_of config keys) c.opening.key c.opening.invite → AreDecidedEqually records who c.opening.identities → RecordsCoverSnapshot records now → RecordsCoverService records x.attempt.service →
+    IsFromOwnPeer (trust_of config keys) c.opening.key c.opening.invite → AreDecidedEqually records who c.opening.identities →
+    RecordsCoverSnapshot records now → RecordsCoverService records x.attempt.service →
     ((n : MessageView) → m ≡ Some n → Fits c.opening x.attempt.service Callee n role) → EquivalentOutputs (trust_of config keys) one other →
-    EquivalentSteps (trust_of config keys) (after_attempt config now (public_offered (trusts config) x) how (option_map (without_private role) m) (public_call (trusts config) who c) one)
+    EquivalentSteps (trust_of config keys)
+    (after_attempt config now (public_offered (trusts config) x) how (option_map (without_private role) m) (public_call (trusts config) who c) one)
     (after_attempt config now x how m c other)
 
 -- any response of the target of an attempt
@@ -133,12 +144,14 @@ ResponsesWhileOffered = (records : List Sheet) (config : CallConfigView) (keys :
 
 -- its timeout, and the deadlines of an attempt and of its reliable responses
 abbrev pub TimeoutsWhileOffered : Type 0
-TimeoutsWhileOffered = (records : List Sheet) (config : CallConfigView) (keys : TKey → Bool) (now : SnapshotView) (who : Identities2) (x : OfferedAttempt) (c : Call) (one other : StepOutput) →
+TimeoutsWhileOffered = (records : List Sheet) (config : CallConfigView) (keys : TKey → Bool) (now : SnapshotView) (who : Identities2)
+    (x : OfferedAttempt) (c : Call) (one other : StepOutput) →
     CanContinue records (trust_of config keys) now who c → RecordsCoverService records x.attempt.service → EquivalentOutputs (trust_of config keys) one other →
     EquivalentSteps (trust_of config keys) (on_timeout config now (public_offered (trusts config) x) (public_call (trusts config) who c) one) (on_timeout config now x c other)
 
 abbrev pub DeadlinesWhileOffered : Type 0
-DeadlinesWhileOffered = (records : List Sheet) (config : CallConfigView) (keys : TKey → Bool) (now : SnapshotView) (who : Identities2) (x : OfferedAttempt) (what : DueWord) (c : Call) (one other : StepOutput) →
+DeadlinesWhileOffered = (records : List Sheet) (config : CallConfigView) (keys : TKey → Bool) (now : SnapshotView) (who : Identities2)
+    (x : OfferedAttempt) (what : DueWord) (c : Call) (one other : StepOutput) →
     CanContinue records (trust_of config keys) now who c → RecordsCoverService records x.attempt.service → EquivalentOutputs (trust_of config keys) one other →
     EquivalentSteps (trust_of config keys) (on_due config now (public_offered (trusts config) x) what (public_call (trusts config) who c) one) (on_due config now x what c other)
 
@@ -146,9 +159,11 @@ DeadlinesWhileOffered = (records : List Sheet) (config : CallConfigView) (keys :
 
 -- a response to an INVITE that was abandoned, or had a 2xx, and to a request in flight
 abbrev pub ResponsesToOthers : Type 0
-ResponsesToOthers = (config : CallConfigView) (keys : TKey → Bool) (who : Identities2) (at : ℕ) (key : TKey) (role : Role) (m : MessageView) (branch : List ℕ) (c : Call) (one other : StepOutput) →
+ResponsesToOthers = (config : CallConfigView) (keys : TKey → Bool) (who : Identities2) (at : ℕ) (key : TKey) (role : Role) (m : MessageView)
+    (branch : List ℕ) (c : Call) (one other : StepOutput) →
     in_flight_is_from_own_peers (trust_of config keys) c.relayed → MayReceiveOther (trust_of config keys) key branch role m c → EquivalentOutputs (trust_of config keys) one other →
-    EquivalentSteps (trust_of config keys) (on_other_response config at key (without_private role m) branch (public_call (trusts config) who c) one) (on_other_response config at key m branch c other)
+    EquivalentSteps (trust_of config keys) (on_other_response config at key (without_private role m) branch (public_call (trusts config) who c) one)
+    (on_other_response config at key m branch c other)
 
 -- a timeout: a request in flight gets its final response
 abbrev pub TimeoutsOfOthers : Type 0
@@ -164,7 +179,8 @@ Dismissals = (config : CallConfigView) (keys : TKey → Bool) (who : Identities2
 
 -- the ACK of a 2xx: it is relayed, and kept; or a departing call ends
 abbrev pub AcksOnceAnswered : Type 0
-AcksOnceAnswered = (stage : Stage) (config : CallConfigView) (keys : TKey → Bool) (who : Identities2) (at : ℕ) (x : EstablishedLegs) (side : Side) (role : Role) (m : MessageView) (c : Call)
+AcksOnceAnswered = (stage : Stage) (config : CallConfigView) (keys : TKey → Bool) (who : Identities2) (at : ℕ) (x : EstablishedLegs)
+    (side : Side) (role : Role) (m : MessageView) (c : Call)
     (one other : StepOutput) →
     Fits c.opening x.service side m role → stage_is_sent (trust_of config keys) c x side m stage → EquivalentOutputs (trust_of config keys) one other →
     EquivalentSteps (trust_of config keys)

@@ -89,4 +89,5 @@ notification_due config o history (Some due) =
 abbrev pub notifications_due : CallConfigView → Opening → List Entry → List OutcomeTarget → List (Message StartLine)
 notifications_due config o history [] = []
 notifications_due config o history (target ∷ later) =
-    notification_due config o (history_at o history target.diversion target.uri) target.diversion ++ notifications_due config o (history_at o history target.diversion target.uri) later
+    notification_due config o (history_at o history target.diversion target.uri) target.diversion
+    ++ notifications_due config o (history_at o history target.diversion target.uri) later

@@ -31,4 +31,5 @@ NotifiesNothingLater = (config : CallConfigView) (now : SnapshotView) (received 
 
 -- nor where it ends without a leg that was detached from it
 abbrev pub EndsWithoutNotification : Type 0
-EndsWithoutNotification = (config : CallConfigView) (at : ℕ) (c : Call) (output : StepOutput) (key : TKey) → notifications_in key (items_added output.out (call_finish config at c output).output.out) ≡ []
+EndsWithoutNotification = (config : CallConfigView) (at : ℕ) (c : Call) (output : StepOutput) (key : TKey) →
+    notifications_in key (items_added output.out (call_finish config at c output).output.out) ≡ []

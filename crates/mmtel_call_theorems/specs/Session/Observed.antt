@@ -123,7 +123,8 @@ initial_session own out = record { count = 0; last = None; earlier = []; armed =
 unfoldable pub session_after : TraceStart → List TraceStep → Session
 session_after s [] = initial_session s.arrival.number (items_added s.output.out (first_step s).output.out)
 session_after s (x ∷ earlier) =
-    session_after_step x.now.at s.arrival.number (call_after s earlier) x.signal (items_added x.output.out (next_step s x (call_after s earlier)).output.out) (session_after s earlier)
+    session_after_step x.now.at s.arrival.number (call_after s earlier) x.signal
+    (items_added x.output.out (next_step s x (call_after s earlier)).output.out) (session_after s earlier)
 
 -- ---- how it ends
 

@@ -25,7 +25,8 @@ use Rattle.mmtel_call.specs.declared.calls.Stage.TheVariants.{Answered, Departin
 use Rattle.mmtel_call.specs.declared.signals.Signal.{Signal}
 use Rattle.mmtel_call.specs.declared.signals.Signal.TheVariants as signal
 use Rattle.mmtel_call_theorems.specs.NoInjection.Emits.{Each}
-use Rattle.mmtel_call_theorems.specs.Session.Observed.{RelayedSuccess, Session, session_after_success, byes_of, expiries_of, is_numbered_among, session_after, session_after_step, initial_session}
+use Rattle.mmtel_call_theorems.specs.Session.Observed.{RelayedSuccess, Session, session_after_success, byes_of, expiries_of}
+use Rattle.mmtel_call_theorems.specs.Session.Observed.{is_numbered_among, session_after, session_after_step, initial_session}
 use Rattle.mmtel_call_theorems.specs.Labels.{InFlightHasOtherKeys, Refused, labels_of}
 use Rattle.mmtel_call_theorems.specs.CallTrace.{TraceStart, TraceStep, call_after, first_step, items_added}
 use Rattle.mmtel_call_theorems.specs.Attempts.Theorems.{number_of_deadline}
@@ -66,7 +67,8 @@ pub record SessionsAreObserved : Type 0 where
   pub releases : (timer : Bool) (side : Side) (c : Call) (w : Session) → IsSessionObserved timer c w → IsSessionObserved timer (detached_in c.phase side c) w
   pub restores : (timer : Bool) (away : Released) (c : Call) (w : Session) → IsSessionObserved timer c w → IsSessionObserved timer (with_leg_restored c.phase away c) w
   pub ends : (config : CallConfigView) (at : ℕ) (c : Call) (output : StepOutput) (w : Session) → IsSessionObserved config.timer c w →
-      IsSessionObserved config.timer (call_finish config at c output).call (session_after_success at w None (expiries_of c.opening.number (items_added output.out (call_finish config at c output).output.out)))
+      IsSessionObserved config.timer (call_finish config at c output).call
+      (session_after_success at w None (expiries_of c.opening.number (items_added output.out (call_finish config at c output).output.out)))
   -- and so in every trace
   pub traces : (s : TraceStart) (received : List TraceStep) → IsSessionObserved s.config.timer (call_after s received) (session_after s received)
 
@@ -104,10 +106,12 @@ pub record HasExpired (x : EstablishedLegs) (stage : Stage) (flights : List Rela
 
 pub record SessionsExpire : Type 0 where
   -- by the deadline that has the number of the call, of a stable or reinviting call,
-  pub expires : (config : CallConfigView) (now : SnapshotView) (x : EstablishedLegs) (stage : Stage) (c : Call) (output : StepOutput) → c.phase ≡ Established x stage → is_refreshable_at stage ≡ true →
+  pub expires : (config : CallConfigView) (now : SnapshotView) (x : EstablishedLegs) (stage : Stage) (c : Call) (output : StepOutput) →
+      c.phase ≡ Established x stage → is_refreshable_at stage ≡ true →
       HasExpired x stage c.relayed output (step config now (signal.Due (due.Expired c.successes)) c output)
   -- and by no other: on any other deadline such a call is unchanged,
-  pub no_other : (config : CallConfigView) (now : SnapshotView) (what : DueWord) (c : Call) (output : StepOutput) → is_refreshable c.phase ≡ true → (what ≡ due.Expired c.successes → ⊥) →
+  pub no_other : (config : CallConfigView) (now : SnapshotView) (what : DueWord) (c : Call) (output : StepOutput) →
+      is_refreshable c.phase ≡ true → (what ≡ due.Expired c.successes → ⊥) →
       step config now (signal.Due what) c output ≡ step_result c output
   -- and so is every other call on each deadline of a session: the expiry does not take effect later
   pub elsewhere : (config : CallConfigView) (now : SnapshotView) (number : ℕ) (c : Call) (output : StepOutput) → is_refreshable c.phase ≡ false →
@@ -118,7 +122,8 @@ pub record SessionsExpire : Type 0 where
 -- this step of the call, with this state before and this observation of its session, on the deadline of a session of this number
 pub record ExpiresAsObserved (c : Call) (w : Session) (number : ℕ) (output : StepOutput) (s : StepResult) : Type 0 where
   -- that of the last 2xx ends a stable or reinviting call,
-  pub counts : (x : EstablishedLegs) (stage : Stage) → is_numbered_among number w.armed ≡ true → c.phase ≡ Established x stage → is_refreshable_at stage ≡ true → HasExpired x stage c.relayed output s
+  pub counts : (x : EstablishedLegs) (stage : Stage) → is_numbered_among number w.armed ≡ true → c.phase ≡ Established x stage →
+      is_refreshable_at stage ≡ true → HasExpired x stage c.relayed output s
   -- and one that was armed before has no effect
   pub superseded : is_numbered_among number w.earlier ≡ true → w.count < 2 ^ 64 - 1 → s ≡ step_result c output
 

@@ -8,7 +8,8 @@ ghost use Rattle.mmtel_admission.specs.Dispositions.{dialog_owner_in};
 ghost use Rattle.mmtel_admission.specs.Dialogs.{name_in};
 ghost use Rattle.mmtel_run_definitions.specs.Calls.{are_full, arrival_signal, find_dialog};
 ghost use Rattle.mmtel_run_definitions.specs.Ownership.{find_participant, find_subscription, in_call_or, in_conference_or, in_subscription};
-ghost use Rattle.mmtel_run_definitions.specs.Transitions.{RunState, after_ack, after_ack_by, after_call_end, after_call_signal, after_cancel, after_response, calls_in, conferences_in, subscriptions_in};
+ghost use Rattle.mmtel_run_definitions.specs.Transitions.{RunState, after_ack, after_ack_by, after_call_end, after_call_signal};
+ghost use Rattle.mmtel_run_definitions.specs.Transitions.{after_cancel, after_response, calls_in, conferences_in, subscriptions_in};
 ghost use Rattle.mmtel_server.specs.DialogOwners.{NamesOwner};
 ghost use Rattle.mmtel_server.specs.Follows.{AddsOfferPrefix, CallEnds, CallsReceive, Follows};
 ghost use Rattle.mmtel_server.specs.Representation.{Represents};
@@ -194,7 +195,8 @@ impl Server {
     fn owner_of_dialog(&self, name: &DialogName) -> Option<DialogOwner>
         ensures { (directory : Directory) (token : List ℕ) (world : RunState) → Represents directory token self.now world →
             option_map dialog_owner_in result ≡
-            in_call_or (in_conference_or (in_subscription (find_subscription (Some (name_in name.now)) (subscriptions_in world))) (find_participant (Some (name_in name.now)) (conferences_in directory world).live))
+            in_call_or (in_conference_or (in_subscription (find_subscription (Some (name_in name.now)) (subscriptions_in world)))
+            (find_participant (Some (name_in name.now)) (conferences_in directory world).live))
             (find_dialog (Some (name_in name.now)) (calls_in directory world).entries) }
     {
         let call_id = name.call_id.bytes();

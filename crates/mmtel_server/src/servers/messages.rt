@@ -9,7 +9,8 @@ ghost use Rattle.mmtel_run_definitions.specs.Audio.{is_for_conference};
 ghost use Rattle.mmtel_run_definitions.specs.Calls.{are_full};
 ghost use Rattle.mmtel_run_definitions.specs.Records.{until_of};
 ghost use Rattle.mmtel_run_definitions.specs.Refusals.{OpenCall};
-ghost use Rattle.mmtel_run_definitions.specs.Transitions.{after_classified_message, after_disposition, after_message, after_new_request, after_parsed_event, after_register, with_refusal_of_bytes, with_response, with_retransmission, with_stateless_response};
+ghost use Rattle.mmtel_run_definitions.specs.Transitions.{after_classified_message, after_disposition, after_message, after_new_request, after_parsed_event};
+ghost use Rattle.mmtel_run_definitions.specs.Transitions.{after_register, with_refusal_of_bytes, with_response, with_retransmission, with_stateless_response};
 ghost use Rattle.mmtel_sdp.specs.Offers.{offers_audio};
 ghost use Rattle.mmtel_server.specs.Follows.{AddsOfferPrefix, Follows, IsMessageOf};
 

@@ -7,7 +7,8 @@ ghost use Rattle.mmtel_run_definitions.specs.Deadlines.{FirstTimer, first_deadli
 ghost use Rattle.mmtel_output.specs.ResponseMatching.{behind_cookie, timed_out_branch};
 ghost use Rattle.mmtel_run_definitions.specs.Ownership.{owner_of_branch, owner_of_key};
 ghost use Rattle.mmtel_run_definitions.specs.Run.{after_due_deadlines};
-ghost use Rattle.mmtel_run_definitions.specs.Transitions.{after_deadline, after_due, after_first_service_timer, after_request_timeout, after_service_timer, after_transaction_end, after_transaction_timer, calls_in, subscriptions_in, with_next_step};
+ghost use Rattle.mmtel_run_definitions.specs.Transitions.{after_deadline, after_due, after_first_service_timer, after_request_timeout, after_service_timer};
+ghost use Rattle.mmtel_run_definitions.specs.Transitions.{after_transaction_end, after_transaction_timer, calls_in, subscriptions_in, with_next_step};
 ghost use Rattle.mmtel_server_timers.specs.PendingTimers.{IsFirstTimer, kind_of, queue_of, timer_in};
 ghost use Rattle.mmtel_server.specs.Follows.{AddsOfferPrefix, AddsOfferPrefixWhere, Follows, FollowsWhere, IsDueBy, IsSettledBy};
 ghost use Rattle.mmtel_transaction.specs.Results.{next_due};

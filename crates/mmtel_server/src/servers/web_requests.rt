@@ -75,16 +75,19 @@ impl Server {
         keeper: &mut K,
         out: &mut List<Offer>,
     ) -> Result<(KeeperResult, Option<(Account, Counts)>), NoMemory>
-        ensures done { IfOk result (λ a. Follows self.old out.old self.new out.new (λ d token. after_web_reply d at (request_of bytes.now) (keeper_outcome_view a.0.outcome) a.0.rows)) }
+        ensures done { IfOk result (λ a. Follows self.old out.old self.new out.new
+            (λ d token. after_web_reply d at (request_of bytes.now) (keeper_outcome_view a.0.outcome) a.0.rows)) }
         ensures put { IfOk result (λ a. a.1 ≡ counts_put_in self.old.directory.names (request_of bytes.now) (keeper_outcome_view a.0.outcome)) }
         ensures keeper_result { IfOk result (λ a.
-            IsKeeperResult (keeper_call_in self.old.directory.names (request_of bytes.now)) (keeper_outcome_view a.0.outcome) a.0.rows (K.contents keeper.old) (K.contents keeper.new) (K.calls keeper.old)
+            IsKeeperResult (keeper_call_in self.old.directory.names (request_of bytes.now)) (keeper_outcome_view a.0.outcome) a.0.rows
+            (K.contents keeper.old) (K.contents keeper.new) (K.calls keeper.old)
             (K.calls keeper.new)) }
         ensures counted { IfOk result (λ a. CountsFaults (keeper_outcome_view a.0.outcome) (K.faults keeper.old) (K.faults keeper.new)) }
         ensures directory { self.new.directory ≡ self.old.directory }
         ensures err { OnErr result (out.new ≡ out.old) }
         ensures uncalled { OnErr result (keeper.new ≡ keeper.old) }
-        ensures aborted { OnErr result (HasKeeperResult (keeper_call_in self.old.directory.names (request_of bytes.now)) (K.contents keeper.old) (K.contents keeper.new) (K.calls keeper.old)
+        ensures aborted { OnErr result (HasKeeperResult (keeper_call_in self.old.directory.names (request_of bytes.now))
+            (K.contents keeper.old) (K.contents keeper.new) (K.calls keeper.old)
             (K.calls keeper.new) (K.faults keeper.old) (K.faults keeper.new)) }
     {
         let position = out.items().len();
@@ -135,13 +138,17 @@ impl Server {
         out: &mut List<Offer>,
         steps: &mut Steps<L>,
     ) -> Result<KeeperResult, NoMemory>
-        ensures done { IfOk result (λ a. Follows self.old out.old self.new out.new (λ d token. after_web_request d token at (request_of bytes.now) (keeper_outcome_view a.outcome) a.rows)) }
+        ensures done { IfOk result (λ a. Follows self.old out.old self.new out.new
+            (λ d token. after_web_request d token at (request_of bytes.now) (keeper_outcome_view a.outcome) a.rows)) }
         ensures keeper_result { IfOk result (λ a.
-            IsKeeperResult (keeper_call_in self.old.directory.names (request_of bytes.now)) (keeper_outcome_view a.outcome) a.rows (K.contents keeper.old) (K.contents keeper.new) (K.calls keeper.old)
+            IsKeeperResult (keeper_call_in self.old.directory.names (request_of bytes.now)) (keeper_outcome_view a.outcome) a.rows
+            (K.contents keeper.old) (K.contents keeper.new) (K.calls keeper.old)
             (K.calls keeper.new)) }
         ensures counted { IfOk result (λ a. CountsFaults (keeper_outcome_view a.outcome) (K.faults keeper.old) (K.faults keeper.new)) }
-        ensures aborted { OnErr result (AbortedKeeperCalls (λ kept rows. AddsOfferPrefix self.old out.old out.new (λ d token. after_web_request d token at (request_of bytes.now) kept rows))
-            (λ kept rows between. IsKeeperResult (keeper_call_in self.old.directory.names (request_of bytes.now)) kept rows (K.contents keeper.old) between.contents (K.calls keeper.old) between.calls)
+        ensures aborted { OnErr result
+            (AbortedKeeperCalls (λ kept rows. AddsOfferPrefix self.old out.old out.new (λ d token. after_web_request d token at (request_of bytes.now) kept rows))
+            (λ kept rows between. IsKeeperResult (keeper_call_in self.old.directory.names (request_of bytes.now)) kept rows
+            (K.contents keeper.old) between.contents (K.calls keeper.old) between.calls)
             (keeper_state K.Keeper keeper.old) (keeper_state K.Keeper keeper.new)) }
     {
         numbers_never_fall();

@@ -9,4 +9,5 @@ pub returns-in-None-clause-parted : goal.returns-in-None-clause-parted
 returns-in-None-clause-parted c =
     let n = c.args.number in
     let bs = c.args.entries.now in
-    IsPartitionPoint-from_clause (λ (b : Box Entry Global). nat_lt (number_in b) n) bs c.partition_point.result c.partition_point.ensures.partitioned (IsPartitionedBy-ltb number_in bs n c.requires) (λ a r f called. search rules)
+    IsPartitionPoint-from_clause (λ (b : Box Entry Global). nat_lt (number_in b) n) bs c.partition_point.result c.partition_point.ensures.partitioned (IsPartitionedBy-ltb number_in bs n c.requires)
+    (λ a r f called. search rules)

@@ -6,4 +6,11 @@ use Rattle.mmtel_call_theorems.proofs.noninterference_theorems.answered_steps_se
 pub returns : goal.returns
 returns c =
     let heads : Heads = record { fields = c.heads_rest_on_five_names.ensures.fields; five = c.heads_rest_on_five_names.ensures.lines } in
-    record { requests = requests_once_answered heads; acks = acks_once_answered heads; cancels = cancels_once_answered heads; answers = responses_across heads; timeouts = timeouts_once_answered heads; deadlines = deadlines_once_answered heads }
+    record {
+      requests = requests_once_answered heads;
+      acks = acks_once_answered heads;
+      cancels = cancels_once_answered heads;
+      answers = responses_across heads;
+      timeouts = timeouts_once_answered heads;
+      deadlines = deadlines_once_answered heads;
+    }

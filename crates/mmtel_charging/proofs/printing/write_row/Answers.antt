@@ -23,4 +23,5 @@ returns-clause-line c =
     let holds : c.as_bytes-7.result.now ≡ decimal row.holds = grind (arith, common_steps) in
     let cause : c.as_bytes-8.result.now ≡ causes.word_of row.cause = grind (arith, common_steps) in
     let status : c.as_bytes-9.result.now ≡ decimal (causes.status_of row.cause) = grind (arith, common_steps) in
-    IfOk-weaker c.write_record.result _ _ (λ u h. h ∙ ap (λ t. written_bytes c.args.writer.now ++ t) (rw (kind, account, call, began, answered, ended, holds, cause, status) (row-line row range))) c.write_record.ensures.csv_record
+    IfOk-weaker c.write_record.result _ _ (λ u h. h ∙ ap (λ t. written_bytes c.args.writer.now ++ t) (rw (kind, account, call, began, answered, ended, holds, cause, status) (row-line row range)))
+    c.write_record.ensures.csv_record

@@ -24,7 +24,8 @@ returns c =
           let public = (c.equal_masks_decide_the_same.ensures.equivalent restricts accounts others m n e).public in
           let start : m.start ≡ n.start = ap (λ (x : ParsedMessage). x.start) public in
           let also : n.trusted ≡ false = sym (ap (λ (x : ParsedMessage). x.trusted) public) ∙ strange in
-          let lines : masked_lines (nowhere m.start) m.lines ≡ masked_lines (nowhere n.start) n.lines = sym (untouched restricts accounts m strange) ∙ (ap (λ (x : MaskedMessage). x.message.lines) e ∙ untouched restricts others n also) in
+          let lines : masked_lines (nowhere m.start) m.lines ≡ masked_lines (nowhere n.start) n.lines =
+          sym (untouched restricts accounts m strange) ∙ (ap (λ (x : MaskedMessage). x.message.lines) e ∙ untouched restricts others n also) in
           sym (kept (nowhere m.start) m.start m.lines r refl (to_nowhere m.start))
           ∙ (ap (λ (ls : List Line). response m.start ls r) lines
           ∙ (ap (λ (s : Start). response s (masked_lines (nowhere n.start) n.lines) r) start

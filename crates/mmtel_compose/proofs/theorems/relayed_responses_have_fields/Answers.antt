@@ -10,7 +10,8 @@ pub returns : goal.returns
 returns c = record {
   five = λ contact tag m r f to_trusted h five source fit lines.
       let passed = shown_lines f to_trusted h r.parsed.start r.parsed.lines in
-      let none : (name : List ℕ) → is_own_field name ≡ true → has_line name passed ≡ false = λ name own. none_has name passed (c.own_fields_are_not_passed.ensures.shown f to_trusted name h r.parsed.start r.parsed.lines own) in
+      let none : (name : List ℕ) → is_own_field name ≡ true → has_line name passed ≡ false =
+      λ name own. none_has name passed (c.own_fields_are_not_passed.ensures.shown f to_trusted name h r.parsed.start r.parsed.lines own) in
       c.responses_have_the_fields.ensures.five m.parsed.start m.parsed.lines (relayed_reply contact m.source tag passed r.parsed) five
       (record {
         none = record {

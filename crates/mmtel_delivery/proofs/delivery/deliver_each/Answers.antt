@@ -34,4 +34,5 @@ loop-offer-preserved g c =
 pub returns-in_err-deliver-clause-delivered : goal.returns-in_err-deliver-clause-delivered
 returns-in_err-deliver-clause-delivered g c =
     delivered_prefix c.args.peers.now.known c.loop-offer.offer-index c.args.offers.now _ _ c.from_residual.result c.from_residual.ensures.0
-    (subst (λ (o : Option LinkOutput). Delivered c.args.peers.now.known (take c.loop-offer.offer-index c.args.offers.now) (g.L.Link.output c.args.link.now) o) (sym c.in_err-deliver.ensures.none) c.loop-offer.invariant.delivered)
+    (subst (λ (o : Option LinkOutput). Delivered c.args.peers.now.known (take c.loop-offer.offer-index c.args.offers.now) (g.L.Link.output c.args.link.now) o)
+    (sym c.in_err-deliver.ensures.none) c.loop-offer.invariant.delivered)

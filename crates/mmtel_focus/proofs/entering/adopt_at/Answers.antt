@@ -14,5 +14,6 @@ put_back-requires c =
     let y = c.adopt-adopted.new.self in
     let s : StepResult = record { conference = x; effects = c.args.effects.now } in
     let after = after_adoption c.args.step.now.config c.args.step.now.at c.args.entrant.leg c.args.entrant.account c.args.by s in
-    let same = same_number c.adopt-adopted.result y x after.conference c.adopt-adopted.ensures.conference c.adopt-adopted.ensures.refused (after_adoption_keeps c.args.step.now.config c.args.step.now.at c.args.entrant.leg c.args.entrant.account c.args.by s) in
+    let same = same_number c.adopt-adopted.result y x after.conference c.adopt-adopted.ensures.conference c.adopt-adopted.ensures.refused
+    (after_adoption_keeps c.args.step.now.config c.args.step.now.at c.args.entrant.leg c.args.entrant.account c.args.by s) in
     subst (λ (t : LiveConferencesView). slice_get t.items k ≡ Some (new_conference y.number)) (sym c.take_out-room.ensures.live) (waits c.args.live.now.items k x y c.take_out-room.ensures.conference same)

@@ -14,5 +14,6 @@ put_back-requires c =
     let y = c.join-joined.new.self in
     let s : StepResult = record { conference = x; effects = c.args.effects.now } in
     let after = after_join c.args.step.now.config c.args.step.now.at c.args.entrant.leg c.args.entrant.account c.args.key c.args.invite.now s in
-    let same = same_number c.join-joined.result y x after.conference c.join-joined.ensures.conference c.join-joined.ensures.refused (after_join_keeps c.args.step.now.config c.args.step.now.at c.args.entrant.leg c.args.entrant.account c.args.key c.args.invite.now s) in
+    let same = same_number c.join-joined.result y x after.conference c.join-joined.ensures.conference c.join-joined.ensures.refused
+    (after_join_keeps c.args.step.now.config c.args.step.now.at c.args.entrant.leg c.args.entrant.account c.args.key c.args.invite.now s) in
     subst (λ (t : LiveConferencesView). slice_get t.items k ≡ Some (new_conference y.number)) (sym c.take_out-room.ensures.live) (waits c.args.live.now.items k x y c.take_out-room.ensures.conference same)

@@ -12,5 +12,6 @@ put_back-requires c =
     let k = c.args.place in
     let x = c.take_out-room.result in
     let y = c.notify.new.self in
-    let same = ap (λ (r : Conference). r.number) c.in-Ok.ensures.conference ∙ after_notify_to_keeps c.args.step.now.config 0 c.args.is_active c.args.status_line.now c.args.seat (record { conference = x; effects = c.args.effects.now }) in
+    let same = ap (λ (r : Conference). r.number) c.in-Ok.ensures.conference
+    ∙ after_notify_to_keeps c.args.step.now.config 0 c.args.is_active c.args.status_line.now c.args.seat (record { conference = x; effects = c.args.effects.now }) in
     subst (λ (t : LiveConferencesView). slice_get t.items k ≡ Some (new_conference y.number)) (sym c.take_out-room.ensures.live) (waits c.args.live.now.items k x y c.take_out-room.ensures.conference same)

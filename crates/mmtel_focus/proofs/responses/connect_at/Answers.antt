@@ -12,4 +12,5 @@ returns c =
     ∙ (ap (λ (l : List ParticipantState). insert l c.args.place c.connect-seat.result) c.remove.ensures.items
     ∙ (put_in c.args.participants.now.items c.args.place c.connect-seat.result c.requires
     ∙ (ap (λ (seat : ParticipantState). slice_set c.args.participants.now.items c.args.place seat) c.connect-seat.ensures.seated
-    ∙ ap (λ (o : Option ParticipantState). participants_with_connected c.args.room c.args.now c.args.remote c.args.place o c.args.participants.now.items) (sym (stands_at c.args.participants.now.items c.args.place c.remove.result c.requires c.remove.ensures.value)))))
+    ∙ ap (λ (o : Option ParticipantState). participants_with_connected c.args.room c.args.now c.args.remote c.args.place o c.args.participants.now.items)
+    (sym (stands_at c.args.participants.now.items c.args.place c.remove.result c.requires c.remove.ensures.value)))))

@@ -10,8 +10,10 @@ added : (c : After-hide_if) → c.hide_if.new.entries.items ≡ with_target c.ar
 added c =
     let place : c.len-last.result - 1 ≡ length c.args.entries.now.items - 1 = grind (arith, common_steps) in
     let index : c.last_index.result.now ≡ last_index c.args.entries.now.items = c.last_index.ensures ∙ ap (λ (h : List Entry). last_index h) c.as_slice.ensures.value in
-    let entry : c.in_ok-entry.entry ≡ target_entry (last_index c.args.entries.now.items) c.args.target.now c.args.cause = c.in_ok-entry.ensures ∙ ap (λ (i : List ℕ). target_entry i c.args.target.now c.args.cause) index in
-    c.hide_if.ensures ∙ ap (λ (h : List Entry). list_hidden_if c.args.hide_last (c.len-last.result - 1) h) c.in_ok-push.ensures.items ∙ target_added c.args.hide_last c.args.entries.now.items (c.len-last.result - 1) c.in_ok-entry.entry _ place c.requires entry
+    let entry : c.in_ok-entry.entry ≡ target_entry (last_index c.args.entries.now.items) c.args.target.now c.args.cause =
+    c.in_ok-entry.ensures ∙ ap (λ (i : List ℕ). target_entry i c.args.target.now c.args.cause) index in
+    c.hide_if.ensures ∙ ap (λ (h : List Entry). list_hidden_if c.args.hide_last (c.len-last.result - 1) h) c.in_ok-push.ensures.items
+    ∙ target_added c.args.hide_last c.args.entries.now.items (c.len-last.result - 1) c.in_ok-entry.entry _ place c.requires entry
 
 pub returns-clause-ok : goal.returns-clause-ok
 returns-clause-ok c = added c

@@ -11,7 +11,8 @@ unfolding without_cause
 nothing_added u = ap (λ (f : List ℕ). with_host_part f u) (append-nil (host_part_without_causes (host_and_params u)))
 
 pub returns-clause-text : goal.returns-clause-text
-returns-clause-text c = if_ok_by {P = λ t. t ≡ with_host_part (host_part_without_causes (host_and_params c.args.uri.now) ++ []) c.args.uri.now} {Q = λ t. t ≡ without_cause c.args.uri.now} c.uri_with_cause.result c.uri_with_cause.ensures (λ t same. same ∙ nothing_added c.args.uri.now)
+returns-clause-text c = if_ok_by {P = λ t. t ≡ with_host_part (host_part_without_causes (host_and_params c.args.uri.now) ++ []) c.args.uri.now}
+    {Q = λ t. t ≡ without_cause c.args.uri.now} c.uri_with_cause.result c.uri_with_cause.ensures (λ t same. same ∙ nothing_added c.args.uri.now)
 
 pub returns-clause-none : goal.returns-clause-none
 returns-clause-none c =

@@ -9,4 +9,5 @@ pub returns-else-bytes-gt-WEB_HEAD_BYTES : goal.returns-else-bytes-gt-WEB_HEAD_B
 returns-else-bytes-gt-WEB_HEAD_BYTES c = record { exact = not_long c.args.bytes.now (sym c.end.ensures.value ∙ c.in-None.is) c.if-bytes-gt-WEB_HEAD_BYTES.false }
 
 pub returns-in-Some : goal.returns-in-Some
-returns-in-Some c = record { exact = ended c.args.bytes.now c.in-Some.len _ (sym c.end.ensures.value ∙ c.in-Some.is) c.in-Some.ensures.within (rw (c.split_at.ensures.front, c.split_at.ensures.back) at c.request_by_head.ensures) }
+returns-in-Some c =
+    record { exact = ended c.args.bytes.now c.in-Some.len _ (sym c.end.ensures.value ∙ c.in-Some.is) c.in-Some.ensures.within (rw (c.split_at.ensures.front, c.split_at.ensures.back) at c.request_by_head.ensures) }

@@ -13,7 +13,8 @@ returns-in_err-param c =
 
 pub params-preserved : goal.params-preserved
 params-preserved c =
-    rw c.in_ok-push.ensures.ok (goes_on c.params.params c.params.rest.now c.in-Some.tail.now c.in_ok-param.after.now c.args.bytes.now c.in_ok-param.param c.params.invariant (sym c.in-Some.ensures.value) c.in_ok-param.ensures.exact c.in_ok-param.ensures.shorter)
+    rw c.in_ok-push.ensures.ok (goes_on c.params.params c.params.rest.now c.in-Some.tail.now c.in_ok-param.after.now c.args.bytes.now c.in_ok-param.param c.params.invariant
+    (sym c.in-Some.ensures.value) c.in_ok-param.ensures.exact c.in_ok-param.ensures.shorter)
 
 pub returns : goal.returns
 returns c = record { exact = is_done c.params.params c.params.rest.now c.args.bytes.now c.params.invariant (sym c.in_default.ensures.value) }

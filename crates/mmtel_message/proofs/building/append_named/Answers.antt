@@ -8,7 +8,8 @@ unfolding line
 lines-preserved c =
     let name = c.args.name.now in
     let ls = c.args.lines.now.values in
-    rw c.in_ok-add_bytes.ensures.added (one_more c.lines.out (lines_named name (drop c.lines.from ls)) (lines_named name (drop c.in-Some.line.next ls)) (c.args.out.now ++ lines_named name ls) (c.in-Some.line.name.now, c.in-Some.line.value.now) c.lines.invariant c.in-Some.ensures.line)
+    rw c.in_ok-add_bytes.ensures.added (one_more c.lines.out (lines_named name (drop c.lines.from ls)) (lines_named name (drop c.in-Some.line.next ls)) (c.args.out.now ++ lines_named name ls)
+    (c.in-Some.line.name.now, c.in-Some.line.value.now) c.lines.invariant c.in-Some.ensures.line)
 
 pub returns : goal.returns
 returns c =

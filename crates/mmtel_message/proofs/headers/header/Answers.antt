@@ -19,12 +19,16 @@ pub returns-then-is_value-clause-line : goal.returns-then-is_value-clause-line
 returns-then-is_value-clause-line c =
     let filled : (length c.split_run.result.0.now == 0) ≡ false = grind (arith, nat_tests, c.if-is_empty.false, c.is_empty.ensures) in
     let is = scanned c.args.line.now c.split_run.result.0.now c.split_run.result.1.now c.split_run-2.result.1.now c.split_run.ensures.front c.split_run.ensures.rest c.split_run-2.ensures.rest filled in
-    let value = value_there c.args.line.now c.split_run.result.1.now c.split_run-2.result.1.now c.in_ok-tail.tail.now (bytes_at c.args.line.now c.trimmed_span-value.result) c.split_run.ensures.rest c.split_run-2.ensures.rest c.in_ok-tail.ensures.value c.trimmed_span-value.ensures.bytes in
-    good_value c.args.line.now c.split_run.result.0.now c.split_run-2.result.1.now c.in_ok-tail.tail.now (bytes_at c.args.line.now c.trimmed_span-value.result) is c.in_ok-tail.ensures.value value (rw c.bytes_at.ensures at (sym c.is_value.ensures ∙ c.if-is_value.true))
+    let value = value_there c.args.line.now c.split_run.result.1.now c.split_run-2.result.1.now c.in_ok-tail.tail.now
+    (bytes_at c.args.line.now c.trimmed_span-value.result) c.split_run.ensures.rest c.split_run-2.ensures.rest c.in_ok-tail.ensures.value c.trimmed_span-value.ensures.bytes in
+    good_value c.args.line.now c.split_run.result.0.now c.split_run-2.result.1.now c.in_ok-tail.tail.now (bytes_at c.args.line.now c.trimmed_span-value.result) is c.in_ok-tail.ensures.value value
+    (rw c.bytes_at.ensures at (sym c.is_value.ensures ∙ c.if-is_value.true))
 
 pub returns-else-is_value-clause-line : goal.returns-else-is_value-clause-line
 returns-else-is_value-clause-line c =
     let filled : (length c.split_run.result.0.now == 0) ≡ false = grind (arith, nat_tests, c.if-is_empty.false, c.is_empty.ensures) in
     let is = scanned c.args.line.now c.split_run.result.0.now c.split_run.result.1.now c.split_run-2.result.1.now c.split_run.ensures.front c.split_run.ensures.rest c.split_run-2.ensures.rest filled in
-    let value = value_there c.args.line.now c.split_run.result.1.now c.split_run-2.result.1.now c.in_ok-tail.tail.now (bytes_at c.args.line.now c.trimmed_span-value.result) c.split_run.ensures.rest c.split_run-2.ensures.rest c.in_ok-tail.ensures.value c.trimmed_span-value.ensures.bytes in
-    bad_value c.args.line.now c.split_run.result.0.now c.split_run-2.result.1.now c.in_ok-tail.tail.now (bytes_at c.args.line.now c.trimmed_span-value.result) is c.in_ok-tail.ensures.value value (rw c.bytes_at.ensures at (sym c.is_value.ensures ∙ c.if-is_value.false))
+    let value = value_there c.args.line.now c.split_run.result.1.now c.split_run-2.result.1.now c.in_ok-tail.tail.now
+    (bytes_at c.args.line.now c.trimmed_span-value.result) c.split_run.ensures.rest c.split_run-2.ensures.rest c.in_ok-tail.ensures.value c.trimmed_span-value.ensures.bytes in
+    bad_value c.args.line.now c.split_run.result.0.now c.split_run-2.result.1.now c.in_ok-tail.tail.now (bytes_at c.args.line.now c.trimmed_span-value.result) is c.in_ok-tail.ensures.value value
+    (rw c.bytes_at.ensures at (sym c.is_value.ensures ∙ c.if-is_value.false))

@@ -14,5 +14,6 @@ returns-then-is_empty c =
 pub returns : goal.returns
 returns c =
     let some : 0 < length c.trim_end-kept.result.now = grind (arith, nat_tests, c.if-is_empty.false, c.is_empty.ensures) in
-    let kept : c.args.line.now ++ c.args.gap.now ++ c.trim_end-kept.result.now ≡ without_trailing Blank (c.args.line.now ++ c.args.gap.now ++ c.args.piece.now) = rw c.trim_end-kept.ensures (some_kept (c.args.line.now ++ c.args.gap.now) c.args.piece.now (rw c.trim_end-kept.ensures at some)) in
+    let kept : c.args.line.now ++ c.args.gap.now ++ c.trim_end-kept.result.now ≡ without_trailing Blank (c.args.line.now ++ c.args.gap.now ++ c.args.piece.now) =
+    rw c.trim_end-kept.ensures (some_kept (c.args.line.now ++ c.args.gap.now) c.args.piece.now (rw c.trim_end-kept.ensures at some)) in
     subst (λ (l : List ℕ). OnOk c.join.result (c.join.new.self ≡ l)) kept c.join.ensures

@@ -6,4 +6,5 @@ pub returns-clause-bytes : goal.returns-clause-bytes
 returns-clause-bytes c = rw (c.trim_end.ensures, c.split_run.ensures.rest, c.split_run.ensures.front) (trimmed_is_there c.args.text.now c.args.from (c.args.to - c.args.from))
 
 pub returns-clause-within : goal.returns-clause-within
-returns-clause-within c = rw (c.trim_end.ensures, c.split_run.ensures.rest, c.split_run.ensures.front) (trimmed_within c.args.text.now c.args.from (c.args.to - c.args.from) (omega (arith, c.requires.order, c.requires.within)))
+returns-clause-within c = rw (c.trim_end.ensures, c.split_run.ensures.rest, c.split_run.ensures.front)
+    (trimmed_within c.args.text.now c.args.from (c.args.to - c.args.from) (omega (arith, c.requires.order, c.requires.within)))

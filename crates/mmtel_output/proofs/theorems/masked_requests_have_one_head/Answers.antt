@@ -15,9 +15,12 @@ returns c = record {
       let n : Message Start = response start ls r in
       c.heads_rest_on_five_names.ensures.fields m n (record {
         start = refl;
-        via = same_via m.lines n.lines (c.responses_copy_request_fields.ensures.via start (masked_lines p ls) r none ∙ (ap (λ (xs : List Line). completed_lines r.source xs) (c.masks_leave_the_route.ensures.via p ls) ∙ sym (c.responses_copy_request_fields.ensures.via start ls r none)));
-        from = tag_stays p.from (c.masks_leave_the_route.ensures.params p.from) (codes "From") m.lines n.lines (c.responses_copy_request_fields.ensures.from start (masked_lines p ls) r none ∙ (c.masks_leave_the_route.ensures.from p ls ∙ ap (λ (xs : List Line). map (with_value (hide_if p.from)) xs) (sym (c.responses_copy_request_fields.ensures.from start ls r none))));
-        to = same_tag (codes "To") m.lines n.lines (c.responses_copy_request_fields.ensures.to start (masked_lines p ls) r none ∙ (ap (λ (xs : List Line). map (to_line (tag_of_response r.code r.tag)) xs) (c.masking_keeps_the_rest.ensures.lines p (codes "To") ls (to_kept p public)) ∙ sym (c.responses_copy_request_fields.ensures.to start ls r none)));
+        via = same_via m.lines n.lines (c.responses_copy_request_fields.ensures.via start (masked_lines p ls) r none
+            ∙ (ap (λ (xs : List Line). completed_lines r.source xs) (c.masks_leave_the_route.ensures.via p ls) ∙ sym (c.responses_copy_request_fields.ensures.via start ls r none)));
+        from = tag_stays p.from (c.masks_leave_the_route.ensures.params p.from) (codes "From") m.lines n.lines (c.responses_copy_request_fields.ensures.from start (masked_lines p ls) r none
+            ∙ (c.masks_leave_the_route.ensures.from p ls ∙ ap (λ (xs : List Line). map (with_value (hide_if p.from)) xs) (sym (c.responses_copy_request_fields.ensures.from start ls r none))));
+        to = same_tag (codes "To") m.lines n.lines (c.responses_copy_request_fields.ensures.to start (masked_lines p ls) r none ∙ (ap (λ (xs : List Line). map (to_line (tag_of_response r.code r.tag)) xs)
+            (c.masking_keeps_the_rest.ensures.lines p (codes "To") ls (to_kept p public)) ∙ sym (c.responses_copy_request_fields.ensures.to start ls r none)));
         call = same_call m.lines n.lines
             (c.responses_copy_request_fields.ensures.call_id start (masked_lines p ls) r none ∙ (c.masks_leave_the_route.ensures.call_id p ls ∙ sym (c.responses_copy_request_fields.ensures.call_id start ls r none)))
             (c.responses_copy_request_fields.ensures.cseq start (masked_lines p ls) r none ∙ (c.masks_leave_the_route.ensures.cseq p ls ∙ sym (c.responses_copy_request_fields.ensures.cseq start ls r none)));

@@ -12,5 +12,7 @@ pub returns-in_ok-seat-in-Ok-clause-output : goal.returns-in_ok-seat-in-Ok-claus
 returns-in_ok-seat-in-Ok-clause-output c =
     c.in_ok-seat-in-Ok.ensures.output
     ∙ (ap (λ (d : Dialogue). with_invite_sent c.args.step.now.config c.args.step.now.at c.args.next.room c.args.next.seat c.args.next.number d c.begin_dialog.new.output) c.in_ok-dialogue-in-Ok.ensures.dialogue
-    ∙ (ap (λ (output : StepOutput). with_invite_sent c.args.step.now.config c.args.step.now.at c.args.next.room c.args.next.seat c.args.next.number (invitation_dialog c.args.step.now.config c.args.next.room c.in-Ok.peer (uri_text (target_of c.in-Some.uri)) c.args.output.now) output) c.in_ok-dialogue-in-Ok.ensures.output
-    ∙ ap (λ (b : ReferStep). b.output) (sym (refer_step_started c.args.step.now.config c.args.step.now.at c.args.next c.args.by c.args.participants.now c.args.uri c.in-Some.uri c.in-Ok.peer c.args.output.now (search rules) (search rules)))))
+    ∙ (ap (λ (output : StepOutput). with_invite_sent c.args.step.now.config c.args.step.now.at c.args.next.room c.args.next.seat c.args.next.number
+    (invitation_dialog c.args.step.now.config c.args.next.room c.in-Ok.peer (uri_text (target_of c.in-Some.uri)) c.args.output.now) output) c.in_ok-dialogue-in-Ok.ensures.output
+    ∙ ap (λ (b : ReferStep). b.output)
+    (sym (refer_step_started c.args.step.now.config c.args.step.now.at c.args.next c.args.by c.args.participants.now c.args.uri c.in-Some.uri c.in-Ok.peer c.args.output.now (search rules) (search rules)))))

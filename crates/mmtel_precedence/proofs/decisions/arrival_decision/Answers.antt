@@ -9,5 +9,6 @@ use Rattle.mmtel_precedence.proofs.decisions.arrival_decision.Goals as goal
 pub returns : goal.returns
 returns c =
     c.decision_unless_refused.ensures
-    ∙ ap (λ refusal. decision_by (refusal_or refusal (first_decision (services_after_barring (facts_view c.args.call_facts.now) (served_account_view c.args.served_account.now)))) c.args.served_account.now.live) c.incoming.ensures.exact
+    ∙ ap (λ refusal. decision_by (refusal_or refusal (first_decision (services_after_barring (facts_view c.args.call_facts.now) (served_account_view c.args.served_account.now)))) c.args.served_account.now.live)
+    c.incoming.ensures.exact
     ∙ ap (λ says. decision_by says c.args.served_account.now.live) (said_by-arrival c.barred_where_no_rule_allows.ensures.barred (facts_view c.args.call_facts.now) (served_account_view c.args.served_account.now))

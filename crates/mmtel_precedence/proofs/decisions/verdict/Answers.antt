@@ -7,5 +7,6 @@ use Rattle.mmtel_precedence.proofs.decisions.verdict.Goals as goal
 pub returns-in-Arrived : goal.returns-in-Arrived
 returns-in-Arrived c = record {
   exact = rw c.in-Arrived.is
-      (c.verdict_on_arrival.ensures ∙ c.arrival_decision.ensures ∙ ap (λ (account : ServedAccountView). decision_by (first_decision (services_on_arrival (facts_view c.args.call_facts.now.facts) account)) account.live) c.called_account.ensures);
+      (c.verdict_on_arrival.ensures ∙ c.arrival_decision.ensures
+      ∙ ap (λ (account : ServedAccountView). decision_by (first_decision (services_on_arrival (facts_view c.args.call_facts.now.facts) account)) account.live) c.called_account.ensures);
 }

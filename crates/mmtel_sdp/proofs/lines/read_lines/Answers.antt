@@ -12,7 +12,8 @@ lines-smaller c = part_shorter 10 c.lines.rest.now (c.in-Some.raw.now, c.in-Some
 
 pub lines-preserved : goal.lines-preserved
 lines-preserved c =
-    rw c.in_ok-push-in-Some-2.ensures.ok (goes_on c.lines.lines c.lines.rest.now c.args.bytes.now (c.in-Some.raw.now, c.in-Some.after.now) c.in-Some-2.line c.lines.invariant c.in-Some.ensures (sym c.in-Some-2.is ∙ c.in_ok-line.ensures))
+    rw c.in_ok-push-in-Some-2.ensures.ok
+    (goes_on c.lines.lines c.lines.rest.now c.args.bytes.now (c.in-Some.raw.now, c.in-Some.after.now) c.in-Some-2.line c.lines.invariant c.in-Some.ensures (sym c.in-Some-2.is ∙ c.in_ok-line.ensures))
 
 pub returns-then-is_empty : goal.returns-then-is_empty
 returns-then-is_empty c =

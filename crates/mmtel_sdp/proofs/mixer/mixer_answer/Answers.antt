@@ -5,7 +5,8 @@ use Rattle.mmtel_sdp.proofs.AnswerTheorems.{reads_back_by, ports_by}
 use Rattle.mmtel_sdp.proofs.mixer.mixer_answer.Goals as goal
 
 pub returns-clause-text : goal.returns-clause-text
-returns-clause-text c = answer_is c.args.view.now c.args.mixer c.answer_direction.result c.items-media.result.now c.in_ok-out.out c.add_answer_media.new.out c.items-media.ensures c.answer_direction.ensures c.in_ok-out.ensures c.in_ok-add_answer_media.ensures
+returns-clause-text c = answer_is c.args.view.now c.args.mixer c.answer_direction.result c.items-media.result.now c.in_ok-out.out c.add_answer_media.new.out c.items-media.ensures
+    c.answer_direction.ensures c.in_ok-out.ensures c.in_ok-add_answer_media.ensures
 
 pub returns-clause-reads_back : goal.returns-clause-reads_back
 returns-clause-reads_back c = λ body read.

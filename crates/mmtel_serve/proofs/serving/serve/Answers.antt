@@ -16,7 +16,8 @@ turns-init g c = record {
 
 pub turns-preserved : goal.turns-preserved
 turns-preserved g c = record {
-  served = goes_on c.theorems_of_runs_hold.ensures c.parts_are_delivered.ensures.none c.parts_are_delivered.ensures.both c.runs_keep_noninterference.ensures.offers c.bytes_are_seen.ensures.law _ _ _ c.turns.invariant.served
+  served = goes_on c.theorems_of_runs_hold.ensures c.parts_are_delivered.ensures.none c.parts_are_delivered.ensures.both c.runs_keep_noninterference.ensures.offers c.bytes_are_seen.ensures.law _ _ _
+      c.turns.invariant.served
       (link_state g.N.Link c.next_event.new.link) _ _ (rw c.in-Ok-Some.field-0-is at c.in-Ok-Some.ensures.received)
       c.next_event.ensures.output c.serve_event.ensures.received c.serve_event.ensures.counted _ c.in-Ok.ensures.done;
   lost = lost_then _ _ _ _ _ _ _ _ c.turns.invariant.lost c.turns.invariant.delivery_faults c.next_event.ensures.output c.next_event.ensures.delivery_faults c.serve_event.ensures.lost;
@@ -39,7 +40,8 @@ returns-in-Err-serve_event-clause-delivery_faults g c = rise_then _ _ _ (rise_th
 
 pub returns-in-Ok-None-clause-served : goal.returns-in-Ok-None-clause-served
 returns-in-Ok-None-clause-served g c =
-    closes c.theorems_of_runs_hold.ensures c.parts_are_delivered.ensures.none c.parts_are_delivered.ensures.both c.runs_keep_noninterference.ensures.offers c.bytes_are_seen.ensures.law _ _ _ c.turns.invariant.served _ (omega arith) (link_state g.N.Link c.next_event.new.link) c.next_event.ensures.output
+    closes c.theorems_of_runs_hold.ensures c.parts_are_delivered.ensures.none c.parts_are_delivered.ensures.both c.runs_keep_noninterference.ensures.offers c.bytes_are_seen.ensures.law _ _ _
+    c.turns.invariant.served _ (omega arith) (link_state g.N.Link c.next_event.new.link) c.next_event.ensures.output
     (rw c.in-Ok-None.field-0-is at c.in-Ok-None.ensures.received)
 
 pub returns-in-Ok-None-clause-lost : goal.returns-in-Ok-None-clause-lost
@@ -50,7 +52,8 @@ returns-in-Ok-None-clause-delivery_faults g c = rise_then _ _ _ c.turns.invarian
 
 pub returns-in-Err-clause-served : goal.returns-in-Err-clause-served
 returns-in-Err-clause-served g c =
-    fails c.theorems_of_runs_hold.ensures c.parts_are_delivered.ensures.none c.parts_are_delivered.ensures.both c.runs_keep_noninterference.ensures.offers c.bytes_are_seen.ensures.law _ _ _ c.turns.invariant.served _ (omega arith) (link_state g.N.Link c.next_event.new.link) c.next_event.ensures.output c.next_event.ensures.delivery_faults _
+    fails c.theorems_of_runs_hold.ensures c.parts_are_delivered.ensures.none c.parts_are_delivered.ensures.both c.runs_keep_noninterference.ensures.offers c.bytes_are_seen.ensures.law _ _ _
+    c.turns.invariant.served _ (omega arith) (link_state g.N.Link c.next_event.new.link) c.next_event.ensures.output c.next_event.ensures.delivery_faults _
     c.in-Err.ensures.received
 
 pub returns-in-Err-clause-lost : goal.returns-in-Err-clause-lost
@@ -61,7 +64,8 @@ returns-in-Err-clause-delivery_faults g c = rise_then _ _ _ c.turns.invariant.de
 
 pub returns-clause-served : goal.returns-clause-served
 returns-clause-served g c =
-    ends c.theorems_of_runs_hold.ensures c.parts_are_delivered.ensures.none c.parts_are_delivered.ensures.both c.runs_keep_noninterference.ensures.offers c.bytes_are_seen.ensures.law _ _ _ c.turns.invariant.served _ (omega arith)
+    ends c.theorems_of_runs_hold.ensures c.parts_are_delivered.ensures.none c.parts_are_delivered.ensures.both c.runs_keep_noninterference.ensures.offers c.bytes_are_seen.ensures.law _ _ _
+    c.turns.invariant.served _ (omega arith)
 
 pub returns-in-Err-serve_event-clause-bound : goal.returns-in-Err-serve_event-clause-bound
 returns-in-Err-serve_event-clause-bound g c = c.serve_event.ensures.bound ∙ (bound_within _ _ _ c.next_event.ensures.calls ∙ c.turns.invariant.bound)

@@ -9,13 +9,17 @@ pub items-init : goal.items-init
 items-init c = rw c.new-rules.ensures (items_begin (rules_from c.args.schema c.args.path.now) c.deref-item-items.result.now)
 
 pub items-preserved : goal.items-preserved
-items-preserved c = items_step (rules_from c.args.schema c.args.path.now) c.deref-item-items.result.now (next_rule c.args.schema c.args.path.now) (rules_go c.args.schema c.args.path.now) c.items.item-index c.item-item.result c.in_ok-next_rule.field-0 c.items.rules c.push.new.self c.items-test.true c.item-item.is c.in_ok-next_rule.ensures.exact c.in_ok-next_rule.ensures.sound c.in_ok-push.ensures.ok c.items.invariant
+items-preserved c = items_step (rules_from c.args.schema c.args.path.now) c.deref-item-items.result.now (next_rule c.args.schema c.args.path.now)
+    (rules_go c.args.schema c.args.path.now) c.items.item-index c.item-item.result c.in_ok-next_rule.field-0 c.items.rules c.push.new.self c.items-test.true c.item-item.is
+    c.in_ok-next_rule.ensures.exact c.in_ok-next_rule.ensures.sound c.in_ok-push.ensures.ok c.items.invariant
 
 pub returns-in_err-next_rule : goal.returns-in_err-next_rule
 returns-in_err-next_rule c =
     let p = err_from_is_err_and c.from_residual.result c.from_residual.ensures.1 in
     record {
-      exact = rw (p.1, p.2) (items_refused (rules_from c.args.schema c.args.path.now) c.deref-item-items.result.now (next_rule c.args.schema c.args.path.now) (rules_go c.args.schema c.args.path.now) c.args.items.now.items c.items.item-index c.item-item.result c.items.rules c.in_err-next_rule.field-0.0 c.deref-item-items.ensures.value c.items-test.true c.item-item.is c.in_err-next_rule.ensures.exact c.items.invariant);
+      exact = rw (p.1, p.2) (items_refused (rules_from c.args.schema c.args.path.now) c.deref-item-items.result.now (next_rule c.args.schema c.args.path.now)
+          (rules_go c.args.schema c.args.path.now) c.args.items.now.items c.items.item-index c.item-item.result c.items.rules c.in_err-next_rule.field-0.0 c.deref-item-items.ensures.value
+          c.items-test.true c.item-item.is c.in_err-next_rule.ensures.exact c.items.invariant);
       sound = rw p.1 tt;
     }
 
@@ -26,6 +30,8 @@ returns-in_err-push c =
 
 pub returns : goal.returns
 returns c = record {
-  exact = items_read (rules_from c.args.schema c.args.path.now) c.deref-item-items.result.now (λ done. refl) c.args.items.now.items c.items.item-index c.items.rules c.deref-item-items.ensures.value c.items-test.false c.items.invariant;
-  sound = items_sound (rules_from c.args.schema c.args.path.now) c.deref-item-items.result.now c.args.items.now.items c.items.item-index c.items.rules c.deref-item-items.ensures.value c.items-test.false c.items.invariant;
+  exact = items_read (rules_from c.args.schema c.args.path.now) c.deref-item-items.result.now
+      (λ done. refl) c.args.items.now.items c.items.item-index c.items.rules c.deref-item-items.ensures.value c.items-test.false c.items.invariant;
+  sound = items_sound (rules_from c.args.schema c.args.path.now) c.deref-item-items.result.now c.args.items.now.items c.items.item-index c.items.rules c.deref-item-items.ensures.value
+      c.items-test.false c.items.invariant;
 }

@@ -17,7 +17,9 @@ members-preserved c =
     let first = c.in-Some.ensures.steps in (
       tt,
       tt,
-      member_read (keys_from c.args.schema (members_view c.args.table.now.entries) c.args.path.now) (λ d k v. rule_key_read c.args.schema (members_view c.args.table.now.entries) (dotted_path c.args.path.now k) d k v) (λ d k v ms. refl) empty_draft c.args.table.now.entries c.members.key-iterator c.next.new.self e c.members.draft c.read_name.new.draft first (rw c.as_str.ensures.value at c.in-Ok.ensures.exact) same,
+      member_read (keys_from c.args.schema (members_view c.args.table.now.entries) c.args.path.now)
+          (λ d k v. rule_key_read c.args.schema (members_view c.args.table.now.entries) (dotted_path c.args.path.now k) d k v) (λ d k v ms. refl) empty_draft c.args.table.now.entries
+          c.members.key-iterator c.next.new.self e c.members.draft c.read_name.new.draft first (rw c.as_str.ensures.value at c.in-Ok.ensures.exact) same,
       members_step c.args.table.now.entries c.members.key-iterator e c.next.new.self first left c.in-Ok.ensures.sound,
     )
 
@@ -26,7 +28,9 @@ returns-in-Err c =
     let (can, finite, same, left) = c.members.invariant in
     let e : Entry = (c.in-Some.key.now, c.in-Some.value.now) in
     record {
-      exact = member_refused (keys_from c.args.schema (members_view c.args.table.now.entries) c.args.path.now) (λ d k v. rule_key_read c.args.schema (members_view c.args.table.now.entries) (dotted_path c.args.path.now k) d k v) (λ d k v ms. refl) empty_draft c.args.table.now.entries c.members.key-iterator c.next.new.self e c.members.draft c.in-Err.fault c.in-Some.ensures.steps (rw c.as_str.ensures.value at c.in-Err.ensures.exact) same;
+      exact = member_refused (keys_from c.args.schema (members_view c.args.table.now.entries) c.args.path.now)
+          (λ d k v. rule_key_read c.args.schema (members_view c.args.table.now.entries) (dotted_path c.args.path.now k) d k v) (λ d k v ms. refl) empty_draft c.args.table.now.entries
+          c.members.key-iterator c.next.new.self e c.members.draft c.in-Err.fault c.in-Some.ensures.steps (rw c.as_str.ensures.value at c.in-Err.ensures.exact) same;
       sound = tt;
     }
 

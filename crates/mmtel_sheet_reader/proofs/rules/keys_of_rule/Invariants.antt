@@ -8,5 +8,6 @@ abbrev pub invariant-members : goal.invariant-members
 invariant-members l =
     (goal.iterator-members).can_next l.key-iterator ×
     (goal.iterator-members).is_finite l.key-iterator ×
-    (members_from l.path (λ at r k d. rule_key_read l.schema (members_view l.table.entries) at r k d) l.draft (members_view l.key-iterator) ≡ members_from l.path (λ at r k d. rule_key_read l.schema (members_view l.table.entries) at r k d) empty_draft (members_view l.table.entries)) ×
+    (members_from l.path (λ at r k d. rule_key_read l.schema (members_view l.table.entries) at r k d) l.draft (members_view l.key-iterator)
+    ≡ members_from l.path (λ at r k d. rule_key_read l.schema (members_view l.table.entries) at r k d) empty_draft (members_view l.table.entries)) ×
     IsLeft l.table.entries l.key-iterator

@@ -20,7 +20,9 @@ members-preserved c =
     let first = c.in-Some.ensures.steps in (
       tt,
       tt,
-      member_read (members_from c.args.path.now (λ at d k v. bar_key c.args.schema at d k v)) (λ d k v. bar_key c.args.schema (dotted_path c.args.path.now k) d k v) (λ d k v ms. refl) no_bar_keys c.args.table.now.entries c.members.key-iterator c.next.new.self e c.members.draft c.read_bar_key.new.draft first (rw (c.bytes.ensures, c.in_ok-at.ensures, c.as_bytes.ensures.value, c.as_str.ensures.value) at c.in_ok-read_bar_key.ensures.exact) same,
+      member_read (members_from c.args.path.now (λ at d k v. bar_key c.args.schema at d k v)) (λ d k v. bar_key c.args.schema (dotted_path c.args.path.now k) d k v)
+          (λ d k v ms. refl) no_bar_keys c.args.table.now.entries c.members.key-iterator c.next.new.self e c.members.draft c.read_bar_key.new.draft first
+          (rw (c.bytes.ensures, c.in_ok-at.ensures, c.as_bytes.ensures.value, c.as_str.ensures.value) at c.in_ok-read_bar_key.ensures.exact) same,
       members_step c.args.table.now.entries c.members.key-iterator e c.next.new.self first left c.in_ok-read_bar_key.ensures.sound,
     )
 
@@ -35,7 +37,10 @@ returns-in_err-read_bar_key c =
     let e : Entry = (c.in-Some.key.now, c.in-Some.value.now) in
     let p = err_from_is_err_and c.from_residual-in_err-read_bar_key.result c.from_residual-in_err-read_bar_key.ensures.1 in
     record {
-      exact = rw (p.1, p.2) (refuses_both ((members_from c.args.path.now (λ at d k v. bar_key c.args.schema at d k v)) no_bar_keys (members_view c.args.table.now.entries)) (λ d. Ok (bar_part d)) c.in_err-read_bar_key.field-0.0 (member_refused (members_from c.args.path.now (λ at d k v. bar_key c.args.schema at d k v)) (λ d k v. bar_key c.args.schema (dotted_path c.args.path.now k) d k v) (λ d k v ms. refl) no_bar_keys c.args.table.now.entries c.members.key-iterator c.next.new.self e c.members.draft c.in_err-read_bar_key.field-0.0 c.in-Some.ensures.steps (rw (c.bytes.ensures, c.in_ok-at.ensures, c.as_bytes.ensures.value, c.as_str.ensures.value) at c.in_err-read_bar_key.ensures.exact) same));
+      exact = rw (p.1, p.2) (refuses_both ((members_from c.args.path.now (λ at d k v. bar_key c.args.schema at d k v)) no_bar_keys (members_view c.args.table.now.entries)) (λ d. Ok (bar_part d))
+          c.in_err-read_bar_key.field-0.0 (member_refused (members_from c.args.path.now (λ at d k v. bar_key c.args.schema at d k v)) (λ d k v. bar_key c.args.schema (dotted_path c.args.path.now k) d k v)
+          (λ d k v ms. refl) no_bar_keys c.args.table.now.entries c.members.key-iterator c.next.new.self e c.members.draft c.in_err-read_bar_key.field-0.0 c.in-Some.ensures.steps
+          (rw (c.bytes.ensures, c.in_ok-at.ensures, c.as_bytes.ensures.value, c.as_str.ensures.value) at c.in_err-read_bar_key.ensures.exact) same));
       sound = rw p.1 tt;
     }
 

@@ -19,7 +19,9 @@ members-preserved c =
     let first = c.in-Some.ensures.steps in (
       tt,
       tt,
-      member_read (members_from c.args.path.now presentation_key) (λ d k v. presentation_key (dotted_path c.args.path.now k) d k v) (λ d k v ms. refl) true c.args.table.now.entries c.members.key-iterator c.next.new.self e c.members.active _ first (rw (c.bytes.ensures, c.in_ok-at.ensures, c.as_bytes.ensures.value, c.as_str.ensures.value) at c.in_ok-active.ensures.exact) same,
+      member_read (members_from c.args.path.now presentation_key) (λ d k v. presentation_key (dotted_path c.args.path.now k) d k v)
+          (λ d k v ms. refl) true c.args.table.now.entries c.members.key-iterator c.next.new.self e c.members.active _ first
+          (rw (c.bytes.ensures, c.in_ok-at.ensures, c.as_bytes.ensures.value, c.as_str.ensures.value) at c.in_ok-active.ensures.exact) same,
       members_step c.args.table.now.entries c.members.key-iterator e c.next.new.self first left c.in_ok-active.ensures.sound,
     )
 
@@ -34,7 +36,9 @@ returns-in_err-active c =
     let e : Entry = (c.in-Some.key.now, c.in-Some.value.now) in
     let p = err_from_is_err_and c.from_residual-in_err-active.result c.from_residual-in_err-active.ensures.1 in
     record {
-      exact = rw (p.1, p.2) ((member_refused (members_from c.args.path.now presentation_key) (λ d k v. presentation_key (dotted_path c.args.path.now k) d k v) (λ d k v ms. refl) true c.args.table.now.entries c.members.key-iterator c.next.new.self e c.members.active c.in_err-active.field-0.0 c.in-Some.ensures.steps (rw (c.bytes.ensures, c.in_ok-at.ensures, c.as_bytes.ensures.value, c.as_str.ensures.value) at c.in_err-active.ensures.exact) same));
+      exact = rw (p.1, p.2) ((member_refused (members_from c.args.path.now presentation_key) (λ d k v. presentation_key (dotted_path c.args.path.now k) d k v)
+          (λ d k v ms. refl) true c.args.table.now.entries c.members.key-iterator c.next.new.self e c.members.active c.in_err-active.field-0.0 c.in-Some.ensures.steps
+          (rw (c.bytes.ensures, c.in_ok-at.ensures, c.as_bytes.ensures.value, c.as_str.ensures.value) at c.in_err-active.ensures.exact) same));
       sound = rw p.1 tt;
     }
 

@@ -18,7 +18,8 @@ members-preserved c =
     let first = c.in-Some.ensures.steps in (
       tt,
       tt,
-      member_read (sheet_from c.args.version) (λ s k v. name_read c.args.version k s v) (λ s k v ms. refl) empty_sheet c.args.table.now.entries c.members.key-iterator c.next.new.self e c.members.sheet c.read_name.new.sheet first (rw c.as_str.ensures.value at c.in_ok-read_name.ensures.exact) same,
+      member_read (sheet_from c.args.version) (λ s k v. name_read c.args.version k s v) (λ s k v ms. refl) empty_sheet c.args.table.now.entries c.members.key-iterator c.next.new.self e c.members.sheet
+          c.read_name.new.sheet first (rw c.as_str.ensures.value at c.in_ok-read_name.ensures.exact) same,
       members_step c.args.table.now.entries c.members.key-iterator e c.next.new.self first left c.in_ok-read_name.ensures.sound,
     )
 
@@ -28,7 +29,8 @@ returns-in_err-read_name c =
     let e : Entry = (c.in-Some.key.now, c.in-Some.value.now) in
     let p = err_from_is_err_and c.from_residual.result c.from_residual.ensures.1 in
     record {
-      exact = rw (p.1, p.2) (member_refused (sheet_from c.args.version) (λ s k v. name_read c.args.version k s v) (λ s k v ms. refl) empty_sheet c.args.table.now.entries c.members.key-iterator c.next.new.self e c.members.sheet c.in_err-read_name.field-0.0 c.in-Some.ensures.steps (rw c.as_str.ensures.value at c.in_err-read_name.ensures.exact) same);
+      exact = rw (p.1, p.2) (member_refused (sheet_from c.args.version) (λ s k v. name_read c.args.version k s v) (λ s k v ms. refl) empty_sheet c.args.table.now.entries c.members.key-iterator
+          c.next.new.self e c.members.sheet c.in_err-read_name.field-0.0 c.in-Some.ensures.steps (rw c.as_str.ensures.value at c.in_err-read_name.ensures.exact) same);
       sound = rw p.1 tt;
     }
 

@@ -37,7 +37,8 @@ loop-place-preserved g c =
       rises = subst (Rises (λ (e : Entry). e.key)) (sym now) (rises_mapped (change_of_key key (after_ack_2xx step m)) (λ e. keeps_hit key (after_ack_2xx step m) e (keeps_acked_2xx step m e)) es i.rises);
       due = c.ack_key.ensures.due;
       same = ap (map (after_ack_2xx step m)) now ∙ (map_again m step key es ∙ i.same);
-      stand = subst (StandFrom (is_of_ack m) (unboxed_items c.ack_key.new.entries.items) ts) (sym (add-one place)) (subst (λ xs. StandFrom (is_of_ack m) xs ts (suc place)) (sym (now ∙ ap (λ k. map (change_of_key k (after_ack_2xx step m)) es) (sym there.3))) (stand_acked m step es ts place there.0 there.1 i.stand));
+      stand = subst (StandFrom (is_of_ack m) (unboxed_items c.ack_key.new.entries.items) ts) (sym (add-one place))
+          (subst (λ xs. StandFrom (is_of_ack m) xs ts (suc place)) (sym (now ∙ ap (λ k. map (change_of_key k (after_ack_2xx step m)) es) (sym there.3))) (stand_acked m step es ts place there.0 there.1 i.stand));
     }
 
 pub returns-in-None-clause-entries : goal.returns-in-None-clause-entries

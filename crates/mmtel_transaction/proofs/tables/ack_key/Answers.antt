@@ -19,7 +19,8 @@ rearm-requires-clause-there g c =
     let es = unboxed_items items in
     let at : position (is_of k) es ≡ Some c.in-Ok.place = c.in-Ok.ensures.found in
     let is = box_at k items c.in-Ok.place c.index_mut.result.now c.deref_mut-entry.result.now at c.index_mut.ensures.value c.deref_mut-entry.ensures.value in
-    subst (λ w. Has w c.args.due.now) (sym c.deadline_key_of-before.ensures) (waits_there k f (keeps_acked_2xx c.args.step c.args.head.now) es c.args.due.now c.requires.rises c.requires.due c.in-Ok.place at c.deref_mut-entry.result.now is)
+    subst (λ w. Has w c.args.due.now) (sym c.deadline_key_of-before.ensures)
+    (waits_there k f (keeps_acked_2xx c.args.step c.args.head.now) es c.args.due.now c.requires.rises c.requires.due c.in-Ok.place at c.deref_mut-entry.result.now is)
 
 pub returns-in-Ok-clause-entries : goal.returns-in-Ok-clause-entries
 returns-in-Ok-clause-entries g c =
@@ -41,9 +42,12 @@ returns-in-Ok-clause-due g c =
     let at : position (is_of k) es ≡ Some c.in-Ok.place = c.in-Ok.ensures.found in
     let is = box_at k items c.in-Ok.place c.index_mut.result.now c.deref_mut-entry.result.now at c.index_mut.ensures.value c.deref_mut-entry.ensures.value in
     let x = c.ack_2xx_entry.new.entry in
-    let m = subst (λ w. Moves deadline_cmp w (deadline_key x) c.args.due.now c.rearm.new.due) c.deadline_key_of-before.ensures (subst (λ w. Moves deadline_cmp c.deadline_key_of-before.result w c.args.due.now c.rearm.new.due) c.deadline_key_of-after.ensures c.rearm.ensures.moved) in
-    let set = set_unboxed items c.in-Ok.place (with_value c.index_mut.result.now x) ∙ was_set k f (keeps_acked_2xx c.args.step c.args.head.now) es c.args.due.now c.requires.rises c.requires.due c.in-Ok.place at c.deref_mut-entry.result.now is x c.ack_2xx_entry.ensures in
-    subst (λ xs. IsIndex indexed_deadline deadline_cmp xs c.rearm.new.due) (sym set) (due_moved k f (keeps_acked_2xx c.args.step c.args.head.now) es c.args.due.now c.requires.rises c.requires.due c.in-Ok.place at c.deref_mut-entry.result.now is x c.rearm.new.due c.ack_2xx_entry.ensures m)
+    let m = subst (λ w. Moves deadline_cmp w (deadline_key x) c.args.due.now c.rearm.new.due) c.deadline_key_of-before.ensures
+    (subst (λ w. Moves deadline_cmp c.deadline_key_of-before.result w c.args.due.now c.rearm.new.due) c.deadline_key_of-after.ensures c.rearm.ensures.moved) in
+    let set = set_unboxed items c.in-Ok.place (with_value c.index_mut.result.now x)
+    ∙ was_set k f (keeps_acked_2xx c.args.step c.args.head.now) es c.args.due.now c.requires.rises c.requires.due c.in-Ok.place at c.deref_mut-entry.result.now is x c.ack_2xx_entry.ensures in
+    subst (λ xs. IsIndex indexed_deadline deadline_cmp xs c.rearm.new.due) (sym set)
+    (due_moved k f (keeps_acked_2xx c.args.step c.args.head.now) es c.args.due.now c.requires.rises c.requires.due c.in-Ok.place at c.deref_mut-entry.result.now is x c.rearm.new.due c.ack_2xx_entry.ensures m)
 
 pub returns-in_default-clause-entries : goal.returns-in_default-clause-entries
 returns-in_default-clause-entries g c =

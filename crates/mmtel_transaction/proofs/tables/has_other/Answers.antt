@@ -27,7 +27,8 @@ returns-in-None g c e es q k i at =
     let place = c.loop-place.place in
     let lower : c.args.from ≤ place = omega arith in
     let said = subst (λ n. None ≡ lookup_result (is_same_match n) (λ (x : MatchKey). x.key) (slice_get ts place)) q c.in-None.ensures in
-    none_has e (is_merged_entry e) es (ends_here e.head.call_id e.head.from_tag e.head.method e.head.number ts c.args.from (subst (λ x. IsPlaceOf x ts c.args.from) q at) (is_merged_entry e) (twin_so e) es place i.ascends lower said (c.loop-place.invariant e es q k i at))
+    none_has e (is_merged_entry e) es (ends_here e.head.call_id e.head.from_tag e.head.method e.head.number ts c.args.from (subst (λ x. IsPlaceOf x ts c.args.from) q at) (is_merged_entry e)
+    (twin_so e) es place i.ascends lower said (c.loop-place.invariant e es q k i at))
 
 pub returns-then-other-key : goal.returns-then-other-key
 returns-then-other-key g c e es q k i at =

@@ -6,4 +6,5 @@ use Rattle.mmtel_trust.proofs.header_table.shown.Goals as goal
 
 pub returns-clause-history : goal.returns-clause-history
 returns-clause-history c =
-    IfOk-weaker c.shown_lines.result _ _ (λ ls same. ap (λ (x : List Line). lines_named (codes "History-Info") x) same ∙ history_shown c.args.facing.now c.args.to_trusted c.args.history.now c.args.message.now.start c.args.message.now.lines) c.shown_lines.ensures
+    IfOk-weaker c.shown_lines.result _ _ (λ ls same. ap (λ (x : List Line). lines_named (codes "History-Info") x) same
+    ∙ history_shown c.args.facing.now c.args.to_trusted c.args.history.now c.args.message.now.start c.args.message.now.lines) c.shown_lines.ensures

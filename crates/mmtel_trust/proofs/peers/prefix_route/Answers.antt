@@ -28,7 +28,8 @@ first_item-requires c =
     let byte = get_or c.args.number.now i 0 in
     let rest = drop (suc i) c.args.number.now in
     let walked : IsWalked c.args.number.now (byte ∷ rest) c.loop-byte.length c.loop-byte.hash (option_copied c.loop-byte.best) c.args.routes.now =
-    subst (λ (s : List ℕ). IsWalked c.args.number.now s c.loop-byte.length c.loop-byte.hash (option_copied c.loop-byte.best) c.args.routes.now) (drop-cons c.args.number.now i 0 c.loop-byte-test.true) c.loop-byte.invariant in
+    subst (λ (s : List ℕ). IsWalked c.args.number.now s c.loop-byte.length c.loop-byte.hash (option_copied c.loop-byte.best) c.args.routes.now)
+    (drop-cons c.args.number.now i 0 c.loop-byte-test.true) c.loop-byte.invariant in
     byte_covers c.args.number.now byte rest c.loop-byte.length c.loop-byte.hash (c.loop-byte.length + 1) c.mixed_hash-hash.result (option_copied c.loop-byte.best) c.args.routes.now c.args.by_name.now
     walked (sym c.is_visual_separator.ensures ∙ c.if-not-is_visual_separator.true) (add-one c.loop-byte.length) (c.mixed_hash-hash.ensures ∙ ap (mixed_hash c.loop-byte.hash) c.from.ensures) c.requires.index
 
@@ -40,7 +41,8 @@ loop-byte-preserved c =
     let rest = drop (suc i) c.args.number.now in
     let found = option_copied c.loop-byte.best in
     let walked : IsWalked c.args.number.now (byte ∷ rest) c.loop-byte.length c.loop-byte.hash (option_copied c.loop-byte.best) c.args.routes.now =
-    subst (λ (s : List ℕ). IsWalked c.args.number.now s c.loop-byte.length c.loop-byte.hash (option_copied c.loop-byte.best) c.args.routes.now) (drop-cons c.args.number.now i 0 c.loop-byte-test.true) c.loop-byte.invariant in
+    subst (λ (s : List ℕ). IsWalked c.args.number.now s c.loop-byte.length c.loop-byte.hash (option_copied c.loop-byte.best) c.args.routes.now)
+    (drop-cons c.args.number.now i 0 c.loop-byte-test.true) c.loop-byte.invariant in
     let further : rest ≡ drop (i + 1) number = ap (λ k. drop k number) (sym (add-one i)) in
     elim c.if-not-is_visual_separator.branch [
       | then-not-is_visual_separator+else-length-bound w ↦
@@ -50,7 +52,8 @@ loop-byte-preserved c =
           walked (sym c.is_visual_separator.ensures ∙ w.if-not-is_visual_separator.true) (add-one c.loop-byte.length) (w.mixed_hash-hash.ensures ∙ ap (mixed_hash c.loop-byte.hash) w.from.ensures) w.first_item.ensures)
           further (sym w.length-is) (sym w.hash-is) (sym (ap option_copied (w.best-is ∙ w.or-best.ensures) ∙ copied_or w.first_item.result c.loop-byte.best))
       | else-not-is_visual_separator w ↦
-          moved number rest (drop (i + 1) number) c.loop-byte.length c.if-not-is_visual_separator.length c.loop-byte.hash c.if-not-is_visual_separator.hash found (option_copied c.if-not-is_visual_separator.best) c.args.routes.now
+          moved number rest (drop (i + 1) number) c.loop-byte.length c.if-not-is_visual_separator.length c.loop-byte.hash c.if-not-is_visual_separator.hash found
+          (option_copied c.if-not-is_visual_separator.best) c.args.routes.now
           (past_mark number byte rest c.loop-byte.length c.loop-byte.hash found c.args.routes.now walked (sym c.is_visual_separator.ensures ∙ w.if-not-is_visual_separator.false))
           further (sym w.length-is) (sym w.hash-is) (ap option_copied (sym w.best-is))
     ]

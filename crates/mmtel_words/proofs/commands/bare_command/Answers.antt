@@ -4,4 +4,5 @@ use Rattle.mmtel_words.proofs.commands.bare_command.Goals as goal
 
 pub returns : goal.returns
 returns c =
-    ap app_of_fields c.disable_help_flag.ensures ∙ ap (on_top (λ s. record s { disable_help_flag = true })) (ap app_of_fields c.no_binary_name.ensures ∙ ap (on_top (λ s. record s { no_binary_name = true })) c.new.ensures.app)
+    ap app_of_fields c.disable_help_flag.ensures
+    ∙ ap (on_top (λ s. record s { disable_help_flag = true })) (ap app_of_fields c.no_binary_name.ensures ∙ ap (on_top (λ s. record s { no_binary_name = true })) c.new.ensures.app)

@@ -32,4 +32,5 @@ returns-in_err-script c =
 pub returns : goal.returns
 returns c =
     let f = subst (λ a. MatchesIn a (map (λ w. w.now) c.args.words.now) (Ok c.in_ok-matches.matches)) c.in-Ok.ensures c.in_ok-matches.ensures in
-    replay_read_as (map (λ w. w.now) c.args.words.now) c.requires c.in_ok-matches.matches f c.in_ok-config.config c.in_ok-script.script c.in_ok-token.token c.in_ok-token.ensures c.in_ok-config.ensures c.in_ok-script.ensures
+    replay_read_as (map (λ w. w.now) c.args.words.now) c.requires c.in_ok-matches.matches f c.in_ok-config.config c.in_ok-script.script c.in_ok-token.token c.in_ok-token.ensures
+    c.in_ok-config.ensures c.in_ok-script.ensures

@@ -29,16 +29,19 @@ invariant_of-self-in-Ok-push c =
     let more = λ (n : ℕ). c.in-Ok.ensures.more n ∙ ap (λ (x : Entry). calls_of c.self.inside.busy n + busy_count n x) (c.deref.ensures ∙ c.in_ok-boxed.ensures) in
     subst (λ (l : List Entry). TableInvariant l (number_of e) c.new_live_count-self-inside.result c.put_call.new.index c.add_to.new.busy) (sym now)
     (subst (λ (n : ℕ). TableInvariant (box_values bs ++ e ∷ []) n c.new_live_count-self-inside.result c.put_call.new.index c.add_to.new.busy) (sym number)
-    (added_one (box_values bs) c.self.inside.opened c.self.inside.live_count c.self.inside.index c.self.inside.busy e c.self.invariant number (omega (arith, c.self.ranges.1.0.1)) c.new_live_count-self-inside.result c.put_call.new.index c.add_to.new.busy c.put_call.ensures
+    (added_one (box_values bs) c.self.inside.opened c.self.inside.live_count c.self.inside.index c.self.inside.busy e c.self.invariant number
+    (omega (arith, c.self.ranges.1.0.1)) c.new_live_count-self-inside.result c.put_call.new.index c.add_to.new.busy c.put_call.ensures
     (let f = c.if-self.false in omega (arith, c.self.ranges.1.0.1, f)) alive more))
 
 pub invariant_of-self-in_err-boxed : goal.invariant_of-self-in_err-boxed
 invariant_of-self-in_err-boxed c =
-    noted_kept (box_values c.self.inside.entries.items) c.self.inside.opened c.self.inside.live_count c.self.inside.index c.put_call.new.index c.self.inside.busy c.self.inside.busy c.args.entry c.self.invariant c.put_call.ensures (λ n. refl)
+    noted_kept (box_values c.self.inside.entries.items) c.self.inside.opened c.self.inside.live_count c.self.inside.index c.put_call.new.index c.self.inside.busy c.self.inside.busy c.args.entry
+    c.self.invariant c.put_call.ensures (λ n. refl)
 
 pub invariant_of-self-in-Err : goal.invariant_of-self-in-Err
 invariant_of-self-in-Err c =
-    noted_kept (box_values c.self.inside.entries.items) c.self.inside.opened c.self.inside.live_count c.self.inside.index c.put_call.new.index c.self.inside.busy c.add_to.new.busy c.args.entry c.self.invariant c.put_call.ensures c.in-Err.ensures.same
+    noted_kept (box_values c.self.inside.entries.items) c.self.inside.opened c.self.inside.live_count c.self.inside.index c.put_call.new.index c.self.inside.busy c.add_to.new.busy c.args.entry
+    c.self.invariant c.put_call.ensures c.in-Err.ensures.same
 
 pub invariant_of-self-in-Err-push : goal.invariant_of-self-in-Err-push
 invariant_of-self-in-Err-push c =
@@ -49,4 +52,5 @@ invariant_of-self-in-Err-push c =
     let b = c.remove_from.ensures n ∙ ap (λ (x : Entry). calls_of c.add_to.new.busy n - busy_count n x) back in
     omega (arith, a, b) in
     subst (λ (l : List Entry). TableInvariant l c.self.inside.opened c.self.inside.live_count c.put_call.new.index c.remove_from.new.busy) (sym (ap box_values c.in-Err-push.ensures.items))
-    (noted_kept (box_values c.self.inside.entries.items) c.self.inside.opened c.self.inside.live_count c.self.inside.index c.put_call.new.index c.self.inside.busy c.remove_from.new.busy c.args.entry c.self.invariant c.put_call.ensures same)
+    (noted_kept (box_values c.self.inside.entries.items) c.self.inside.opened c.self.inside.live_count c.self.inside.index c.put_call.new.index c.self.inside.busy c.remove_from.new.busy c.args.entry
+    c.self.invariant c.put_call.ensures same)

@@ -25,7 +25,8 @@ new_live_count-self-inside-requires-clause-there c =
     let e = c.deref_mut-entry.result.now in
     let within : k < length es = subst (λ (t : Table). k < length t.entries) (sym c.self.view_is) c.requires.place in
     let is : slice_get es k ≡ Some e = stands_at bs k c.index_mut.result.now e within c.index_mut.ensures.value c.deref_mut-entry.ensures.value in
-    subst (λ (x : Bool). one_if x ≤ c.self.inside.live_count) (sym c.is_live-old_live.ensures) (was_counted es c.self.inside.opened c.self.inside.live_count c.self.inside.index c.self.inside.busy k e e c.self.invariant is)
+    subst (λ (x : Bool). one_if x ≤ c.self.inside.live_count) (sym c.is_live-old_live.ensures)
+    (was_counted es c.self.inside.opened c.self.inside.live_count c.self.inside.index c.self.inside.busy k e e c.self.invariant is)
 
 pub invariant_of-self : goal.invariant_of-self
 invariant_of-self c =
@@ -41,12 +42,14 @@ invariant_of-self c =
     let now : box_values c.keep_at-new_live.new.entries.items ≡ left gone es k y = ap box_values c.keep_at-new_live.ensures.entries ∙ left_boxes bs k gone b in
     let there : slice_get (box_values (set bs k b)) k ≡ Some y = ap (λ (l : List Entry). slice_get l k) (set_boxes bs k b) ∙ written es k e y is in
     let after : c.keep_at-new_live.result ≡ lives_on gone y = c.keep_at-new_live.ensures.live y there in
-    let alive = recount c.new_live_count-self-inside.result c.self.inside.live_count c.is_live-old_live.result c.keep_at-new_live.result (is_live e) (lives_on gone y) c.is_live-old_live.ensures after c.new_live_count-self-inside.ensures in
+    let alive = recount c.new_live_count-self-inside.result c.self.inside.live_count c.is_live-old_live.result c.keep_at-new_live.result (is_live e)
+    (lives_on gone y) c.is_live-old_live.ensures after c.new_live_count-self-inside.ensures in
     let same : OnOk c.count_again-counted.result (number_of y ≡ number_of e) = still_on _ c.finish-finished.result c.count_again-counted.result c.count_again-counted.ensures.received c.finish-finished.ensures.number in
     let into = λ (n : ℕ). c.count_again-counted.ensures.counted n ∙ ap (λ (x : Bool). calls_of c.remove_from.new.busy n + (if x then 0 else busy_count n y)) (sym c.is_gone-gone.ensures) in
     let again = recounted es k e y is gone c.self.inside.busy c.count_again-counted.new.busy c.self.invariant.counts c.remove_from.new.busy c.remove_from.ensures into in
     subst (λ (l : List Entry). TableInvariant l c.self.inside.opened c.new_live_count-self-inside.result c.put_call-2.new.index c.count_again-counted.new.busy) (sym now)
-    (left_kept es c.self.inside.opened c.self.inside.live_count c.self.inside.index c.self.inside.busy k e y c.self.invariant is gone c.new_live_count-self-inside.result c.put_call.new.index c.put_call-2.new.index c.count_again-counted.new.busy c.put_call.ensures c.put_call-2.ensures
+    (left_kept es c.self.inside.opened c.self.inside.live_count c.self.inside.index c.self.inside.busy k e y c.self.invariant is gone c.new_live_count-self-inside.result c.put_call.new.index
+    c.put_call-2.new.index c.count_again-counted.new.busy c.put_call.ensures c.put_call-2.ensures
     (λ stays. not_gone c.count_again-counted.result (number_of y ≡ number_of e) same (sym c.is_gone-gone.ensures ∙ stays)) alive again)
 
 pub returns-clause-table : goal.returns-clause-table
@@ -66,7 +69,8 @@ returns-clause-table c =
     let settled = still_if (λ settled. settled ≡ is_settled made.call) c.finish-finished.result c.count_again-counted.result c.count_again-counted.ensures.received c.finish-finished.ensures.settled in
     let put = left_put c.count_again-counted.result gone c.is_gone-gone.ensures es k y (entry_after [] made e) entry settled in
     let t : Table = record { entries = es; opened = c.self.inside.opened; rows = c.self.inside.rows } in
-    let done = on_ok_weaker c.count_again-counted.result (λ are. table_after t c.args.self.now c.self.view_is k e is (λ o xs. (step_of_finish_at c.args.config.now c.args.at k o xs c.args.output.now).entries) (box_values c.keep_at-new_live.new.entries.items) (now ∙ are)) put in
+    let done = on_ok_weaker c.count_again-counted.result (λ are. table_after t c.args.self.now c.self.view_is k e is
+    (λ o xs. (step_of_finish_at c.args.config.now c.args.at k o xs c.args.output.now).entries) (box_values c.keep_at-new_live.new.entries.items) (now ∙ are)) put in
     elim c.match-counted.branch [
       | in-Ok w ↦ in_ok c.count_again-counted.result _ c.match-counted.result _ _ w.in-Ok.is w.result-is done
       | in-Err w ↦ in_err c.match-counted.result _ _ w.result-is

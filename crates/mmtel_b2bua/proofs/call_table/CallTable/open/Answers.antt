@@ -26,9 +26,11 @@ returns-in-Ok-clause-call c =
     let below = c.if-self.false in
     let next : c.self.inside.opened < min (c.self.inside.opened + 1) (2 ^ 64 - 1) = omega (arith, c.self.ranges.1.0.1, below) in
     let above : c.self.inside.opened < c.args.arrival.number.0 = omega (arith, next, number) in
-    let same = begun c.args.step.now.config.now c.args.step.now.at c.args.step.now.sheets.now c.add_account.new.busy es c.self.inside.opened c.args.arrival c.self.inside.busy c.self.invariant.ascend above c.self.invariant.counts c.in-Ok.ensures.more c.args.output.now in
+    let same = begun c.args.step.now.config.now c.args.step.now.at c.args.step.now.sheets.now c.add_account.new.busy es c.self.inside.opened c.args.arrival c.self.inside.busy c.self.invariant.ascend
+    above c.self.invariant.counts c.in-Ok.ensures.more c.args.output.now in
     IfOk-weaker c.open-call.result _ _ (λ call is. is ∙ (ap (λ (x : StepResult). x.call) same
-    ∙ ap (λ (t : Table). (opening_step c.args.step.now.config.now c.args.step.now.at c.args.step.now.sheets.now (busy_with c.args.arrival t.entries) c.args.arrival c.args.output.now).call) c.self.view_is)) c.open-call.ensures.call
+    ∙ ap (λ (t : Table). (opening_step c.args.step.now.config.now c.args.step.now.at c.args.step.now.sheets.now (busy_with c.args.arrival t.entries) c.args.arrival c.args.output.now).call) c.self.view_is))
+    c.open-call.ensures.call
 
 pub returns-in-Ok-clause-output : goal.returns-in-Ok-clause-output
 returns-in-Ok-clause-output c =
@@ -37,13 +39,16 @@ returns-in-Ok-clause-output c =
     let below = c.if-self.false in
     let next : c.self.inside.opened < min (c.self.inside.opened + 1) (2 ^ 64 - 1) = omega (arith, c.self.ranges.1.0.1, below) in
     let above : c.self.inside.opened < c.args.arrival.number.0 = omega (arith, next, number) in
-    let same = begun c.args.step.now.config.now c.args.step.now.at c.args.step.now.sheets.now c.add_account.new.busy es c.self.inside.opened c.args.arrival c.self.inside.busy c.self.invariant.ascend above c.self.invariant.counts c.in-Ok.ensures.more c.args.output.now in
+    let same = begun c.args.step.now.config.now c.args.step.now.at c.args.step.now.sheets.now c.add_account.new.busy es c.self.inside.opened c.args.arrival c.self.inside.busy c.self.invariant.ascend
+    above c.self.invariant.counts c.in-Ok.ensures.more c.args.output.now in
     on_ok_weaker c.open-call.result (λ is. is ∙ (ap (λ (x : StepResult). x.output) same
-    ∙ ap (λ (t : Table). (opening_step c.args.step.now.config.now c.args.step.now.at c.args.step.now.sheets.now (busy_with c.args.arrival t.entries) c.args.arrival c.args.output.now).output) c.self.view_is)) c.open-call.ensures.output
+    ∙ ap (λ (t : Table). (opening_step c.args.step.now.config.now c.args.step.now.at c.args.step.now.sheets.now (busy_with c.args.arrival t.entries) c.args.arrival c.args.output.now).output) c.self.view_is))
+    c.open-call.ensures.output
 
 pub returns-in-Ok-clause-number : goal.returns-in-Ok-clause-number
 returns-in-Ok-clause-number c =
-    IfOk-weaker c.open-call.result _ _ (λ call is. ap (λ (x : Call). x.opening.number) is ∙ opened_number c.calls_continue.ensures.law c.args.step.now.config.now _ c.args.arrival c.args.output.now) c.open-call.ensures.call
+    IfOk-weaker c.open-call.result _ _
+    (λ call is. ap (λ (x : Call). x.opening.number) is ∙ opened_number c.calls_continue.ensures.law c.args.step.now.config.now _ c.args.arrival c.args.output.now) c.open-call.ensures.call
 
 pub invariant_of-self-in-Err : goal.invariant_of-self-in-Err
 invariant_of-self-in-Err c =

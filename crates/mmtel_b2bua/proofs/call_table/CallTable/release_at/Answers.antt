@@ -26,7 +26,8 @@ invariant_of-self c =
     let live : is_live y ≡ is_live e = ap is_live made ∙ live_after_release c.args.side e in
     let again = λ (n : ℕ). ap (λ (m : ℕ). m + busy_count n e) (c.self.invariant.counts n) ∙ ap (λ (m : ℕ). sum_by (busy_count n) es + m) (sym (ap (busy_count n) made ∙ busy_after_release n c.args.side e)) in
     subst (λ (l : List Entry). TableInvariant l c.self.inside.opened c.self.inside.live_count c.put_call-2.new.index c.self.inside.busy) (sym now)
-    (left_kept es c.self.inside.opened c.self.inside.live_count c.self.inside.index c.self.inside.busy k e y c.self.invariant is false c.self.inside.live_count c.put_call.new.index c.put_call-2.new.index c.self.inside.busy c.put_call.ensures c.put_call-2.ensures (λ stays. ap number_of made ∙ same_number e.call.phase c.args.side e.call)
+    (left_kept es c.self.inside.opened c.self.inside.live_count c.self.inside.index c.self.inside.busy k e y c.self.invariant is false c.self.inside.live_count c.put_call.new.index
+    c.put_call-2.new.index c.self.inside.busy c.put_call.ensures c.put_call-2.ensures (λ stays. ap number_of made ∙ same_number e.call.phase c.args.side e.call)
     (ap (λ (b : Bool). c.self.inside.live_count + one_if b) (sym live)) again)
 
 pub returns-clause-table : goal.returns-clause-table
@@ -52,4 +53,5 @@ returns-clause-leg c =
     let within : k < length es = subst (λ (t : Table). k < length t.entries) (sym c.self.view_is) c.requires in
     let is : slice_get es k ≡ Some e = stands_at bs k c.index_mut.result.now e within c.index_mut.ensures.value c.deref_mut-entry.ensures.value in
     let t : Table = record { entries = es; opened = c.self.inside.opened; rows = c.self.inside.rows } in
-    subst (λ (o : Option Released). MatchResult c.release-leg.result (λ leg. o ≡ Some leg) (λ refused. o ≡ None)) (said_after t c.args.self.now c.self.view_is k e is (λ o xs. leg_in_entry c.args.side o)) c.release-leg.ensures.leg
+    subst (λ (o : Option Released). MatchResult c.release-leg.result (λ leg. o ≡ Some leg) (λ refused. o ≡ None))
+    (said_after t c.args.self.now c.self.view_is k e is (λ o xs. leg_in_entry c.args.side o)) c.release-leg.ensures.leg

@@ -25,7 +25,8 @@ invariant_of-self c =
     let live : is_live y ≡ is_live e = ap is_live made ∙ live_after_restore c.args.leg e in
     let again = λ (n : ℕ). ap (λ (m : ℕ). m + busy_count n e) (c.self.invariant.counts n) ∙ ap (λ (m : ℕ). sum_by (busy_count n) es + m) (sym (ap (busy_count n) made ∙ busy_after_restore n c.args.leg e)) in
     subst (λ (l : List Entry). TableInvariant l c.self.inside.opened c.self.inside.live_count c.put_call-2.new.index c.self.inside.busy) (sym now)
-    (left_kept es c.self.inside.opened c.self.inside.live_count c.self.inside.index c.self.inside.busy k e y c.self.invariant is false c.self.inside.live_count c.put_call.new.index c.put_call-2.new.index c.self.inside.busy c.put_call.ensures c.put_call-2.ensures (λ stays. ap number_of made ∙ number_after_restore e.call.phase c.args.leg e.call)
+    (left_kept es c.self.inside.opened c.self.inside.live_count c.self.inside.index c.self.inside.busy k e y c.self.invariant is false c.self.inside.live_count c.put_call.new.index
+    c.put_call-2.new.index c.self.inside.busy c.put_call.ensures c.put_call-2.ensures (λ stays. ap number_of made ∙ number_after_restore e.call.phase c.args.leg e.call)
     (ap (λ (b : Bool). c.self.inside.live_count + one_if b) (sym live)) again)
 
 pub returns : goal.returns

@@ -22,7 +22,8 @@ one_more is_due config c fs i f output whole lt at_i so_far =
 
 pub loop-flight-preserved : goal.loop-flight-preserved
 loop-flight-preserved c =
-    let whole : StepOutput = with_dismissals c.args.config.now c.args.self.now (filter (λ (f : RelayedTransaction). if c.args.updates then is_updating f else not (is_updating f)) c.args.transactions.now) c.args.output.now in
+    let whole : StepOutput =
+    with_dismissals c.args.config.now c.args.self.now (filter (λ (f : RelayedTransaction). if c.args.updates then is_updating f else not (is_updating f)) c.args.transactions.now) c.args.output.now in
     rw c.in_ok-dismiss_one.ensures
     (one_more (λ (f : RelayedTransaction). if c.args.updates then is_updating f else not (is_updating f)) c.args.config.now c.args.self.now c.args.transactions.now c.loop-flight.flight-index c.flight-item.result
     c.loop-flight.output whole c.loop-flight-test.true c.flight-item.is c.loop-flight.invariant)

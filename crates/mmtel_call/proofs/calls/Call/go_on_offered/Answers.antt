@@ -9,8 +9,12 @@ use Rattle.mmtel_call.proofs.calls.Call.go_on_offered.Goals as goal
 
 pub returns-clause-call : goal.returns-clause-call
 returns-clause-call c =
-    subst (λ (s : StepResult). OnOk c.go_on_after.result (c.go_on_after.new.self ≡ s.call)) (sym (after_attempt_alike c.args.step.now.config.now (snapshot_of c.args.step.now.snapshot) c.args.offered (attempt_end_view c.args.end.now) None (Offered c.args.offered) c.args.self.now c.args.output.now)) c.go_on_after.ensures.call
+    subst (λ (s : StepResult). OnOk c.go_on_after.result (c.go_on_after.new.self ≡ s.call))
+    (sym (after_attempt_alike c.args.step.now.config.now (snapshot_of c.args.step.now.snapshot) c.args.offered (attempt_end_view c.args.end.now) None (Offered c.args.offered) c.args.self.now c.args.output.now))
+    c.go_on_after.ensures.call
 
 pub returns-clause-output : goal.returns-clause-output
 returns-clause-output c =
-    subst (λ (s : StepResult). OnOk c.go_on_after.result (c.go_on_after.new.output ≡ s.output)) (sym (after_attempt_alike c.args.step.now.config.now (snapshot_of c.args.step.now.snapshot) c.args.offered (attempt_end_view c.args.end.now) None (Offered c.args.offered) c.args.self.now c.args.output.now)) c.go_on_after.ensures.output
+    subst (λ (s : StepResult). OnOk c.go_on_after.result (c.go_on_after.new.output ≡ s.output))
+    (sym (after_attempt_alike c.args.step.now.config.now (snapshot_of c.args.step.now.snapshot) c.args.offered (attempt_end_view c.args.end.now) None (Offered c.args.offered) c.args.self.now c.args.output.now))
+    c.go_on_after.ensures.output

@@ -31,15 +31,19 @@ go_on_from-gone-requires c =
 pub returns-clause-call : goal.returns-clause-call
 returns-clause-call c =
     subst (λ (s : StepResult). OnOk c.go_on_from-gone.result (c.go_on_from-gone.new.self ≡ s.call))
-    (both (λ x y. on_end c.args.step.now.config.now (snapshot_of c.args.step.now.snapshot) c.args.caller (option_copied c.args.service) None (decision_after x.opening c.args.step.now.snapshot.at (is_diverted x) (option_copied c.args.service) (attempt_end_view c.args.end.now)) (with_past c.args.callee.leg.meter x) y)
-    c.leave_attempt-abandoned.new.self (with_abandoned (abandoned_invite (invite_after_cancel c.args.invite)) c.args.self.now) c.cancel-cancelled.new.self (with_due_cancel c.args.step.now.config.now.sip c.args.invite c.args.output.now)
+    (both (λ x y. on_end c.args.step.now.config.now (snapshot_of c.args.step.now.snapshot) c.args.caller (option_copied c.args.service) None
+    (decision_after x.opening c.args.step.now.snapshot.at (is_diverted x) (option_copied c.args.service) (attempt_end_view c.args.end.now)) (with_past c.args.callee.leg.meter x) y)
+    c.leave_attempt-abandoned.new.self (with_abandoned (abandoned_invite (invite_after_cancel c.args.invite)) c.args.self.now) c.cancel-cancelled.new.self
+    (with_due_cancel c.args.step.now.config.now.sip c.args.invite c.args.output.now)
     c.in_ok-abandoned.ensures.done (c.in_ok-cancelled.ensures.done ∙ ap (λ (a : Addr). with_due_cancel a c.args.invite c.args.output.now) c.sip.ensures))
     c.go_on_from-gone.ensures.call
 
 pub returns-clause-output : goal.returns-clause-output
 returns-clause-output c =
     subst (λ (s : StepResult). OnOk c.go_on_from-gone.result (c.go_on_from-gone.new.output ≡ s.output))
-    (both (λ x y. on_end c.args.step.now.config.now (snapshot_of c.args.step.now.snapshot) c.args.caller (option_copied c.args.service) None (decision_after x.opening c.args.step.now.snapshot.at (is_diverted x) (option_copied c.args.service) (attempt_end_view c.args.end.now)) (with_past c.args.callee.leg.meter x) y)
-    c.leave_attempt-abandoned.new.self (with_abandoned (abandoned_invite (invite_after_cancel c.args.invite)) c.args.self.now) c.cancel-cancelled.new.self (with_due_cancel c.args.step.now.config.now.sip c.args.invite c.args.output.now)
+    (both (λ x y. on_end c.args.step.now.config.now (snapshot_of c.args.step.now.snapshot) c.args.caller (option_copied c.args.service) None
+    (decision_after x.opening c.args.step.now.snapshot.at (is_diverted x) (option_copied c.args.service) (attempt_end_view c.args.end.now)) (with_past c.args.callee.leg.meter x) y)
+    c.leave_attempt-abandoned.new.self (with_abandoned (abandoned_invite (invite_after_cancel c.args.invite)) c.args.self.now) c.cancel-cancelled.new.self
+    (with_due_cancel c.args.step.now.config.now.sip c.args.invite c.args.output.now)
     c.in_ok-abandoned.ensures.done (c.in_ok-cancelled.ensures.done ∙ ap (λ (a : Addr). with_due_cancel a c.args.invite c.args.output.now) c.sip.ensures))
     c.go_on_from-gone.ensures.output

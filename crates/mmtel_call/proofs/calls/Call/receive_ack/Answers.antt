@@ -10,12 +10,14 @@ always (Err e) p = tt
 
 pub returns-in-Established-clause-call : goal.returns-in-Established-clause-call
 returns-in-Established-clause-call c =
-    subst (λ (p : Phase). OnOk c.receive_ack_at.result (c.receive_ack_at.new.self ≡ (ack_in p c.args.step.now.config.now c.args.step.now.snapshot.at c.args.side c.args.message.now (record c.args.self.now { phase = p }) c.args.output.now).call))
+    subst (λ (p : Phase). OnOk c.receive_ack_at.result
+    (c.receive_ack_at.new.self ≡ (ack_in p c.args.step.now.config.now c.args.step.now.snapshot.at c.args.side c.args.message.now (record c.args.self.now { phase = p }) c.args.output.now).call))
     c.in-Established.ensures.value c.receive_ack_at.ensures.call
 
 pub returns-in-Established-clause-output : goal.returns-in-Established-clause-output
 returns-in-Established-clause-output c =
-    subst (λ (p : Phase). OnOk c.receive_ack_at.result (c.receive_ack_at.new.output ≡ (ack_in p c.args.step.now.config.now c.args.step.now.snapshot.at c.args.side c.args.message.now (record c.args.self.now { phase = p }) c.args.output.now).output))
+    subst (λ (p : Phase). OnOk c.receive_ack_at.result
+    (c.receive_ack_at.new.output ≡ (ack_in p c.args.step.now.config.now c.args.step.now.snapshot.at c.args.side c.args.message.now (record c.args.self.now { phase = p }) c.args.output.now).output))
     c.in-Established.ensures.value c.receive_ack_at.ensures.output
 
 pub returns-in-Offered-clause-call : goal.returns-in-Offered-clause-call

@@ -11,22 +11,26 @@ always (Err e) p = tt
 
 pub returns-in-Offered-clause-call : goal.returns-in-Offered-clause-call
 returns-in-Offered-clause-call c =
-    subst (λ (p : Phase). OnOk c.fire_offered.result (c.fire_offered.new.self ≡ (due_in p c.args.step.now.config.now (snapshot_of c.args.step.now.snapshot) c.args.what (record c.args.self.now { phase = p }) c.args.output.now).call))
+    subst (λ (p : Phase). OnOk c.fire_offered.result
+    (c.fire_offered.new.self ≡ (due_in p c.args.step.now.config.now (snapshot_of c.args.step.now.snapshot) c.args.what (record c.args.self.now { phase = p }) c.args.output.now).call))
     c.in-Offered.ensures.value c.fire_offered.ensures.call
 
 pub returns-in-Offered-clause-output : goal.returns-in-Offered-clause-output
 returns-in-Offered-clause-output c =
-    subst (λ (p : Phase). OnOk c.fire_offered.result (c.fire_offered.new.output ≡ (due_in p c.args.step.now.config.now (snapshot_of c.args.step.now.snapshot) c.args.what (record c.args.self.now { phase = p }) c.args.output.now).output))
+    subst (λ (p : Phase). OnOk c.fire_offered.result
+    (c.fire_offered.new.output ≡ (due_in p c.args.step.now.config.now (snapshot_of c.args.step.now.snapshot) c.args.what (record c.args.self.now { phase = p }) c.args.output.now).output))
     c.in-Offered.ensures.value c.fire_offered.ensures.output
 
 pub returns-in-Established-clause-call : goal.returns-in-Established-clause-call
 returns-in-Established-clause-call c =
-    subst (λ (p : Phase). OnOk c.fire_at.result (c.fire_at.new.self ≡ (due_in p c.args.step.now.config.now (snapshot_of c.args.step.now.snapshot) c.args.what (record c.args.self.now { phase = p }) c.args.output.now).call))
+    subst (λ (p : Phase). OnOk c.fire_at.result
+    (c.fire_at.new.self ≡ (due_in p c.args.step.now.config.now (snapshot_of c.args.step.now.snapshot) c.args.what (record c.args.self.now { phase = p }) c.args.output.now).call))
     c.in-Established.ensures.value c.fire_at.ensures.call
 
 pub returns-in-Established-clause-output : goal.returns-in-Established-clause-output
 returns-in-Established-clause-output c =
-    subst (λ (p : Phase). OnOk c.fire_at.result (c.fire_at.new.output ≡ (due_in p c.args.step.now.config.now (snapshot_of c.args.step.now.snapshot) c.args.what (record c.args.self.now { phase = p }) c.args.output.now).output))
+    subst (λ (p : Phase). OnOk c.fire_at.result
+    (c.fire_at.new.output ≡ (due_in p c.args.step.now.config.now (snapshot_of c.args.step.now.snapshot) c.args.what (record c.args.self.now { phase = p }) c.args.output.now).output))
     c.in-Established.ensures.value c.fire_at.ensures.output
 
 pub returns-in-Detached-clause-call : goal.returns-in-Detached-clause-call

@@ -18,7 +18,8 @@ pub returns-in-Ok-redirect-clause-call : goal.returns-in-Ok-redirect-clause-call
 returns-in-Ok-redirect-clause-call c =
     subst (λ (s : StepResult). OnOk c.go_on_redirected.result (c.go_on_redirected.new.self ≡ s.call))
     (both (λ x y. after_attempt c.args.step.now.config.now (snapshot_of c.args.step.now.snapshot) c.args.offered (end_by_final c.args.code x c.args.offered.attempt.rang) (Some c.args.message.now) c.args.self.now y)
-    c.in-Ok-redirect.redirect (redirect_of c.args.message.now) c.acknowledge_final-acked.new.self (with_final_ack c.args.step.now.config.now.sip c.args.key c.args.offered.attempt.invite c.args.message.now.parsed c.args.output.now)
+    c.in-Ok-redirect.redirect (redirect_of c.args.message.now) c.acknowledge_final-acked.new.self
+    (with_final_ack c.args.step.now.config.now.sip c.args.key c.args.offered.attempt.invite c.args.message.now.parsed c.args.output.now)
     c.in-Ok-redirect.ensures.uri (c.in-Ok.ensures.done ∙ ap (λ (a : Addr). with_final_ack a c.args.key c.args.offered.attempt.invite c.args.message.now.parsed c.args.output.now) c.sip.ensures))
     c.go_on_redirected.ensures.call
 
@@ -26,6 +27,7 @@ pub returns-in-Ok-redirect-clause-output : goal.returns-in-Ok-redirect-clause-ou
 returns-in-Ok-redirect-clause-output c =
     subst (λ (s : StepResult). OnOk c.go_on_redirected.result (c.go_on_redirected.new.output ≡ s.output))
     (both (λ x y. after_attempt c.args.step.now.config.now (snapshot_of c.args.step.now.snapshot) c.args.offered (end_by_final c.args.code x c.args.offered.attempt.rang) (Some c.args.message.now) c.args.self.now y)
-    c.in-Ok-redirect.redirect (redirect_of c.args.message.now) c.acknowledge_final-acked.new.self (with_final_ack c.args.step.now.config.now.sip c.args.key c.args.offered.attempt.invite c.args.message.now.parsed c.args.output.now)
+    c.in-Ok-redirect.redirect (redirect_of c.args.message.now) c.acknowledge_final-acked.new.self
+    (with_final_ack c.args.step.now.config.now.sip c.args.key c.args.offered.attempt.invite c.args.message.now.parsed c.args.output.now)
     c.in-Ok-redirect.ensures.uri (c.in-Ok.ensures.done ∙ ap (λ (a : Addr). with_final_ack a c.args.key c.args.offered.attempt.invite c.args.message.now.parsed c.args.output.now) c.sip.ensures))
     c.go_on_redirected.ensures.output

@@ -20,7 +20,8 @@ returns-in-Some-clause-output c = λ t is.
     always c.push_item.result
     (c.in_ok-receive_abandoned.ensures.output
     ∙ (ap (λ (a : Addr). (on_response a c.args.key c.args.message.now.parsed (as_abandoned c.remove-sent_invite.result) c.args.output.now).output) c.sip.ensures
-    ∙ ap (λ (u : AnsweredInvite). (on_response c.args.step.now.config.now.sip c.args.key c.args.message.now.parsed (as_abandoned u) c.args.output.now).output) (same (slice_get c.args.self.now.answered_invites c.args.at) c.remove-sent_invite.result t c.remove-sent_invite.ensures.handed_out is)))
+    ∙ ap (λ (u : AnsweredInvite). (on_response c.args.step.now.config.now.sip c.args.key c.args.message.now.parsed (as_abandoned u) c.args.output.now).output)
+    (same (slice_get c.args.self.now.answered_invites c.args.at) c.remove-sent_invite.result t c.remove-sent_invite.ensures.handed_out is)))
 
 mapped : {T E P Q : Type 0} (r : Result T E) → (P → Q) → OnOk r P → OnOk r Q
 mapped (Ok x) f p = f p

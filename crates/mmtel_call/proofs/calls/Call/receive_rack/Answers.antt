@@ -18,7 +18,9 @@ returns-in-Ok-clause-output c =
     always c.add_in_flight-flown.result
     (c.in-Ok.ensures.output
     ∙ (ap (λ (d : Call). with_relayed_request c.args.step.now.config.now.sip (codes "PRACK") c.args.offered.callee.leg.dialogue
-    (copied_lines c.args.step.now.config.now d.opening d.diversions c.args.offered.attempt.service Caller c.args.offered.callee.leg.dialogue.peer c.args.request.message ++ rack_line c.in-Some.answer c.args.offered.attempt.invite.number)
+    (copied_lines c.args.step.now.config.now d.opening d.diversions c.args.offered.attempt.service Caller c.args.offered.callee.leg.dialogue.peer c.args.request.message
+    ++ rack_line c.in-Some.answer c.args.offered.attempt.invite.number)
     c.args.request.message.parsed (with_settled c.args.step.now.config.now (Some c.args.rack.now.answer) d c.args.output.now)) c.in-Some.ensures.call
-    ∙ ap (λ (o : Option ℕ). (on_named_prack c.args.step.now.config.now c.args.offered c.args.request.key c.args.request.message c.args.rack.now o (record c.args.self.now { phase = Offered c.args.offered }) c.args.output.now).output)
+    ∙ ap (λ (o : Option ℕ).
+    (on_named_prack c.args.step.now.config.now c.args.offered c.args.request.key c.args.request.message c.args.rack.now o (record c.args.self.now { phase = Offered c.args.offered }) c.args.output.now).output)
     c.in-Some.ensures.check))

@@ -9,12 +9,14 @@ always (Err e) p = tt
 
 pub returns-in-Established-clause-call : goal.returns-in-Established-clause-call
 returns-in-Established-clause-call c =
-    subst (λ (p : Phase). OnOk c.receive_request_at.result (c.receive_request_at.new.self ≡ (request_in p c.args.step.now.config.now c.args.step.now.snapshot.at c.args.request.side c.args.request.key c.args.request.message (record c.args.self.now { phase = p }) c.args.output.now).call))
+    subst (λ (p : Phase). OnOk c.receive_request_at.result (c.receive_request_at.new.self
+    ≡ (request_in p c.args.step.now.config.now c.args.step.now.snapshot.at c.args.request.side c.args.request.key c.args.request.message (record c.args.self.now { phase = p }) c.args.output.now).call))
     c.in-Established.ensures.value c.receive_request_at.ensures.call
 
 pub returns-in-Established-clause-output : goal.returns-in-Established-clause-output
 returns-in-Established-clause-output c =
-    subst (λ (p : Phase). OnOk c.receive_request_at.result (c.receive_request_at.new.output ≡ (request_in p c.args.step.now.config.now c.args.step.now.snapshot.at c.args.request.side c.args.request.key c.args.request.message (record c.args.self.now { phase = p }) c.args.output.now).output))
+    subst (λ (p : Phase). OnOk c.receive_request_at.result (c.receive_request_at.new.output
+    ≡ (request_in p c.args.step.now.config.now c.args.step.now.snapshot.at c.args.request.side c.args.request.key c.args.request.message (record c.args.self.now { phase = p }) c.args.output.now).output))
     c.in-Established.ensures.value c.receive_request_at.ensures.output
 
 pub returns-in-Detached-clause-call : goal.returns-in-Detached-clause-call

@@ -11,22 +11,26 @@ always (Err e) p = tt
 
 pub returns-in-Offered-clause-call : goal.returns-in-Offered-clause-call
 returns-in-Offered-clause-call c =
-    subst (λ (p : Phase). OnOk c.receive_response_offered.result (c.receive_response_offered.new.self ≡ (response_in p c.args.step.now.config.now (snapshot_of c.args.step.now.snapshot) c.args.key c.args.message.now (record c.args.self.now { phase = p }) c.args.output.now).call))
+    subst (λ (p : Phase). OnOk c.receive_response_offered.result (c.receive_response_offered.new.self
+    ≡ (response_in p c.args.step.now.config.now (snapshot_of c.args.step.now.snapshot) c.args.key c.args.message.now (record c.args.self.now { phase = p }) c.args.output.now).call))
     c.in-Offered.ensures.value c.receive_response_offered.ensures.call
 
 pub returns-in-Offered-clause-output : goal.returns-in-Offered-clause-output
 returns-in-Offered-clause-output c =
-    subst (λ (p : Phase). OnOk c.receive_response_offered.result (c.receive_response_offered.new.output ≡ (response_in p c.args.step.now.config.now (snapshot_of c.args.step.now.snapshot) c.args.key c.args.message.now (record c.args.self.now { phase = p }) c.args.output.now).output))
+    subst (λ (p : Phase). OnOk c.receive_response_offered.result (c.receive_response_offered.new.output
+    ≡ (response_in p c.args.step.now.config.now (snapshot_of c.args.step.now.snapshot) c.args.key c.args.message.now (record c.args.self.now { phase = p }) c.args.output.now).output))
     c.in-Offered.ensures.value c.receive_response_offered.ensures.output
 
 pub returns-in-Established-clause-call : goal.returns-in-Established-clause-call
 returns-in-Established-clause-call c =
-    subst (λ (p : Phase). OnOk c.receive_response_at.result (c.receive_response_at.new.self ≡ (response_in p c.args.step.now.config.now (snapshot_of c.args.step.now.snapshot) c.args.key c.args.message.now (record c.args.self.now { phase = p }) c.args.output.now).call))
+    subst (λ (p : Phase). OnOk c.receive_response_at.result
+    (c.receive_response_at.new.self ≡ (response_in p c.args.step.now.config.now (snapshot_of c.args.step.now.snapshot) c.args.key c.args.message.now (record c.args.self.now { phase = p }) c.args.output.now).call))
     c.in-Established.ensures.value c.receive_response_at.ensures.call
 
 pub returns-in-Established-clause-output : goal.returns-in-Established-clause-output
 returns-in-Established-clause-output c =
-    subst (λ (p : Phase). OnOk c.receive_response_at.result (c.receive_response_at.new.output ≡ (response_in p c.args.step.now.config.now (snapshot_of c.args.step.now.snapshot) c.args.key c.args.message.now (record c.args.self.now { phase = p }) c.args.output.now).output))
+    subst (λ (p : Phase). OnOk c.receive_response_at.result (c.receive_response_at.new.output
+    ≡ (response_in p c.args.step.now.config.now (snapshot_of c.args.step.now.snapshot) c.args.key c.args.message.now (record c.args.self.now { phase = p }) c.args.output.now).output))
     c.in-Established.ensures.value c.receive_response_at.ensures.output
 
 pub returns-in-Detached-clause-call : goal.returns-in-Detached-clause-call

@@ -11,22 +11,26 @@ always (Err e) p = tt
 
 pub returns-in-Offered-clause-call : goal.returns-in-Offered-clause-call
 returns-in-Offered-clause-call c =
-    subst (λ (p : Phase). OnOk c.receive_timeout.result (c.receive_timeout.new.self ≡ (timeout_in p c.args.step.now.config.now (snapshot_of c.args.step.now.snapshot) (record c.args.self.now { phase = p }) c.args.output.now).call))
+    subst (λ (p : Phase). OnOk c.receive_timeout.result
+    (c.receive_timeout.new.self ≡ (timeout_in p c.args.step.now.config.now (snapshot_of c.args.step.now.snapshot) (record c.args.self.now { phase = p }) c.args.output.now).call))
     c.in-Offered.ensures.value c.receive_timeout.ensures.call
 
 pub returns-in-Offered-clause-output : goal.returns-in-Offered-clause-output
 returns-in-Offered-clause-output c =
-    subst (λ (p : Phase). OnOk c.receive_timeout.result (c.receive_timeout.new.output ≡ (timeout_in p c.args.step.now.config.now (snapshot_of c.args.step.now.snapshot) (record c.args.self.now { phase = p }) c.args.output.now).output))
+    subst (λ (p : Phase). OnOk c.receive_timeout.result
+    (c.receive_timeout.new.output ≡ (timeout_in p c.args.step.now.config.now (snapshot_of c.args.step.now.snapshot) (record c.args.self.now { phase = p }) c.args.output.now).output))
     c.in-Offered.ensures.value c.receive_timeout.ensures.output
 
 pub returns-in-Established-clause-call : goal.returns-in-Established-clause-call
 returns-in-Established-clause-call c =
-    subst (λ (p : Phase). OnOk c.receive_timeout_at.result (c.receive_timeout_at.new.self ≡ (timeout_in p c.args.step.now.config.now (snapshot_of c.args.step.now.snapshot) (record c.args.self.now { phase = p }) c.args.output.now).call))
+    subst (λ (p : Phase). OnOk c.receive_timeout_at.result
+    (c.receive_timeout_at.new.self ≡ (timeout_in p c.args.step.now.config.now (snapshot_of c.args.step.now.snapshot) (record c.args.self.now { phase = p }) c.args.output.now).call))
     c.in-Established.ensures.value c.receive_timeout_at.ensures.call
 
 pub returns-in-Established-clause-output : goal.returns-in-Established-clause-output
 returns-in-Established-clause-output c =
-    subst (λ (p : Phase). OnOk c.receive_timeout_at.result (c.receive_timeout_at.new.output ≡ (timeout_in p c.args.step.now.config.now (snapshot_of c.args.step.now.snapshot) (record c.args.self.now { phase = p }) c.args.output.now).output))
+    subst (λ (p : Phase). OnOk c.receive_timeout_at.result
+    (c.receive_timeout_at.new.output ≡ (timeout_in p c.args.step.now.config.now (snapshot_of c.args.step.now.snapshot) (record c.args.self.now { phase = p }) c.args.output.now).output))
     c.in-Established.ensures.value c.receive_timeout_at.ensures.output
 
 pub returns-in-Detached-clause-call : goal.returns-in-Detached-clause-call

@@ -9,8 +9,12 @@ use Rattle.mmtel_call.proofs.calls.Call.time_out_offered.Goals as goal
 
 pub returns-clause-call : goal.returns-clause-call
 returns-clause-call c =
-    subst (λ (s : StepResult). OnOk c.time_out.result (c.time_out.new.self ≡ s.call)) (sym (attempt_timeout_alike c.args.step.now.config.now (snapshot_of c.args.step.now.snapshot) c.args.offered (attempt_end_view c.args.end.now) (Offered c.args.offered) c.args.self.now c.args.output.now)) c.time_out.ensures.call
+    subst (λ (s : StepResult). OnOk c.time_out.result (c.time_out.new.self ≡ s.call))
+    (sym (attempt_timeout_alike c.args.step.now.config.now (snapshot_of c.args.step.now.snapshot) c.args.offered (attempt_end_view c.args.end.now) (Offered c.args.offered) c.args.self.now c.args.output.now))
+    c.time_out.ensures.call
 
 pub returns-clause-output : goal.returns-clause-output
 returns-clause-output c =
-    subst (λ (s : StepResult). OnOk c.time_out.result (c.time_out.new.output ≡ s.output)) (sym (attempt_timeout_alike c.args.step.now.config.now (snapshot_of c.args.step.now.snapshot) c.args.offered (attempt_end_view c.args.end.now) (Offered c.args.offered) c.args.self.now c.args.output.now)) c.time_out.ensures.output
+    subst (λ (s : StepResult). OnOk c.time_out.result (c.time_out.new.output ≡ s.output))
+    (sym (attempt_timeout_alike c.args.step.now.config.now (snapshot_of c.args.step.now.snapshot) c.args.offered (attempt_end_view c.args.end.now) (Offered c.args.offered) c.args.self.now c.args.output.now))
+    c.time_out.ensures.output

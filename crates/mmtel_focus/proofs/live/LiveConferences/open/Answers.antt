@@ -14,7 +14,8 @@ invariant_of-self-in-Ok c =
     let n = c.saturating_add.result in
     let numbered : number_of x ≡ n =
     ap number_of c.in-Ok.ensures.conference
-    ∙ ap (λ (r : RoomNo). r.0) (after_join_keeps c.args.step.now.config c.args.step.now.at c.args.entrant.leg c.args.entrant.account c.args.key c.args.invite.now (record { conference = new_conference (record { 0 = n }); effects = c.args.effects.now })) in
+    ∙ ap (λ (r : RoomNo). r.0) (after_join_keeps c.args.step.now.config c.args.step.now.at c.args.entrant.leg c.args.entrant.account c.args.key c.args.invite.now
+    (record { conference = new_conference (record { 0 = n }); effects = c.args.effects.now })) in
     let more : n ≡ opened + 1 = let f = c.if-self.false in let g = c.saturating_add.ensures in omega (arith, c.self.ranges.1.0.1, f, g) in
     subst (λ (m : ℕ). TableInvariant c.push_reserved.new.self.items m c.put_conference.new.index) numbered
     (subst (λ (l : List Conference). TableInvariant l (number_of x) c.put_conference.new.index) (sym c.push_reserved.ensures.items)

@@ -22,6 +22,8 @@ returns c = record {
   err = on_err_by c.extend.result c.extend.ensures.err (λ is. is ∙ c.self.view_is);
   len = on_ok_by c.extend.result (extended c) (λ is. ap (λ (h : List Entry). length h) is ∙ appended_len c.args.self.now c.args.from.now c.args.target.now c.args.cause c.args.hide_last);
   counts = λ own. on_ok_by c.extend.result (extended c) (λ is. ap (λ (h : List Entry). diversions_in h) is ∙ appended_counts c.args.self.now c.args.from.now c.args.target.now c.args.cause c.args.hide_last own);
-  readable = λ are first is. on_ok_by c.extend.result (extended c) (λ same. subst (λ (h : List Entry). AreReadable h) (sym same) (appended_readable c.args.self.now c.args.from.now c.args.target.now c.args.cause c.args.hide_last are first is));
-  masks_alike = λ all other same. on_ok_by c.extend.result (extended c) (λ is. ap (λ (h : List Entry). masked_list all h) is ∙ appended_equal all c.args.self.now other c.args.from.now c.args.target.now c.args.cause c.args.hide_last same);
+  readable = λ are first is. on_ok_by c.extend.result (extended c)
+      (λ same. subst (λ (h : List Entry). AreReadable h) (sym same) (appended_readable c.args.self.now c.args.from.now c.args.target.now c.args.cause c.args.hide_last are first is));
+  masks_alike = λ all other same. on_ok_by c.extend.result (extended c)
+      (λ is. ap (λ (h : List Entry). masked_list all h) is ∙ appended_equal all c.args.self.now other c.args.from.now c.args.target.now c.args.cause c.args.hide_last same);
 }

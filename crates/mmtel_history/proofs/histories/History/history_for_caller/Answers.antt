@@ -17,7 +17,8 @@ invariant_of-result c =
 pub returns : goal.returns
 returns c = record {
   reported = told c;
-  places = λ front diverting target is. told c ∙ ap (λ (h : List Entry). history_for_caller c.args.hide_diverting c.args.hide_target h) is ∙ for_caller_positions c.args.hide_diverting c.args.hide_target front diverting target;
+  places = λ front diverting target is. told c ∙ ap (λ (h : List Entry). history_for_caller c.args.hide_diverting c.args.hide_target h) is
+      ∙ for_caller_positions c.args.hide_diverting c.args.hide_target front diverting target;
   keeps = ap (λ (h : List Entry). map unmarked_entry h) (told c) ∙ for_caller_keeps c.args.hide_diverting c.args.hide_target c.args.self.now;
   counts = ap (λ (h : List Entry). diversions_in h) (told c) ∙ for_caller_counts c.args.hide_diverting c.args.hide_target c.args.self.now;
   readable = λ are. subst (λ (h : List Entry). AreReadable h) (sym (told c)) (for_caller_readable c.args.hide_diverting c.args.hide_target c.args.self.now are);

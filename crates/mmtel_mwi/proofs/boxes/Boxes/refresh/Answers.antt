@@ -26,6 +26,7 @@ returns-in-Some c =
     record {
       live = sym (lives_there c.args.sub t c.in-Some.place x there) ∙ ap (λ (b : BoxesView). is_live c.args.sub b.table) c.self.view_is;
       refreshed =
-          ap (λ (l : List Subscription). record { sip = i.sip; table = record t { live = l } }) (changed_to c.args.sub (renewed_subscription c.args.until) t.live c.in-Some.place x c.renew_until.new.self there c.renew_until.ensures)
+          ap (λ (l : List Subscription). record { sip = i.sip; table = record t { live = l } })
+          (changed_to c.args.sub (renewed_subscription c.args.until) t.live c.in-Some.place x c.renew_until.new.self there c.renew_until.ensures)
           ∙ ap (λ (b : BoxesView). with_table b (table_after_refresh c.args.sub c.args.until b.table)) c.self.view_is;
     }

@@ -14,7 +14,8 @@ pub returns-clause-done : goal.returns-clause-done
 returns-clause-done g c = on_ok_weaker c.send_response-done.result (λ follows.
     let s = c.args.self.now in
     let said = c.args.request.now in
-    follows_so c.in_ok-response.response (λ d w. response_to d.sip c.args.tag.now said (grant_response c.args.seconds)) (λ (m : Message Start) d token. with_emit c.args.context.now.at (emit.Reply c.args.key m)) s c.args.out.now
+    follows_so c.in_ok-response.response (λ d w. response_to d.sip c.args.tag.now said (grant_response c.args.seconds))
+    (λ (m : Message Start) d token. with_emit c.args.context.now.at (emit.Reply c.args.key m)) s c.args.out.now
     (λ d token w have.
     c.in_ok-response.ensures.message
     ∙ (ap (λ (a : StatusResponse). response_to s.directory.sip c.bytes.result.now said a) c.in_ok-status_response.ensures.response

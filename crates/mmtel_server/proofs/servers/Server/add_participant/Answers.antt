@@ -9,4 +9,5 @@ returns-in_ok-collect_rows_of_conferences-in-Ok-clause-seated c =
     c.in-Ok.ensures.done c.in-Ok.ensures.config
     (record { waiting = c.in_ok-collect_rows_of_conferences-in-Ok.ensures.waiting; done = c.in_ok-collect_rows_of_conferences-in-Ok.ensures.done; site = c.in_ok-collect_rows_of_conferences-in-Ok.ensures.config })
     c.in-Ok.emits c.in-Ok.ensures.emits c.numbers_never_fall.ensures.conferences
-    (enters_closes c.args.room.0 c.args.context.now.at c.args.leg c.args.account c.args.joining) (enters_own c.args.room.0 c.args.context.now.at c.args.leg c.args.account c.args.joining) c.adopt.new.tokens c.in-Ok.ensures.tokens
+    (enters_closes c.args.room.0 c.args.context.now.at c.args.leg c.args.account c.args.joining)
+    (enters_own c.args.room.0 c.args.context.now.at c.args.leg c.args.account c.args.joining) c.adopt.new.tokens c.in-Ok.ensures.tokens

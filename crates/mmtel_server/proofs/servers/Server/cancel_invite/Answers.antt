@@ -17,8 +17,10 @@ returns-in-None-clause-done g c = on_ok_weaker c.respond-done.result (λ follows
     let out = c.args.out.now in
     follows_so c.asked_by.result (λ d w. call_of_invite c.args.invite (calls_in d w).entries) (λ o d token. after_cancel_of d token c.args.context.now.at c.args.key c.args.cancel c.args.invite o) s out
     (of_calls s c.asked_by.result (first_side (side_by_invite_key c.args.invite)) c.asked_by.ensures) c.respond-done.new.self c.respond-done.new.out
-    (subst (λ (o : Option (CallNo × Side)). Follows s out c.respond-done.new.self c.respond-done.new.out (λ d token. after_cancel_of d token c.args.context.now.at c.args.key c.args.cancel c.args.invite o)) (sym c.in-None.is)
-    (subst (λ (x : StatusResponse). Follows s out c.respond-done.new.self c.respond-done.new.out (λ d token. with_response d token c.args.context.now.at c.args.key c.args.cancel x)) c.plain_response.ensures.response follows)))
+    (subst (λ (o : Option (CallNo × Side)). Follows s out c.respond-done.new.self c.respond-done.new.out (λ d token. after_cancel_of d token c.args.context.now.at c.args.key c.args.cancel c.args.invite o))
+    (sym c.in-None.is)
+    (subst (λ (x : StatusResponse). Follows s out c.respond-done.new.self c.respond-done.new.out (λ d token. with_response d token c.args.context.now.at c.args.key c.args.cancel x))
+    c.plain_response.ensures.response follows)))
     c.respond-done.ensures.done
 
 pub returns-in-None-clause-err : goal.returns-in-None-clause-err
@@ -31,7 +33,8 @@ returns-in-Some-clause-done g c = on_ok_weaker c.signal_calls.result (λ follows
     let out = c.args.out.now in
     follows_so c.asked_by.result (λ d w. call_of_invite c.args.invite (calls_in d w).entries) (λ o d token. after_cancel_of d token c.args.context.now.at c.args.key c.args.cancel c.args.invite o) s out
     (of_calls s c.asked_by.result (first_side (side_by_invite_key c.args.invite)) c.asked_by.ensures) c.signal_calls.new.self c.signal_calls.new.out
-    (subst (λ (o : Option (CallNo × Side)). Follows s out c.signal_calls.new.self c.signal_calls.new.out (λ d token. after_cancel_of d token c.args.context.now.at c.args.key c.args.cancel c.args.invite o)) (sym c.in-Some.is) follows))
+    (subst (λ (o : Option (CallNo × Side)). Follows s out c.signal_calls.new.self c.signal_calls.new.out (λ d token. after_cancel_of d token c.args.context.now.at c.args.key c.args.cancel c.args.invite o))
+    (sym c.in-Some.is) follows))
     c.signal_calls.ensures.done
 
 pub returns-in-Some-clause-err : goal.returns-in-Some-clause-err

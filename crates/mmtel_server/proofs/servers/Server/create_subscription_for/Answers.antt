@@ -15,7 +15,8 @@ pub returns-in-None-clause-done : goal.returns-in-None-clause-done
 returns-in-None-clause-done g c = on_ok_weaker c.respond.result (λ follows.
     let s = c.args.self.now in
     subst (λ (o : Option Account). Follows s c.args.out.now c.respond.new.self c.respond.new.out (λ d token. after_subscription_for d token c.args.context.now.at c.args.key c.args.request.now o)) (sym c.in-None.is)
-    (subst (λ (x : StatusResponse). Follows s c.args.out.now c.respond.new.self c.respond.new.out (λ d token. with_response d token c.args.context.now.at c.args.key c.args.request.now x)) c.plain_response.ensures.response follows))
+    (subst (λ (x : StatusResponse). Follows s c.args.out.now c.respond.new.self c.respond.new.out (λ d token. with_response d token c.args.context.now.at c.args.key c.args.request.now x))
+    c.plain_response.ensures.response follows))
     c.respond.ensures.done
 
 pub returns-in-None-clause-err : goal.returns-in-None-clause-err
@@ -42,7 +43,8 @@ returns-then-is_full-clause-err g c =
 pub returns-else-is_full-clause-done : goal.returns-else-is_full-clause-done
 returns-else-is_full-clause-done g c = on_ok_weaker c.create_subscription.result (λ follows.
     let s = c.args.self.now in
-    subst (λ (o : Option Account). Follows s c.args.out.now c.create_subscription.new.self c.create_subscription.new.out (λ d token. after_subscription_for d token c.args.context.now.at c.args.key c.args.request.now o)) (sym c.in-Some.is)
+    subst (λ (o : Option Account). Follows s c.args.out.now c.create_subscription.new.self c.create_subscription.new.out
+    (λ d token. after_subscription_for d token c.args.context.now.at c.args.key c.args.request.now o)) (sym c.in-Some.is)
     (made_for_so s (Follows s c.args.out.now c.create_subscription.new.self c.create_subscription.new.out) (follows_reads s c.args.out.now c.create_subscription.new.self c.create_subscription.new.out)
     c.args.context.now.at c.args.key c.args.request.now c.in-Some.account false (sym c.is_full.ensures.full ∙ c.if-is_full.false) follows))
     c.create_subscription.ensures.done

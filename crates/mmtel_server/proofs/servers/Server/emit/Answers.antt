@@ -12,7 +12,8 @@ returns-in-Ask-clause-done g c = subst (λ (x : Emit). OnOk c.send_request.resul
     (sym c.in-Ask.is) c.send_request.ensures.done
 
 pub returns-in-Reply-clause-done : goal.returns-in-Reply-clause-done
-returns-in-Reply-clause-done g c = subst (λ (x : Emit). OnOk c.send_response.result (Follows c.args.self.now c.args.out.now c.send_response.new.self c.send_response.new.out (λ d token. with_emit c.args.context.now.at x)))
+returns-in-Reply-clause-done g c =
+    subst (λ (x : Emit). OnOk c.send_response.result (Follows c.args.self.now c.args.out.now c.send_response.new.self c.send_response.new.out (λ d token. with_emit c.args.context.now.at x)))
     (sym c.in-Reply.is) c.send_response.ensures.done
 
 pub returns-in-Plain-clause-done : goal.returns-in-Plain-clause-done

@@ -9,5 +9,6 @@ use Rattle.mmtel_server.specs.Representation.{RepresentsWithOffers}
 
 -- the calls are unchanged, and the commands that are executed and those that remain are all
 abbrev pub invariant-loop-emit : goal.invariant-loop-emit
-invariant-loop-emit g l = (l.self.calls ≡ l.fn.self.calls) × ((d : Directory) (token : List ℕ) (before : List Offer) (w : RunState) → RepresentsWithOffers d token before l.fn.self l.fn.out w → IsShort (with_emits l.context.at l.emits w)
+invariant-loop-emit g l = (l.self.calls ≡ l.fn.self.calls)
+    × ((d : Directory) (token : List ℕ) (before : List Offer) (w : RunState) → RepresentsWithOffers d token before l.fn.self l.fn.out w → IsShort (with_emits l.context.at l.emits w)
     → (v : RunState) × Grows w v × RepresentsWithOffers d token before l.self l.out v × (with_emits l.context.at (drop l.emit-index l.emits) v ≡ with_emits l.context.at l.emits w))

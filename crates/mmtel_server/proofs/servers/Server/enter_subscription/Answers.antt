@@ -15,8 +15,10 @@ use Rattle.mmtel_server.specs.declared.servers.Server.{Server}
 pub returns-in-Err-clause-done : goal.returns-in-Err-clause-done
 returns-in-Err-clause-done g c = on_ok_weaker c.respond.result (λ follows.
     let s = c.args.self.now in
-    unordered_follows c.args.context.now.at c.args.key c.args.request.now c.args.sub s c.receive_in_subscription.result c.receive_in_subscription.ensures.check c.args.out.now c.in-Err.field-0 c.in-Err.is c.respond.new.self c.respond.new.out
-    (subst (λ (x : Server). Follows x c.args.out.now c.respond.new.self c.respond.new.out (λ d token. with_response d token c.args.context.now.at c.args.key c.args.request.now (plain_response 500))) c.in-Err.ensures.refused
+    unordered_follows c.args.context.now.at c.args.key c.args.request.now c.args.sub s c.receive_in_subscription.result c.receive_in_subscription.ensures.check c.args.out.now c.in-Err.field-0
+    c.in-Err.is c.respond.new.self c.respond.new.out
+    (subst (λ (x : Server). Follows x c.args.out.now c.respond.new.self c.respond.new.out (λ d token. with_response d token c.args.context.now.at c.args.key c.args.request.now (plain_response 500)))
+    c.in-Err.ensures.refused
     (subst (λ (x : StatusResponse). Follows c.receive_in_subscription.new.self c.args.out.now c.respond.new.self c.respond.new.out (λ d token. with_response d token c.args.context.now.at c.args.key c.args.request.now x))
     c.plain_response.ensures.response follows)))
     c.respond.ensures.done
@@ -28,7 +30,8 @@ returns-in-Err-clause-err g c =
 
 pub returns-then-is_method-clause-done : goal.returns-then-is_method-clause-done
 returns-then-is_method-clause-done g c = on_ok_weaker c.resubscribe.result (λ follows.
-    enters_follows c.args.context.now.at c.args.key c.args.request.now c.args.sub c.args.self.now c.receive_in_subscription.result c.receive_in_subscription.ensures.check c.args.out.now c.in-Ok.is c.receive_in_subscription.new.self
+    enters_follows c.args.context.now.at c.args.key c.args.request.now c.args.sub c.args.self.now c.receive_in_subscription.result c.receive_in_subscription.ensures.check c.args.out.now c.in-Ok.is
+    c.receive_in_subscription.new.self
     (c.in-Ok.ensures.done c.args.out.now) c.resubscribe.new.self c.resubscribe.new.out
     (resubscribes_so (Follows c.receive_in_subscription.new.self c.args.out.now c.resubscribe.new.self c.resubscribe.new.out) c.args.context.now.at c.args.key c.args.request.now c.args.sub
     (sym (ap (is_method (codes "SUBSCRIBE")) (c.start.ensures ∙ ap (λ (x : MessageView). x.parsed.start) c.request.view_is)) ∙ (sym c.is_method.ensures ∙ c.if-is_method.true)) follows))
@@ -36,7 +39,8 @@ returns-then-is_method-clause-done g c = on_ok_weaker c.resubscribe.result (λ f
 
 pub returns-then-is_method-clause-err : goal.returns-then-is_method-clause-err
 returns-then-is_method-clause-err g c = on_err_weaker c.resubscribe.result (λ breaks.
-    enters_breaks c.args.context.now.at c.args.key c.args.request.now c.args.sub c.args.self.now c.receive_in_subscription.result c.receive_in_subscription.ensures.check c.args.out.now c.in-Ok.is c.receive_in_subscription.new.self
+    enters_breaks c.args.context.now.at c.args.key c.args.request.now c.args.sub c.args.self.now c.receive_in_subscription.result c.receive_in_subscription.ensures.check c.args.out.now c.in-Ok.is
+    c.receive_in_subscription.new.self
     (c.in-Ok.ensures.done c.args.out.now) c.resubscribe.new.out
     (resubscribes_so (AddsOfferPrefix c.receive_in_subscription.new.self c.args.out.now c.resubscribe.new.out) c.args.context.now.at c.args.key c.args.request.now c.args.sub
     (sym (ap (is_method (codes "SUBSCRIBE")) (c.start.ensures ∙ ap (λ (x : MessageView). x.parsed.start) c.request.view_is)) ∙ (sym c.is_method.ensures ∙ c.if-is_method.true)) breaks))
@@ -44,7 +48,8 @@ returns-then-is_method-clause-err g c = on_err_weaker c.resubscribe.result (λ b
 
 pub returns-else-is_method-clause-done : goal.returns-else-is_method-clause-done
 returns-else-is_method-clause-done g c = on_ok_weaker c.respond_to_other.result (λ follows.
-    enters_follows c.args.context.now.at c.args.key c.args.request.now c.args.sub c.args.self.now c.receive_in_subscription.result c.receive_in_subscription.ensures.check c.args.out.now c.in-Ok.is c.receive_in_subscription.new.self
+    enters_follows c.args.context.now.at c.args.key c.args.request.now c.args.sub c.args.self.now c.receive_in_subscription.result c.receive_in_subscription.ensures.check c.args.out.now c.in-Ok.is
+    c.receive_in_subscription.new.self
     (c.in-Ok.ensures.done c.args.out.now) c.respond_to_other.new.self c.respond_to_other.new.out
     (other_so (Follows c.receive_in_subscription.new.self c.args.out.now c.respond_to_other.new.self c.respond_to_other.new.out) c.args.context.now.at c.args.key c.args.request.now c.args.sub
     (sym (ap (is_method (codes "SUBSCRIBE")) (c.start.ensures ∙ ap (λ (x : MessageView). x.parsed.start) c.request.view_is)) ∙ (sym c.is_method.ensures ∙ c.if-is_method.false)) follows))

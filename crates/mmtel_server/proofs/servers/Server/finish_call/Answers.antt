@@ -10,7 +10,8 @@ use Rattle.mmtel_server.specs.Follows.{after_call_operation, output_at_end}
 pub returns-in_err-emits-clause-err : goal.returns-in_err-emits-clause-err
 returns-in_err-emits-clause-err g c =
     on_err c.from_residual.result _
-    (stops (λ d token. after_call_end d token c.args.context.now.at c.args.call) c.args.self.now c.args.out.now c.args.out.now (λ d token w. grows_on_call_end c.numbers_never_fall.ensures d token c.args.context.now.at c.args.call w) refl)
+    (stops (λ d token. after_call_end d token c.args.context.now.at c.args.call) c.args.self.now c.args.out.now c.args.out.now
+    (λ d token w. grows_on_call_end c.numbers_never_fall.ensures d token c.args.context.now.at c.args.call w) refl)
 
 pub returns-clause-done : goal.returns-clause-done
 returns-clause-done g c =

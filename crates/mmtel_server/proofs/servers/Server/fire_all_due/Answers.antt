@@ -19,7 +19,8 @@ returns-in-None-clause-done g c fuel d token before w did e s =
     let v : RunState = after_due_deadlines d token c.loop-i.i c.args.now w in
     let stands = so_far.0.represents in
     let found = c.in-None.ensures v.actions stands.transactions in
-    let none : first_due_deadline c.args.now v ≡ None = sym (ap (λ (q : List PendingTimer). first_deadline (next_due c.args.now (live v.actions)) (first_due_timer c.args.now q)) stands.pending_timers) ∙ unkind (first_deadline (next_due c.args.now (live v.actions)) (first_due_timer c.args.now (queue_of c.loop-i.self.pending_timers))) found in
+    let none : first_due_deadline c.args.now v ≡ None = sym (ap (λ (q : List PendingTimer). first_deadline (next_due c.args.now (live v.actions)) (first_due_timer c.args.now q)) stands.pending_timers)
+    ∙ unkind (first_deadline (next_due c.args.now (live v.actions)) (first_due_timer c.args.now (queue_of c.loop-i.self.pending_timers))) found in
     subst (λ (x : RunState). RepresentsWithOffers d token before c.loop-i.self c.loop-i.out x) (enough_same d token c.loop-i.i fuel c.args.now w none e) so_far.0
 
 pub loop-i-preserved : goal.loop-i-preserved

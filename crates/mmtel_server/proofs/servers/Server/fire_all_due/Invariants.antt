@@ -10,5 +10,6 @@ use Rattle.mmtel_server.proofs.servers.Server.fire_all_due.Given as goal
 -- so many timers fired
 abbrev pub invariant-loop-i : goal.invariant-loop-i
 invariant-loop-i g l =
-    (fuel : ℕ) (d : Directory) (token : List ℕ) (before : List Offer) (w : RunState) → RepresentsWithOffers d token before l.fn.self l.fn.out w → IsSettled d token fuel l.now w → IsShort (after_due_deadlines d token fuel l.now w) →
+    (fuel : ℕ) (d : Directory) (token : List ℕ) (before : List Offer) (w : RunState) → RepresentsWithOffers d token before l.fn.self l.fn.out w → IsSettled d token fuel l.now w →
+    IsShort (after_due_deadlines d token fuel l.now w) →
     RepresentsWithOffers d token before l.self l.out (after_due_deadlines d token l.i l.now w) × ((after_due_deadlines d token l.i l.now w).steps ≡ w.steps + l.i)

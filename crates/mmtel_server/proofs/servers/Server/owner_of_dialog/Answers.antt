@@ -40,4 +40,5 @@ returns-in-None-find c d token w have =
     c.bytes-remote.ensures c.find-in-None.ensures d token w have in
     let box = found_subscription c.args.self.now name c.bytes-call_id.result.now c.bytes-local.result.now c.bytes-remote.result.now c.find-in-None-find.result c.bytes-call_id.ensures c.bytes-local.ensures
     c.bytes-remote.ensures c.find-in-None-find.ensures.found d token w have in
-    c.in_subscription.ensures ∙ (ap in_subscription box ∙ (ap (λ (o : Option (RoomNo × ℕ)). in_conference_or (of_boxes name w) o) (sym c.in-None-find.is ∙ seat) ∙ ap (in_call_or (elsewhere name d w)) (sym c.in-None.is ∙ call)))
+    c.in_subscription.ensures
+    ∙ (ap in_subscription box ∙ (ap (λ (o : Option (RoomNo × ℕ)). in_conference_or (of_boxes name w) o) (sym c.in-None-find.is ∙ seat) ∙ ap (in_call_or (elsewhere name d w)) (sym c.in-None.is ∙ call)))

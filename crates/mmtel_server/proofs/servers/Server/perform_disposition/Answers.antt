@@ -25,7 +25,8 @@ returns-in-Enter-clause-done g c = subst (λ (x : Disposition). OnOk c.signal_ca
 
 pub returns-in-Enter-clause-err : goal.returns-in-Enter-clause-err
 returns-in-Enter-clause-err g c = subst (λ (x : Disposition). OnErr c.signal_calls.result
-    (AddsOfferPrefix c.args.self.now c.args.out.now c.signal_calls.new.out (λ d token. after_disposition d token c.args.context.now.at c.args.key c.args.request (disposition_in x)))) (sym c.in-Enter.is) c.signal_calls.ensures.err
+    (AddsOfferPrefix c.args.self.now c.args.out.now c.signal_calls.new.out (λ d token. after_disposition d token c.args.context.now.at c.args.key c.args.request (disposition_in x))))
+    (sym c.in-Enter.is) c.signal_calls.ensures.err
 
 pub open_call-requires : goal.open_call-requires
 open_call-requires g c = c.requires.below (ap disposition_in c.in-OpenCall.is)
@@ -37,7 +38,8 @@ returns-in-OpenCall-clause-done g c = subst (λ (x : Disposition). OnOk c.open_c
 
 pub returns-in-OpenCall-clause-err : goal.returns-in-OpenCall-clause-err
 returns-in-OpenCall-clause-err g c = subst (λ (x : Disposition). OnErr c.open_call.result
-    (AddsOfferPrefix c.args.self.now c.args.out.now c.open_call.new.out (λ d token. after_disposition d token c.args.context.now.at c.args.key c.args.request (disposition_in x)))) (sym c.in-OpenCall.is) c.open_call.ensures.err
+    (AddsOfferPrefix c.args.self.now c.args.out.now c.open_call.new.out (λ d token. after_disposition d token c.args.context.now.at c.args.key c.args.request (disposition_in x))))
+    (sym c.in-OpenCall.is) c.open_call.ensures.err
 
 pub returns-in-Register-clause-done : goal.returns-in-Register-clause-done
 returns-in-Register-clause-done g c = subst (λ (x : Disposition). OnOk c.register-done.result
@@ -56,7 +58,8 @@ returns-in-EnterConference-clause-done g c = subst (λ (x : Disposition). OnOk c
 
 pub returns-in-EnterConference-clause-err : goal.returns-in-EnterConference-clause-err
 returns-in-EnterConference-clause-err g c = subst (λ (x : Disposition). OnErr c.enter_conference.result
-    (AddsOfferPrefix c.args.self.now c.args.out.now c.enter_conference.new.out (λ d token. after_disposition d token c.args.context.now.at c.args.key c.args.request (disposition_in x)))) (sym c.in-EnterConference.is) c.enter_conference.ensures.err
+    (AddsOfferPrefix c.args.self.now c.args.out.now c.enter_conference.new.out (λ d token. after_disposition d token c.args.context.now.at c.args.key c.args.request (disposition_in x))))
+    (sym c.in-EnterConference.is) c.enter_conference.ensures.err
 
 pub open_conference-done-requires : goal.open_conference-done-requires
 open_conference-done-requires g c = c.requires.audio (ap (λ (x : Disposition). is_for_conference (disposition_in x)) c.in-OpenConference.is)
@@ -68,7 +71,8 @@ returns-in-OpenConference-clause-done g c = subst (λ (x : Disposition). OnOk c.
 
 pub returns-in-OpenConference-clause-err : goal.returns-in-OpenConference-clause-err
 returns-in-OpenConference-clause-err g c = subst (λ (x : Disposition). OnErr c.open_conference-done.result
-    (AddsOfferPrefix c.args.self.now c.args.out.now c.open_conference-done.new.out (λ d token. after_disposition d token c.args.context.now.at c.args.key c.args.request (disposition_in x)))) (sym c.in-OpenConference.is) c.open_conference-done.ensures.err
+    (AddsOfferPrefix c.args.self.now c.args.out.now c.open_conference-done.new.out (λ d token. after_disposition d token c.args.context.now.at c.args.key c.args.request (disposition_in x))))
+    (sym c.in-OpenConference.is) c.open_conference-done.ensures.err
 
 pub join_conference-done-requires : goal.join_conference-done-requires
 join_conference-done-requires g c = c.requires.audio (ap (λ (x : Disposition). is_for_conference (disposition_in x)) c.in-JoinConference.is)
@@ -80,7 +84,8 @@ returns-in-JoinConference-clause-done g c = subst (λ (x : Disposition). OnOk c.
 
 pub returns-in-JoinConference-clause-err : goal.returns-in-JoinConference-clause-err
 returns-in-JoinConference-clause-err g c = subst (λ (x : Disposition). OnErr c.join_conference-done.result
-    (AddsOfferPrefix c.args.self.now c.args.out.now c.join_conference-done.new.out (λ d token. after_disposition d token c.args.context.now.at c.args.key c.args.request (disposition_in x)))) (sym c.in-JoinConference.is) c.join_conference-done.ensures.err
+    (AddsOfferPrefix c.args.self.now c.args.out.now c.join_conference-done.new.out (λ d token. after_disposition d token c.args.context.now.at c.args.key c.args.request (disposition_in x))))
+    (sym c.in-JoinConference.is) c.join_conference-done.ensures.err
 
 pub returns-in-Subscribe-clause-done : goal.returns-in-Subscribe-clause-done
 returns-in-Subscribe-clause-done g c = subst (λ (x : Disposition). OnOk c.subscribe-done.result

@@ -23,21 +23,24 @@ returns-in-Again-clause-err g c = on_err_weaker c.offer_to.result (λ is by.
 pub returns-in-Silent-clause-done : goal.returns-in-Silent-clause-done
 returns-in-Silent-clause-done g c = on_ok_weaker c.time_out_request.result (λ holds by.
     subst (λ (x : Due). Follows c.args.self.now c.args.out.now c.time_out_request.new.self c.time_out_request.new.out (λ d token. after_due d token x)) (sym c.in-Silent.is)
-    (subst (λ (n : ℕ). Follows c.args.self.now c.args.out.now c.time_out_request.new.self c.time_out_request.new.out (λ d token w. after_request_timeout d token n c.in-Silent.branch c.in-Silent.method (owner_of_branch (timed_out_branch
+    (subst (λ (n : ℕ). Follows c.args.self.now c.args.out.now c.time_out_request.new.self c.time_out_request.new.out
+    (λ d token w. after_request_timeout d token n c.in-Silent.branch c.in-Silent.method (owner_of_branch (timed_out_branch
     c.in-Silent.branch c.in-Silent.method) (behind_cookie c.in-Silent.branch) (calls_in d w).entries (subscriptions_in w)) w))
     (c.moment_by-at.ensures (subst (IsDueBy c.args.now) c.in-Silent.is by)) holds)) c.time_out_request.ensures.done
 
 pub returns-in-Silent-clause-err : goal.returns-in-Silent-clause-err
 returns-in-Silent-clause-err g c = on_err_weaker c.time_out_request.result (λ holds by.
     subst (λ (x : Due). AddsOfferPrefix c.args.self.now c.args.out.now c.time_out_request.new.out (λ d token. after_due d token x)) (sym c.in-Silent.is)
-    (subst (λ (n : ℕ). AddsOfferPrefix c.args.self.now c.args.out.now c.time_out_request.new.out (λ d token w. after_request_timeout d token n c.in-Silent.branch c.in-Silent.method (owner_of_branch (timed_out_branch c.in-Silent.branch
+    (subst (λ (n : ℕ). AddsOfferPrefix c.args.self.now c.args.out.now c.time_out_request.new.out
+    (λ d token w. after_request_timeout d token n c.in-Silent.branch c.in-Silent.method (owner_of_branch (timed_out_branch c.in-Silent.branch
     c.in-Silent.method) (behind_cookie c.in-Silent.branch) (calls_in d w).entries (subscriptions_in w)) w))
     (c.moment_by-at.ensures (subst (IsDueBy c.args.now) c.in-Silent.is by)) holds)) c.time_out_request.ensures.err
 
 pub returns-in-Over-clause-done : goal.returns-in-Over-clause-done
 returns-in-Over-clause-done g c = on_ok_weaker c.end_transaction.result (λ holds by.
     subst (λ (x : Due). Follows c.args.self.now c.args.out.now c.end_transaction.new.self c.end_transaction.new.out (λ d token. after_due d token x)) (sym c.in-Over.is)
-    (subst (λ (n : ℕ). Follows c.args.self.now c.args.out.now c.end_transaction.new.self c.end_transaction.new.out (λ d token w. after_transaction_end d token n c.in-Over.key (owner_of_key c.in-Over.key (calls_in d w).entries) w))
+    (subst (λ (n : ℕ). Follows c.args.self.now c.args.out.now c.end_transaction.new.self c.end_transaction.new.out
+    (λ d token w. after_transaction_end d token n c.in-Over.key (owner_of_key c.in-Over.key (calls_in d w).entries) w))
     (c.moment_by-at-in-Over.ensures (subst (IsDueBy c.args.now) c.in-Over.is by)) holds)) c.end_transaction.ensures.done
 
 pub returns-in-Over-clause-err : goal.returns-in-Over-clause-err

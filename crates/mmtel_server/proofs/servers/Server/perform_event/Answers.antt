@@ -34,9 +34,11 @@ returns-in-Web-clause-aborted g c = on_err_weaker c.serve_web.result (λ m. reco
   outcome = m.outcome;
   rows = m.rows;
   broke = subst (λ (e : Event). AddsOfferPrefix c.args.self.now c.args.out.now c.serve_web.new.out (λ d token. after_parsed_event d token c.args.at (parsed_event d e m.outcome m.rows))) (sym c.in-Web.is)
-      (subst (λ (bytes : List ℕ). AddsOfferPrefix c.args.self.now c.args.out.now c.serve_web.new.out (λ d token. after_parsed_event d token c.args.at (WebRequested (request_of bytes) m.outcome m.rows))) c.bytes-in-Web.ensures m.broke);
+      (subst (λ (bytes : List ℕ). AddsOfferPrefix c.args.self.now c.args.out.now c.serve_web.new.out (λ d token. after_parsed_event d token c.args.at (WebRequested (request_of bytes) m.outcome m.rows)))
+      c.bytes-in-Web.ensures m.broke);
   between = m.between;
-  asks = subst (λ (e : Event). IsKeeperResult (call_of c.args.self.now.directory.names e) m.outcome m.rows (g.K.Keeper.contents c.args.keeper.now) m.between.contents (g.K.Keeper.calls c.args.keeper.now) m.between.calls) (sym c.in-Web.is)
+  asks = subst (λ (e : Event). IsKeeperResult (call_of c.args.self.now.directory.names e) m.outcome m.rows (g.K.Keeper.contents c.args.keeper.now) m.between.contents
+      (g.K.Keeper.calls c.args.keeper.now) m.between.calls) (sym c.in-Web.is)
       (subst (λ (bytes : List ℕ). IsKeeperResult (keeper_call_in c.args.self.now.directory.names (request_of bytes)) m.outcome m.rows (g.K.Keeper.contents c.args.keeper.now) m.between.contents (g.K.Keeper.calls
       c.args.keeper.now) m.between.calls)
       c.bytes-in-Web.ensures m.asks);

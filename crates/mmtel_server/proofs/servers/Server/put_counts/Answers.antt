@@ -24,7 +24,8 @@ returns-in_err-subs-clause-err g c = on_err c.from_residual-in_err-subs.result _
 
 pub returns-clause-done : goal.returns-clause-done
 returns-clause-done g c = on_ok_weaker c.notify_each-done.result (λ follows.
-    subst (λ (o : Option (Account × Counts)). Follows c.args.self.now c.args.out.now c.notify_each-done.new.self c.notify_each-done.new.out (λ d token. after_mailbox_upload d token c.args.context.now.at o)) (sym c.in-Some.is)
+    subst (λ (o : Option (Account × Counts)). Follows c.args.self.now c.args.out.now c.notify_each-done.new.self c.notify_each-done.new.out (λ d token. after_mailbox_upload d token c.args.context.now.at o))
+    (sym c.in-Some.is)
     (puts_follows c.args.context.now.at c.in-Some.account c.in-Some.counts c.args.self.now c.args.out.now c.put.new.self c.in_ok-put.ensures.put c.items.result.now (c.items.ensures ∙ c.in_ok-subs.ensures.subscribers)
     c.notify_each-done.new.self c.notify_each-done.new.out follows)) c.notify_each-done.ensures.done
 

@@ -28,7 +28,8 @@ returns-in-Ok-Some-clause-done g c = on_ok_weaker c.receive_ack_in.result (λ ho
     let out = c.args.out.now in
     follows_so (option_map owner_of c.in-Ok-Some.field-0) (λ d w. dialog_owner_in d c.args.ack.parsed w) (λ o d token. after_ack_by d token c.args.context.now.at c.args.ack o) s out
     c.in-Ok-Some.ensures c.receive_ack_in.new.self c.receive_ack_in.new.out
-    (subst (λ (o : Option DialogOwner). Follows s out c.receive_ack_in.new.self c.receive_ack_in.new.out (λ d token. after_ack_by d token c.args.context.now.at c.args.ack (option_map owner_of o))) (sym c.in-Ok-Some.field-0-is) holds))
+    (subst (λ (o : Option DialogOwner). Follows s out c.receive_ack_in.new.self c.receive_ack_in.new.out (λ d token. after_ack_by d token c.args.context.now.at c.args.ack (option_map owner_of o)))
+    (sym c.in-Ok-Some.field-0-is) holds))
     c.receive_ack_in.ensures.done
 
 pub returns-in-Ok-Some-clause-err : goal.returns-in-Ok-Some-clause-err

@@ -9,8 +9,10 @@ use Rattle.mmtel_server.specs.Follows.{AddsOfferPrefix, Follows}
 
 pub returns-in-None-clause-done : goal.returns-in-None-clause-done
 returns-in-None-clause-done g c =
-    subst (λ (o : Option TKey). OnOk c.respond-done.result (Follows c.args.self.now c.args.out.now c.respond-done.new.self c.respond-done.new.out (λ d token. after_cancel d token c.args.context.now.at c.args.key c.args.cancel o))) (sym c.in-None.is)
-    (subst (λ (x : StatusResponse). OnOk c.respond-done.result (Follows c.args.self.now c.args.out.now c.respond-done.new.self c.respond-done.new.out (λ d token. with_response d token c.args.context.now.at c.args.key c.args.cancel x)))
+    subst (λ (o : Option TKey). OnOk c.respond-done.result
+    (Follows c.args.self.now c.args.out.now c.respond-done.new.self c.respond-done.new.out (λ d token. after_cancel d token c.args.context.now.at c.args.key c.args.cancel o))) (sym c.in-None.is)
+    (subst (λ (x : StatusResponse). OnOk c.respond-done.result
+    (Follows c.args.self.now c.args.out.now c.respond-done.new.self c.respond-done.new.out (λ d token. with_response d token c.args.context.now.at c.args.key c.args.cancel x)))
     c.plain_response.ensures.response c.respond-done.ensures.done)
 
 pub returns-in-None-clause-err : goal.returns-in-None-clause-err
@@ -19,7 +21,8 @@ returns-in-None-clause-err g c = stops_on c.respond-done.result (λ d token. aft
 
 pub returns-in-Some-clause-done : goal.returns-in-Some-clause-done
 returns-in-Some-clause-done g c =
-    subst (λ (o : Option TKey). OnOk c.cancel_invite.result (Follows c.args.self.now c.args.out.now c.cancel_invite.new.self c.cancel_invite.new.out (λ d token. after_cancel d token c.args.context.now.at c.args.key c.args.cancel o)))
+    subst (λ (o : Option TKey). OnOk c.cancel_invite.result
+    (Follows c.args.self.now c.args.out.now c.cancel_invite.new.self c.cancel_invite.new.out (λ d token. after_cancel d token c.args.context.now.at c.args.key c.args.cancel o)))
     (sym c.in-Some.is) c.cancel_invite.ensures.done
 
 pub returns-in-Some-clause-err : goal.returns-in-Some-clause-err

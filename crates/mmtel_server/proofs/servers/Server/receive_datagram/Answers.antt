@@ -14,7 +14,8 @@ returns-in_err-parsed-clause-err g c = on_err c.from_residual.result _
 
 pub returns-clause-done : goal.returns-clause-done
 returns-clause-done g c = on_ok_weaker c.receive_parsed.result
-    (told_follows c.args.self.now (parsed_event_in c.in_ok-parsed.parsed) (λ d. parsed_datagram d c.args.from c.args.bytes.now) c.in_ok-parsed.ensures.reported c.args.out.now c.receive_parsed.new.self c.receive_parsed.new.out c.args.at)
+    (told_follows c.args.self.now (parsed_event_in c.in_ok-parsed.parsed)
+    (λ d. parsed_datagram d c.args.from c.args.bytes.now) c.in_ok-parsed.ensures.reported c.args.out.now c.receive_parsed.new.self c.receive_parsed.new.out c.args.at)
     c.receive_parsed.ensures.done
 
 pub returns-clause-err : goal.returns-clause-err

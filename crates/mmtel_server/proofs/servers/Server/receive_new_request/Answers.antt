@@ -36,7 +36,8 @@ returns-clause-done g c = on_ok_weaker c.perform_disposition.result (λ follows.
     let s = c.args.self.now in
     let merged : RunState → Bool = λ w. is_merged c.args.key.0 (live w.actions) in
     let full : Directory → RunState → Bool = λ d w. are_full (calls_in d w).entries in
-    follows_so (disposition_in c.in-Ok-disposition.chosen) (λ d w. disposition d (merged w) (full d w) (dialog_owner_in d m w) m) (λ x d token. after_disposition d token c.args.context.now.at c.args.key c.args.request x) s c.args.out.now
+    follows_so (disposition_in c.in-Ok-disposition.chosen) (λ d w. disposition d (merged w) (full d w) (dialog_owner_in d m w) m)
+    (λ x d token. after_disposition d token c.args.context.now.at c.args.key c.args.request x) s c.args.out.now
     (λ d token w have. c.in-Ok-disposition.ensures.disposition
     ∙ (ap (λ (b : Bool). disposition s.directory b c.is_full-is_full.result (option_map owner_of c.in-Ok.owner) m) (c.merged-is_merged.ensures.live w.actions have.transactions)
     ∙ (ap (λ (b : Bool). disposition s.directory (merged w) b (option_map owner_of c.in-Ok.owner) m) (c.is_full-is_full.ensures ∙ ap (λ (v : CallsView). are_full v.table.entries) have.calls)
@@ -51,7 +52,8 @@ returns-clause-err g c = on_err_weaker c.perform_disposition.result (λ breaks.
     let s = c.args.self.now in
     let merged : RunState → Bool = λ w. is_merged c.args.key.0 (live w.actions) in
     let full : Directory → RunState → Bool = λ d w. are_full (calls_in d w).entries in
-    breaks_so (disposition_in c.in-Ok-disposition.chosen) (λ d w. disposition d (merged w) (full d w) (dialog_owner_in d m w) m) (λ x d token. after_disposition d token c.args.context.now.at c.args.key c.args.request x) s c.args.out.now
+    breaks_so (disposition_in c.in-Ok-disposition.chosen) (λ d w. disposition d (merged w) (full d w) (dialog_owner_in d m w) m)
+    (λ x d token. after_disposition d token c.args.context.now.at c.args.key c.args.request x) s c.args.out.now
     (λ d token w have. c.in-Ok-disposition.ensures.disposition
     ∙ (ap (λ (b : Bool). disposition s.directory b c.is_full-is_full.result (option_map owner_of c.in-Ok.owner) m) (c.merged-is_merged.ensures.live w.actions have.transactions)
     ∙ (ap (λ (b : Bool). disposition s.directory (merged w) b (option_map owner_of c.in-Ok.owner) m) (c.is_full-is_full.ensures ∙ ap (λ (v : CallsView). are_full v.table.entries) have.calls)

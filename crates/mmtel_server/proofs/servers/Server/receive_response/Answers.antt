@@ -21,7 +21,8 @@ pub returns-in-Calls-clause-done : goal.returns-in-Calls-clause-done
 returns-in-Calls-clause-done g c = on_ok_weaker c.signal_calls.result (λ holds.
     follows_so (owner_in c.owner_of_branch-whose.result) (λ d w. owner_of_branch (awaited_request_branch c.args.response) (branch_in c.args.response.parsed.vias) (calls_in d w).entries (subscriptions_in w))
     (λ whose d token w. after_response_to d token c.args.context.now.at c.args.key c.args.response whose w) c.args.self.now c.args.out.now
-    (sent_of c.args.self.now (owner_in c.owner_of_branch-whose.result) _ _ _ _ (c.bytes_of.ensures ∙ c.in-Ok.ensures) c.branch_of.ensures.branch c.owner_of_branch-whose.ensures) c.signal_calls.new.self c.signal_calls.new.out
+    (sent_of c.args.self.now (owner_in c.owner_of_branch-whose.result) _ _ _ _ (c.bytes_of.ensures ∙ c.in-Ok.ensures) c.branch_of.ensures.branch c.owner_of_branch-whose.ensures)
+    c.signal_calls.new.self c.signal_calls.new.out
     (subst (λ (x : declared.Owner). Follows c.args.self.now c.args.out.now c.signal_calls.new.self c.signal_calls.new.out (λ d token w. after_response_to d token c.args.context.now.at c.args.key c.args.response
     (owner_in x) w)) (sym c.in-Calls.is) holds))
     c.signal_calls.ensures.done
@@ -31,14 +32,16 @@ returns-in-Calls-clause-err g c = on_err_weaker c.signal_calls.result (λ holds.
     breaks_so (owner_in c.owner_of_branch-whose.result) (λ d w. owner_of_branch (awaited_request_branch c.args.response) (branch_in c.args.response.parsed.vias) (calls_in d w).entries (subscriptions_in w))
     (λ whose d token w. after_response_to d token c.args.context.now.at c.args.key c.args.response whose w) c.args.self.now c.args.out.now
     (sent_of c.args.self.now (owner_in c.owner_of_branch-whose.result) _ _ _ _ (c.bytes_of.ensures ∙ c.in-Ok.ensures) c.branch_of.ensures.branch c.owner_of_branch-whose.ensures) c.signal_calls.new.out
-    (subst (λ (x : declared.Owner). AddsOfferPrefix c.args.self.now c.args.out.now c.signal_calls.new.out (λ d token w. after_response_to d token c.args.context.now.at c.args.key c.args.response (owner_in x) w)) (sym c.in-Calls.is) holds))
+    (subst (λ (x : declared.Owner). AddsOfferPrefix c.args.self.now c.args.out.now c.signal_calls.new.out (λ d token w. after_response_to d token c.args.context.now.at c.args.key c.args.response (owner_in x) w))
+    (sym c.in-Calls.is) holds))
     c.signal_calls.ensures.err
 
 pub returns-in-Conferences-clause-done : goal.returns-in-Conferences-clause-done
 returns-in-Conferences-clause-done g c = on_ok_weaker c.signal_conferences.result (λ holds.
     follows_so (owner_in c.owner_of_branch-whose.result) (λ d w. owner_of_branch (awaited_request_branch c.args.response) (branch_in c.args.response.parsed.vias) (calls_in d w).entries (subscriptions_in w))
     (λ whose d token w. after_response_to d token c.args.context.now.at c.args.key c.args.response whose w) c.args.self.now c.args.out.now
-    (sent_of c.args.self.now (owner_in c.owner_of_branch-whose.result) _ _ _ _ (c.bytes_of.ensures ∙ c.in-Ok.ensures) c.branch_of.ensures.branch c.owner_of_branch-whose.ensures) c.signal_conferences.new.self c.signal_conferences.new.out
+    (sent_of c.args.self.now (owner_in c.owner_of_branch-whose.result) _ _ _ _ (c.bytes_of.ensures ∙ c.in-Ok.ensures) c.branch_of.ensures.branch c.owner_of_branch-whose.ensures)
+    c.signal_conferences.new.self c.signal_conferences.new.out
     (subst (λ (x : declared.Owner). Follows c.args.self.now c.args.out.now c.signal_conferences.new.self c.signal_conferences.new.out (λ d token w. after_response_to d token c.args.context.now.at c.args.key
     c.args.response (owner_in x) w)) (sym c.in-Conferences.is) holds))
     c.signal_conferences.ensures.done
@@ -56,9 +59,12 @@ pub returns-in-Subscriptions-clause-done : goal.returns-in-Subscriptions-clause-
 returns-in-Subscriptions-clause-done g c =
     follows_so (owner_in c.owner_of_branch-whose.result) (λ d w. owner_of_branch (awaited_request_branch c.args.response) (branch_in c.args.response.parsed.vias) (calls_in d w).entries (subscriptions_in w))
     (λ whose d token w. after_response_to d token c.args.context.now.at c.args.key c.args.response whose w) c.args.self.now c.args.out.now
-    (sent_of c.args.self.now (owner_in c.owner_of_branch-whose.result) _ _ _ _ (c.bytes_of.ensures ∙ c.in-Ok.ensures) c.branch_of.ensures.branch c.owner_of_branch-whose.ensures) c.receive_notify_response.new.self c.args.out.now
+    (sent_of c.args.self.now (owner_in c.owner_of_branch-whose.result) _ _ _ _ (c.bytes_of.ensures ∙ c.in-Ok.ensures) c.branch_of.ensures.branch c.owner_of_branch-whose.ensures)
+    c.receive_notify_response.new.self c.args.out.now
     (subst (λ (x : declared.Owner). Follows c.args.self.now c.args.out.now c.receive_notify_response.new.self c.args.out.now (λ d token w. after_response_to d token c.args.context.now.at c.args.key c.args.response
     (owner_in x) w)) (sym c.in-Subscriptions.is)
-    (subst (λ (o : Option (List ℕ)). Follows c.args.self.now c.args.out.now c.receive_notify_response.new.self c.args.out.now (λ d token. after_notify_response o (status_of c.args.response.parsed.start))) c.branch_of-in-Subscriptions.ensures.branch
-    (subst (λ (code : ℕ). Follows c.args.self.now c.args.out.now c.receive_notify_response.new.self c.args.out.now (λ d token. after_notify_response (option_copied c.branch_of-in-Subscriptions.result) code)) (c.status_of.ensures ∙
+    (subst (λ (o : Option (List ℕ)). Follows c.args.self.now c.args.out.now c.receive_notify_response.new.self c.args.out.now (λ d token. after_notify_response o (status_of c.args.response.parsed.start)))
+    c.branch_of-in-Subscriptions.ensures.branch
+    (subst (λ (code : ℕ). Follows c.args.self.now c.args.out.now c.receive_notify_response.new.self c.args.out.now (λ d token. after_notify_response (option_copied c.branch_of-in-Subscriptions.result) code))
+    (c.status_of.ensures ∙
     (ap status_of c.start.ensures ∙ ap (λ (x : MessageView). status_of x.parsed.start) c.response.view_is)) (c.receive_notify_response.ensures c.args.out.now))))

@@ -33,8 +33,10 @@ returns-clause-done g c = on_ok_weaker c.activate_subscription.result (λ follow
     subst (λ (x : StatusResponse). Follows first c.args.out.now c.respond-done.new.self c.respond-done.new.out (λ d token. with_response d token c.args.context.now.at c.args.key c.args.request.now x))
     (c.in_ok-status_response.ensures.response ∙ ap grant_response is) c.in_ok-done.ensures.done in
     let boxes = c.refresh.ensures.refreshed ∙ ap (λ (n : ℕ). with_table s.boxes (table_after_refresh c.args.sub n s.boxes.table)) until in
-    refreshes_follows c.args.context.now.at c.args.key c.args.request.now c.args.sub s c.respond-done.new.self c.args.out.now c.respond-done.new.out c.refresh.new.self boxes answers c.activate_subscription.new.self c.activate_subscription.new.out
-    (subst (λ (n : ℕ). Follows c.respond-done.new.self c.respond-done.new.out c.activate_subscription.new.self c.activate_subscription.new.out (λ d token. after_activation d token c.args.context.now.at c.args.sub n)) is follows))
+    refreshes_follows c.args.context.now.at c.args.key c.args.request.now c.args.sub s c.respond-done.new.self c.args.out.now c.respond-done.new.out c.refresh.new.self boxes answers
+    c.activate_subscription.new.self c.activate_subscription.new.out
+    (subst (λ (n : ℕ). Follows c.respond-done.new.self c.respond-done.new.out c.activate_subscription.new.self c.activate_subscription.new.out
+    (λ d token. after_activation d token c.args.context.now.at c.args.sub n)) is follows))
     c.activate_subscription.ensures.done
 
 pub returns-clause-err : goal.returns-clause-err

@@ -13,7 +13,8 @@ pub returns-clause-done : goal.returns-clause-done
 returns-clause-done g c = on_ok_weaker c.send_response-done.result (λ follows.
     let s = c.args.self.now in
     let said = c.args.newcomer.now.invite.now in
-    follows_so c.in_ok-response.response (λ d w. response_to d.sip c.args.newcomer.now.tag.now said (plain_response c.args.code)) (λ (m : Message Start) d token. with_emit c.args.context.now.at (emit.Reply c.args.newcomer.now.key m)) s c.args.out.now
+    follows_so c.in_ok-response.response (λ d w. response_to d.sip c.args.newcomer.now.tag.now said (plain_response c.args.code))
+    (λ (m : Message Start) d token. with_emit c.args.context.now.at (emit.Reply c.args.newcomer.now.key m)) s c.args.out.now
     (λ d token w have.
     c.in_ok-response.ensures.message
     ∙ (ap (λ (a : StatusResponse). response_to s.directory.sip c.bytes.result.now said a) c.plain_response.ensures.response

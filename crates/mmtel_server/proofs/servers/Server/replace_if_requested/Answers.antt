@@ -8,7 +8,8 @@ use Rattle.mmtel_server.specs.Follows.{AddsOfferPrefix, Follows}
 
 pub returns-in-None-clause-done : goal.returns-in-None-clause-done
 returns-in-None-clause-done g c =
-    subst (λ (o : Option Replaces). Follows c.args.self.now c.args.out.now c.args.self.now c.args.out.now (λ d token. after_replaces d token c.args.context.now.at c.args.peer c.args.participant.room c.args.participant.number o)) (sym c.in-None.is)
+    subst (λ (o : Option Replaces). Follows c.args.self.now c.args.out.now c.args.self.now c.args.out.now
+    (λ d token. after_replaces d token c.args.context.now.at c.args.peer c.args.participant.room c.args.participant.number o)) (sym c.in-None.is)
     (rests c.args.self.now c.args.out.now)
 
 pub returns-in-Some-clause-done : goal.returns-in-Some-clause-done

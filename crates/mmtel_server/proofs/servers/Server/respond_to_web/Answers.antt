@@ -8,12 +8,14 @@ use Rattle.mmtel_server.proofs.servers.Server.respond_to_web.Goals as goal
 
 pub returns-in_err-reserve_reply-clause-aborted : goal.returns-in_err-reserve_reply-clause-aborted
 returns-in_err-reserve_reply-clause-aborted g c =
-    same_if_not_called c.from_residual.result (keeper_call_in c.args.self.now.directory.names (request_of c.args.bytes.now)) (g.K.Keeper.contents c.args.keeper.now) (g.K.Keeper.calls c.args.keeper.now) (g.K.Keeper.faults c.args.keeper.now)
+    same_if_not_called c.from_residual.result (keeper_call_in c.args.self.now.directory.names (request_of c.args.bytes.now)) (g.K.Keeper.contents c.args.keeper.now)
+    (g.K.Keeper.calls c.args.keeper.now) (g.K.Keeper.faults c.args.keeper.now)
 
 pub returns-in-Ok-clause-done : goal.returns-in-Ok-clause-done
 returns-in-Ok-clause-done g c =
     let added : c.put_reply.new.out ≡ c.args.out.now ++ offer.Web c.ms-in-Ok.result c.in-Ok.field-0.reply ∷ [] =
-    put_behind c.args.out.now c.reserve_reply.new.out c.put_reply.new.out (offer.Web c.ms.result []) (offer.Web c.ms-in-Ok.result c.in-Ok.field-0.reply) (length c.items-position.result.now) c.in_ok-reserve_reply.ensures.done (ap length c.items-position.ensures) c.put_reply.ensures
+    put_behind c.args.out.now c.reserve_reply.new.out c.put_reply.new.out (offer.Web c.ms.result []) (offer.Web c.ms-in-Ok.result c.in-Ok.field-0.reply)
+    (length c.items-position.result.now) c.in_ok-reserve_reply.ensures.done (ap length c.items-position.ensures) c.put_reply.ensures
     in λ directory token before state did short. record {
       represents = record {
         same_directory = did.represents.same_directory;

@@ -23,7 +23,8 @@ returns-in-Some-clause-done g c = on_ok_weaker c.refuse_subscribe.result (λ fol
 
 pub returns-in-Some-clause-err : goal.returns-in-Some-clause-err
 returns-in-Some-clause-err g c =
-    stops_on c.refuse_subscribe.result (λ d token. after_refresh_by d token c.args.context.now.at c.args.key c.args.request.now c.args.sub (refusal (subscribe_request_of d true c.args.request.now.parsed))) c.args.self.now
+    stops_on c.refuse_subscribe.result
+    (λ d token. after_refresh_by d token c.args.context.now.at c.args.key c.args.request.now c.args.sub (refusal (subscribe_request_of d true c.args.request.now.parsed))) c.args.self.now
     c.args.out.now c.refuse_subscribe.new.out (λ d token w. refreshes_grows d token c.args.context.now.at c.args.key c.args.request.now c.args.sub (refusal (subscribe_request_of d true c.args.request.now.parsed)) w)
     c.refuse_subscribe.ensures.err
 
@@ -31,7 +32,8 @@ pub returns-in-None-clause-done : goal.returns-in-None-clause-done
 returns-in-None-clause-done g c = on_ok_weaker c.refresh_subscription.result (λ follows.
     let s = c.args.self.now in
     let P = Follows s c.args.out.now c.refresh_subscription.new.self c.refresh_subscription.new.out in
-    refreshing_so s P (follows_reads s c.args.out.now c.refresh_subscription.new.self c.refresh_subscription.new.out) c.args.context.now.at c.args.key c.args.request.now c.args.sub c.in_ok-code.field-0 c.in_ok-code.ensures.first
+    refreshing_so s P (follows_reads s c.args.out.now c.refresh_subscription.new.self c.refresh_subscription.new.out) c.args.context.now.at c.args.key c.args.request.now c.args.sub
+    c.in_ok-code.field-0 c.in_ok-code.ensures.first
     (subst (λ (o : Option ℕ). P (λ d token. after_refresh_by d token c.args.context.now.at c.args.key c.args.request.now c.args.sub o)) (sym c.in-None.is) follows))
     c.refresh_subscription.ensures.done
 

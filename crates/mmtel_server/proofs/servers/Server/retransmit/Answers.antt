@@ -8,6 +8,7 @@ use Rattle.mmtel_server.specs.Follows.{Follows}
 
 pub returns-in-Some-clause-done : goal.returns-in-Some-clause-done
 returns-in-Some-clause-done c =
-    subst (λ (x : Option (Peer × List ℕ)). OnOk c.send_text.result (Follows c.args.self.now c.args.out.now c.send_text.new.self c.send_text.new.out (λ d token. with_retransmission c.args.context.now.at x))) (sym c.in-Some.is)
+    subst (λ (x : Option (Peer × List ℕ)). OnOk c.send_text.result (Follows c.args.self.now c.args.out.now c.send_text.new.self c.send_text.new.out (λ d token. with_retransmission c.args.context.now.at x)))
+    (sym c.in-Some.is)
     (subst (λ (t : List ℕ). OnOk c.send_text.result
     (Follows c.args.self.now c.args.out.now c.send_text.new.self c.send_text.new.out (λ d token. with_emit c.args.context.now.at (emit.Plain c.in-Some.peer t)))) c.bytes.ensures c.send_text.ensures.done)

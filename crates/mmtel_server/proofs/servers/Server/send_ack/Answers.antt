@@ -8,7 +8,8 @@ use Rattle.mmtel_server.proofs.servers.Server.send_ack.Goals as goal
 
 pub returns-clause-done : goal.returns-clause-done
 returns-clause-done g c = on_ok_weaker c.offer_to_peer.result (λ offered d token before w did short.
-    sent_to (DidAck c.args.key.0 c.args.message.now) c.args.self.now c.take_outgoing-text.new.self c.args.out.now c.offer_to_peer.new.out c.args.key.0 c.args.context.now.at c.take_outgoing-text.result (message_text c.args.message.now) c.peer-peer.result
+    sent_to (DidAck c.args.key.0 c.args.message.now) c.args.self.now c.take_outgoing-text.new.self c.args.out.now c.offer_to_peer.new.out c.args.key.0 c.args.context.now.at c.take_outgoing-text.result
+    (message_text c.args.message.now) c.peer-peer.result
     (λ h st. c.take_outgoing-text.ensures.represents (DidAck c.args.key.0 c.args.message.now ∷ h) (c.in_ok-ack.ensures.done h st))
     c.peer-peer.ensures.live
     (c.take_outgoing-text.ensures.text ∙ c.in_ok-ack.ensures.offered)

@@ -13,10 +13,12 @@ returns-in_err-emits-clause-err g c = on_err c.from_residual.result _
 
 pub returns-clause-done : goal.returns-clause-done
 returns-clause-done g c = on_ok_weaker c.emit_all-done.result (λ follows.
-    housed_follows (λ d token w. Notifies c.args.participant.room.0 c.args.participant.number c.args.code (tokens_now token w)) c.args.self.now c.make_refer_notify.new.self c.in_ok-emits.emits c.items.result.now c.args.context.now.at c.args.out.now c.emit_all-done.new.out
+    housed_follows (λ d token w. Notifies c.args.participant.room.0 c.args.participant.number c.args.code (tokens_now token w)) c.args.self.now c.make_refer_notify.new.self c.in_ok-emits.emits
+    c.items.result.now c.args.context.now.at c.args.out.now c.emit_all-done.new.out
     c.items.ensures c.in_ok-emits.ensures c.emit_all-done.new.self follows) c.emit_all-done.ensures.done
 
 pub returns-clause-err : goal.returns-clause-err
 returns-clause-err g c = on_err_weaker c.emit_all-done.result (λ breaks.
-    housed_breaks (λ d token w. Notifies c.args.participant.room.0 c.args.participant.number c.args.code (tokens_now token w)) c.args.self.now c.make_refer_notify.new.self c.in_ok-emits.emits c.items.result.now c.args.context.now.at c.args.out.now c.emit_all-done.new.out
+    housed_breaks (λ d token w. Notifies c.args.participant.room.0 c.args.participant.number c.args.code (tokens_now token w)) c.args.self.now c.make_refer_notify.new.self c.in_ok-emits.emits
+    c.items.result.now c.args.context.now.at c.args.out.now c.emit_all-done.new.out
     c.items.ensures c.in_ok-emits.ensures breaks) c.emit_all-done.ensures.err

@@ -31,10 +31,12 @@ returns-in-Ok-clause-done g c =
       continues = subst (λ (b : Bool). ContinuesRun s c.args.out.now (record (c.step_unfailed-done.new.self) { failed = b }) c.step_unfailed-done.new.out one) (sym whole)
           (goes_on s c.step_unfailed-done.new.self c.args.out.now c.step_unfailed-done.new.out one c.enough_firings_exist.ensures.always (IfOk-at_ok _ c.in-Ok.is c.step_unfailed-done.ensures.done));
       adds = subst (λ (b : Bool). ContinuesServing s c.args.out.now (record (c.step_unfailed-done.new.self) { failed = b }) c.step_unfailed-done.new.out one) (sym whole)
-          (adds_on c.offers_are_added.ensures.events c.offers_are_added.ensures.deadlines s c.step_unfailed-done.new.self c.args.out.now c.step_unfailed-done.new.out one c.enough_firings_exist.ensures.always (IfOk-at_ok _ c.in-Ok.is c.step_unfailed-done.ensures.done));
+          (adds_on c.offers_are_added.ensures.events c.offers_are_added.ensures.deadlines s c.step_unfailed-done.new.self c.args.out.now c.step_unfailed-done.new.out one
+          c.enough_firings_exist.ensures.always (IfOk-at_ok _ c.in-Ok.is c.step_unfailed-done.ensures.done));
       between = went.between;
       asks = asked_then c.offers_are_added.ensures.events c.offers_are_added.ensures.deadlines s c.args.out.now one
-          (λ (x : Directory). IsKeeperResult (call_of x.names c.args.event.now) (keeper_outcome_view a.0.outcome) a.0.rows (g.K.Keeper.contents c.args.keeper.now) went.between.contents (g.K.Keeper.calls c.args.keeper.now) went.between.calls)
+          (λ (x : Directory). IsKeeperResult (call_of x.names c.args.event.now) (keeper_outcome_view a.0.outcome) a.0.rows (g.K.Keeper.contents c.args.keeper.now) went.between.contents
+          (g.K.Keeper.calls c.args.keeper.now) went.between.calls)
           c.enough_firings_exist.ensures.always went.asks;
       counts = went.counts;
       rows_wait = waited_in c.offers_are_added.ensures.events c.offers_are_added.ensures.deadlines s c.args.out.now one went.waiting went.rows_wait;

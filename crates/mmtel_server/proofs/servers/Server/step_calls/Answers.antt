@@ -14,7 +14,9 @@ returns-in-Ok c = λ directory token before out state did.
     directory token before out s state did c.view.ensures.agrees c.args.context.now.at c.args.signal
     c.signal.new.self c.collect_rows_of_calls.new.calls c.signal.new.tokens c.in-Ok.emits c.collect_rows_of_calls.new.waiting
     (subst (λ (v : SheetsInForce). (ops : List TableOp) → Represents peers accounts s.calls ops → Represents peers accounts c.signal.new.self (Receives (received v) ∷ ops)) c.view.ensures.all c.in-Ok.ensures.done)
-    (subst (λ (v : SheetsInForce). (ops : List TableOp) → Represents peers accounts s.calls ops → c.in-Ok.emits ≡ (step_on_receive_after (config_of s.calls peers accounts) ops (received v)).output.out) c.view.ensures.all c.in-Ok.ensures.emits)
-    (subst (λ (v : SheetsInForce). (ops : List TableOp) → Represents peers accounts s.calls ops → c.signal.new.tokens ≡ (step_on_receive_after (config_of s.calls peers accounts) ops (received v)).output.tokens) c.view.ensures.all c.in-Ok.ensures.tokens)
+    (subst (λ (v : SheetsInForce). (ops : List TableOp) → Represents peers accounts s.calls ops → c.in-Ok.emits ≡ (step_on_receive_after (config_of s.calls peers accounts) ops (received v)).output.out)
+    c.view.ensures.all c.in-Ok.ensures.emits)
+    (subst (λ (v : SheetsInForce). (ops : List TableOp) → Represents peers accounts s.calls ops → c.signal.new.tokens ≡ (step_on_receive_after (config_of s.calls peers accounts) ops (received v)).output.tokens)
+    c.view.ensures.all c.in-Ok.ensures.tokens)
     c.in-Ok.ensures.config
     c.in_ok-collect_rows_of_calls-in-Ok.ensures.waiting c.in_ok-collect_rows_of_calls-in-Ok.ensures.done c.in_ok-collect_rows_of_calls-in-Ok.ensures.config

@@ -10,7 +10,8 @@ use Rattle.mmtel_server.specs.Follows.{after_call_operation, output_of_signal}
 pub returns-in_err-emits-clause-err : goal.returns-in_err-emits-clause-err
 returns-in_err-emits-clause-err g c =
     on_err c.from_residual.result _
-    (stops (λ d token. after_call_signal d token c.args.context.now.at c.args.signal) c.args.self.now c.args.out.now c.args.out.now (λ d token w. grows_on_signal c.numbers_never_fall.ensures d token c.args.context.now.at c.args.signal w) refl)
+    (stops (λ d token. after_call_signal d token c.args.context.now.at c.args.signal) c.args.self.now c.args.out.now c.args.out.now
+    (λ d token w. grows_on_signal c.numbers_never_fall.ensures d token c.args.context.now.at c.args.signal w) refl)
 
 pub returns-clause-done : goal.returns-clause-done
 returns-clause-done g c =

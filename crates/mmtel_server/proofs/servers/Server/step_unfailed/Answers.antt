@@ -27,7 +27,8 @@ returns-clause-keeper g c = IfOk-weaker c.step_at.result _ _ (λ a came.
       waiting = came.waiting;
       between = came.between;
       asks = λ d token before w fuel did ready short.
-          subst (λ (x : Directory). IsKeeperResult (call_of x.names c.args.event.now) (keeper_outcome_view a.0.outcome) a.0.rows (g.K.Keeper.contents c.args.keeper.now) came.between.contents (g.K.Keeper.calls c.args.keeper.now) came.between.calls)
+          subst (λ (x : Directory). IsKeeperResult (call_of x.names c.args.event.now) (keeper_outcome_view a.0.outcome) a.0.rows (g.K.Keeper.contents c.args.keeper.now) came.between.contents
+          (g.K.Keeper.calls c.args.keeper.now) came.between.calls)
           (directory_there c.numbers_never_fall.ensures c.args.self.now c.fire_all_due.new.self c.args.out.now c.fire_all_due.new.out one c.later_moment-clock.result clock
           c.in_ok-fire_all_due.ensures.done fuel d token before w did ready short) came.asks;
       counts = came.counts;

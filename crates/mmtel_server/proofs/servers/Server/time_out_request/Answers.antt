@@ -28,7 +28,8 @@ returns-in-Calls-clause-err g c = on_err_weaker c.signal_calls.result (λ holds.
     (sent_of c.args.self.now (owner_in c.owner_of_branch-whose.result) _ _ _ _ (c.timed_out_branch.ensures ∙ (ap (λ (l : List ℕ). timed_out_branch l c.bytes-2.result.now) c.bytes.ensures ∙ ap (λ
     (l : List ℕ). timed_out_branch c.args.branch l) c.bytes-2.ensures))
     (c.behind_cookie.ensures.behind ∙ ap behind_cookie c.bytes-3.ensures) c.owner_of_branch-whose.ensures) c.signal_calls.new.out
-    (subst (λ (x : declared.Owner). AddsOfferPrefix c.args.self.now c.args.out.now c.signal_calls.new.out (λ d token w. after_request_timeout d token c.args.context.now.at c.args.branch c.args.method (owner_in x) w)) (sym c.in-Calls.is) holds))
+    (subst (λ (x : declared.Owner). AddsOfferPrefix c.args.self.now c.args.out.now c.signal_calls.new.out (λ d token w. after_request_timeout d token c.args.context.now.at c.args.branch c.args.method (owner_in x) w))
+    (sym c.in-Calls.is) holds))
     c.signal_calls.ensures.err
 
 pub returns-in-Conferences-clause-done : goal.returns-in-Conferences-clause-done
@@ -38,7 +39,8 @@ returns-in-Conferences-clause-done g c = on_ok_weaker c.signal_conferences.resul
     (sent_of c.args.self.now (owner_in c.owner_of_branch-whose.result) _ _ _ _ (c.timed_out_branch.ensures ∙ (ap (λ (l : List ℕ). timed_out_branch l c.bytes-2.result.now) c.bytes.ensures ∙ ap (λ
     (l : List ℕ). timed_out_branch c.args.branch l) c.bytes-2.ensures))
     (c.behind_cookie.ensures.behind ∙ ap behind_cookie c.bytes-3.ensures) c.owner_of_branch-whose.ensures) c.signal_conferences.new.self c.signal_conferences.new.out
-    (subst (λ (x : declared.Owner). Follows c.args.self.now c.args.out.now c.signal_conferences.new.self c.signal_conferences.new.out (λ d token w. after_request_timeout d token c.args.context.now.at c.args.branch c.args.method
+    (subst (λ (x : declared.Owner). Follows c.args.self.now c.args.out.now c.signal_conferences.new.self c.signal_conferences.new.out
+    (λ d token w. after_request_timeout d token c.args.context.now.at c.args.branch c.args.method
     (owner_in x) w)) (sym c.in-Conferences.is) holds))
     c.signal_conferences.ensures.done
 
@@ -49,7 +51,8 @@ returns-in-Conferences-clause-err g c = on_err_weaker c.signal_conferences.resul
     (sent_of c.args.self.now (owner_in c.owner_of_branch-whose.result) _ _ _ _ (c.timed_out_branch.ensures ∙ (ap (λ (l : List ℕ). timed_out_branch l c.bytes-2.result.now) c.bytes.ensures ∙ ap (λ
     (l : List ℕ). timed_out_branch c.args.branch l) c.bytes-2.ensures))
     (c.behind_cookie.ensures.behind ∙ ap behind_cookie c.bytes-3.ensures) c.owner_of_branch-whose.ensures) c.signal_conferences.new.out
-    (subst (λ (x : declared.Owner). AddsOfferPrefix c.args.self.now c.args.out.now c.signal_conferences.new.out (λ d token w. after_request_timeout d token c.args.context.now.at c.args.branch c.args.method (owner_in x) w)) (sym
+    (subst (λ (x : declared.Owner). AddsOfferPrefix c.args.self.now c.args.out.now c.signal_conferences.new.out
+    (λ d token w. after_request_timeout d token c.args.context.now.at c.args.branch c.args.method (owner_in x) w)) (sym
     c.in-Conferences.is) holds))
     c.signal_conferences.ensures.err
 

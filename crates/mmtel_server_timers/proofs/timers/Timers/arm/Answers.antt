@@ -29,7 +29,8 @@ pub invariant_of-self-2 : goal.invariant_of-self-2
 invariant_of-self-2 g c =
     record {
       timers = subst (λ (r : Ranks). TimersInvariant (c.self.inside.next + 1) c.args.timer.step r c.insert.new.self.entries) (sym c.in-Ok-arm.ensures.ok)
-          (subst (λ (l : List NumberedTimer). TimersInvariant (c.self.inside.next + 1) c.args.timer.step (in_rank c.rank.result (after_arming c.args.timer.at (key_of c.self.inside.next)) c.self.inside.ranks) l) (sym c.in-Ok.ensures.entries)
+          (subst (λ (l : List NumberedTimer). TimersInvariant (c.self.inside.next + 1) c.args.timer.step (in_rank c.rank.result (after_arming c.args.timer.at (key_of c.self.inside.next)) c.self.inside.ranks) l)
+          (sym c.in-Ok.ensures.entries)
           (kept_more c.self.inside.next c.self.inside.step c.self.inside.ranks c.self.inside.pending.entries c.self.invariant.timers c.args.timer c.rank.result c.rank.ensures c.if-timer-self.false));
       earliest = c.earliest_timer-self-inside.ensures;
     }

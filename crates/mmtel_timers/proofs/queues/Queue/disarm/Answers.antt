@@ -10,7 +10,8 @@ pub invariant_of-self : goal.invariant_of-self
 invariant_of-self c =
     subst (λ (l : List Queued). IsQueueState c.self.inside.armed l c.remove-turn.new.self.entries) (sym c.remove_position.ensures.removed)
     (kept_disarmed c.self.inside.armed c.args.key c.self.inside.queue.entries c.self.inside.positions.entries c.self.invariant c.remove-turn.result c.remove-turn.ensures.value
-    c.remove-turn.new.self.entries (subst (λ (l : List Queued). IsStrictlySortedBy queue_position_cmp (keys_of l)) c.remove_position.ensures.removed c.remove_position.ensures.sorted) (λ k. c.remove-turn.ensures.updates.0 k))
+    c.remove-turn.new.self.entries (subst (λ (l : List Queued). IsStrictlySortedBy queue_position_cmp (keys_of l)) c.remove_position.ensures.removed c.remove_position.ensures.sorted)
+    (λ k. c.remove-turn.ensures.updates.0 k))
 
 pub returns : goal.returns
 returns c =

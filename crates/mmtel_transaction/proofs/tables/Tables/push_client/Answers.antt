@@ -17,13 +17,15 @@ invariant_of-self-in-Ok-push_back g c =
     let es = unboxed_items c.self.inside.entries.items in
     let more = ap unboxed_items c.in-Ok-push_back.ensures.items ∙ (push_unboxed c.self.inside.entries.items c.in_ok-entry.entry ∙ ap (λ e. es ++ e ∷ []) c.in_ok-entry.ensures.value) in
     subst (λ xs. AreTables xs c.self.inside.servers c.insert_match.new.names c.self.inside.calls c.insert_deadline.new.due) (sym more)
-    (pushed_client c.args.entry es c.self.inside.servers c.self.inside.clients c.self.inside.calls c.self.inside.due c.insert_deadline.new.due c.deadline_key_of-waits.result c.in_ok-due.due c.self.invariant (λ x h. c.requires.above x (subst (λ xs. Has x xs) c.self.view_is h)) c.deadline_key_of-waits.ensures c.in_ok-due.ensures.ok
+    (pushed_client c.args.entry es c.self.inside.servers c.self.inside.clients c.self.inside.calls c.self.inside.due c.insert_deadline.new.due c.deadline_key_of-waits.result c.in_ok-due.due
+    c.self.invariant (λ x h. c.requires.above x (subst (λ xs. Has x xs) c.self.view_is h)) c.deadline_key_of-waits.ensures c.in_ok-due.ensures.ok
     c.insert_match.new.names c.in_ok-name.name c.in-Ok.client c.requires.kind c.in_ok-name.ensures.name c.in-Ok.ensures.ok)
 
 pub invariant_of-self-in-Err-push_back : goal.invariant_of-self-in-Err-push_back
 invariant_of-self-in-Err-push_back g c =
     let es = unboxed_items c.self.inside.entries.items in
-    let due = undone deadline_cmp c.deadline_key_of-waits.result c.in_ok-due.due c.self.inside.due c.insert_deadline.new.due c.remove-in-Err-push_back.new.self c.in_ok-due.ensures.ok c.remove-in-Err-push_back.ensures.rest in
+    let due = undone deadline_cmp c.deadline_key_of-waits.result c.in_ok-due.due c.self.inside.due c.insert_deadline.new.due c.remove-in-Err-push_back.new.self c.in_ok-due.ensures.ok
+    c.remove-in-Err-push_back.ensures.rest in
     let clients = undone match_cmp c.in_ok-name.name c.in-Ok.client c.self.inside.clients c.insert_match.new.names c.remove-in-Err-push_back-2.new.self c.in-Ok.ensures.ok c.remove-in-Err-push_back-2.ensures.rest in
     subst (λ xs. AreTables xs c.self.inside.servers c.remove-in-Err-push_back-2.new.self c.self.inside.calls c.remove-in-Err-push_back.new.self) (sym (ap unboxed_items c.in-Err-push_back.ensures.items))
     (subst (λ cs. AreTables es c.self.inside.servers cs c.self.inside.calls c.remove-in-Err-push_back.new.self) (sym clients)
@@ -32,4 +34,5 @@ invariant_of-self-in-Err-push_back g c =
 pub returns-clause-ok : goal.returns-clause-ok
 returns-clause-ok g c =
     let es = unboxed_items c.self.inside.entries.items in
-    ap unboxed_items c.in-Ok-push_back.ensures.items ∙ (push_unboxed c.self.inside.entries.items c.in_ok-entry.entry ∙ (ap (λ e. es ++ e ∷ []) c.in_ok-entry.ensures.value ∙ ap (λ xs. xs ++ c.args.entry ∷ []) c.self.view_is))
+    ap unboxed_items c.in-Ok-push_back.ensures.items
+    ∙ (push_unboxed c.self.inside.entries.items c.in_ok-entry.entry ∙ (ap (λ e. es ++ e ∷ []) c.in_ok-entry.ensures.value ∙ ap (λ xs. xs ++ c.args.entry ∷ []) c.self.view_is))

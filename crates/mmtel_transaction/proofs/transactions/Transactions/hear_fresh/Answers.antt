@@ -12,7 +12,8 @@ use Rattle.mmtel_transaction.proofs.transactions.Transactions.hear_fresh.Goals a
 pub returns-clause-done : goal.returns-clause-done
 returns-clause-done g c q h room st taken =
     let old = c.args.self.now in (
-      represents_open (DidHear c.args.peer c.args.message c.args.now Fresh) h c.args.self.now _ (λ s i k. new_server_entry s k c.args.peer (head_of c.args.message) c.args.now) st room (taken, st.run) st.send_count c.saturating_add-self.ensures refl
+      represents_open (DidHear c.args.peer c.args.message c.args.now Fresh) h c.args.self.now _ (λ s i k. new_server_entry s k c.args.peer (head_of c.args.message) c.args.now) st room
+          (taken, st.run) st.send_count c.saturating_add-self.ensures refl
           (c.in_ok-push.ensures.ok ∙ ap (λ e. c.args.self.now.entries ++ e ∷ []) (c.new_server_entry.ensures ∙ ap (λ m. new_server_entry old.step old.next c.args.peer m c.args.now) q))
           refl refl (λ e. refl),
       ap Some (c.opening_result.ensures

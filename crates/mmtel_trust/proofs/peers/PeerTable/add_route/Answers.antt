@@ -10,7 +10,8 @@ pub invariant_of-self-in_err-push : goal.invariant_of-self-in_err-push
 invariant_of-self-in_err-push c =
     let before : Peers = record { known = c.self.inside.peers; routes = c.self.inside.routes } in
     let wide : c.self.inside.bound ≤ c.wider_bound-self-inside.result = c.wider_bound-self-inside.ensures.before in
-    subst (λ (rs : List Route). IsPeerTableState (record { known = c.self.inside.peers; routes = rs }) c.self.inside.by_number c.self.inside.by_addr c.add.new.self c.wider_bound-self-inside.result) (sym c.in_err-push.ensures.err)
+    subst (λ (rs : List Route). IsPeerTableState (record { known = c.self.inside.peers; routes = rs }) c.self.inside.by_number c.self.inside.by_addr c.add.new.self c.wider_bound-self-inside.result)
+    (sym c.in_err-push.ensures.err)
     (kept_by_name before c.name_hash.result (length c.items-place.result.now) c.self.inside.by_number c.self.inside.by_addr c.self.inside.by_name c.add.new.self c.self.inside.bound c.wider_bound-self-inside.result
     c.self.invariant c.in_ok-add.ensures.ok wide)
 
@@ -22,6 +23,8 @@ invariant_of-self-2 c =
     let last : length c.items-place.result.now ≡ length c.self.inside.routes = ap length c.items-place.ensures in
     let wide : c.self.inside.bound ≤ c.wider_bound-self-inside.result = c.wider_bound-self-inside.ensures.before in
     let fits : length c.args.name ≤ c.wider_bound-self-inside.result = subst (λ (s : List ℕ). length s ≤ c.wider_bound-self-inside.result) c.bytes-3.ensures c.wider_bound-self-inside.ensures.more in
-    subst (λ (rs : List Route). IsPeerTableState (record { known = c.self.inside.peers; routes = rs }) c.self.inside.by_number c.self.inside.by_addr c.add.new.self c.wider_bound-self-inside.result) (sym c.in_ok-push.ensures.ok)
-    (route_more before c.args.name c.args.peer c.name_hash.result (length c.items-place.result.now) c.self.inside.by_number c.self.inside.by_addr c.self.inside.by_name c.add.new.self c.self.inside.bound c.wider_bound-self-inside.result
+    subst (λ (rs : List Route). IsPeerTableState (record { known = c.self.inside.peers; routes = rs }) c.self.inside.by_number c.self.inside.by_addr c.add.new.self c.wider_bound-self-inside.result)
+    (sym c.in_ok-push.ensures.ok)
+    (route_more before c.args.name c.args.peer c.name_hash.result
+    (length c.items-place.result.now) c.self.inside.by_number c.self.inside.by_addr c.self.inside.by_name c.add.new.self c.self.inside.bound c.wider_bound-self-inside.result
     c.self.invariant there hash last c.in_ok-add.ensures.ok wide fits)

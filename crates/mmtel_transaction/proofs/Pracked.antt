@@ -7,10 +7,8 @@ use Rattle.std.proofs.lemmas.Option.{none-some, same_Some}
 use Rattle.mmtel_base.specs.Chain.{◌>>=◌}
 use Rattle.mmtel_base.specs.Numbers.{number_of}
 use Rattle.mmtel_types.specs.declared.numbers.Peer.{Peer}
-use Rattle.mmtel_message.specs.Fields.{five_at}
 use Rattle.mmtel_message.specs.Message.{Message, first_value}
 use Rattle.mmtel_message.specs.Texts.{message_text}
-use Rattle.mmtel_message.specs.declared.fields.Five.{Five}
 use Rattle.mmtel_message.specs.declared.messages.Start.{Start}
 use Rattle.mmtel_timers.specs.Schedules.{moments_of}
 use Rattle.mmtel_timers.specs.Shelves.{Has}
@@ -18,25 +16,26 @@ use Rattle.mmtel_timers.specs.declared.schedules.Schedule.TheVariants as schedul
 use Rattle.mmtel_transaction.specs.declared.heads.Head.{Head}
 use Rattle.mmtel_transaction.specs.declared.entries.TransactionTimer.{TransactionTimer}
 use Rattle.mmtel_transaction.specs.declared.entries.Entry.{Entry}
-use Rattle.mmtel_transaction.specs.declared.entries.State.TheVariants.{Proceeding, SlowProceeding, Completed, Absorbing}
+use Rattle.mmtel_transaction.specs.declared.entries.State.TheVariants.{Absorbing}
 use Rattle.mmtel_transaction.specs.declared.entries.ReliableResponse.{ReliableResponse}
 use Rattle.mmtel_transaction.specs.declared.message_class.MessageClass.{MessageClass}
 use Rattle.mmtel_transaction.specs.declared.message_class.MessageClass.TheVariants as part
 use Rattle.mmtel_transaction.specs.declared.words.Due.TheVariants as due
-use Rattle.mmtel_transaction.specs.Heads.{code_of, head_of, head_with, is_invite, is_provisional, is_refusal, reliable_number}
-use Rattle.mmtel_transaction.specs.Deadlines.{timer_of, scheduled_moment, deadline, is_ending, foremost_in, is_untimed, last_deadline, message_due, state_retransmission_at, retransmission_at, step_due, order_due}
-use Rattle.mmtel_transaction.specs.Changes.{after_failure_ack, after_ack_2xx, reliable_response_of, after_response, after_timer, after_timer_by, after_final, is_ack_of}
+use Rattle.mmtel_transaction.specs.Heads.{code_of, head_of, is_invite, is_provisional, reliable_number}
+use Rattle.mmtel_transaction.specs.Deadlines.{timer_of, scheduled_moment, deadline, is_ending, foremost_in, is_untimed, last_deadline, message_due, state_retransmission_at, step_due, order_due}
+use Rattle.mmtel_transaction.specs.Changes.{after_failure_ack, reliable_response_of, after_response, after_timer, after_timer_by, after_final, is_ack_of}
 use Rattle.mmtel_transaction.specs.Changes.{with_kept_ack, after_any_reply, after_provisional, after_reply, after_retransmission, after_settling, with_reliable_if, without_rseq}
 use Rattle.mmtel_transaction.specs.Operations.{TransactionOp, DidBegin, DidHear, DidAsk, DidReply, DidAck, DidFire, DidSettle, change, opened_on_receipt, is_live, live, send_count, openings, opens, step_of}
-use Rattle.mmtel_transaction.specs.Results.{DueEntryView, by_key, class_of, due_result, next_due, retransmitted_text, text_by, tkey}
+use Rattle.mmtel_transaction.specs.Results.{DueEntryView, by_key, class_of, due_result, next_due, text_by, tkey}
 use Rattle.mmtel_transaction.specs.Runs.{IsNextOf, IsRun}
-use Rattle.mmtel_transaction.specs.Pracks.{FinalsEndReliable, IsRetransmitted, IsUnanswered, ReliableAreRetransmitted, ReliableGoOn, SentReliableWait}
+use Rattle.mmtel_transaction.specs.Pracks.{FinalsEndReliable, IsUnanswered, ReliableAreRetransmitted, ReliableGoOn, SentReliableWait}
 use Rattle.mmtel_transaction.specs.Pracks.{SettledAreGone, WaitsAt, ends_reliable, fires_reliable, is_place, retransmitted_if, settles}
 use Rattle.mmtel_transaction.proofs.Acks.{final_done, of_2xx, sound}
 use Rattle.mmtel_transaction.proofs.Among.{not_acked}
 use Rattle.mmtel_transaction.proofs.Before.{not_less}
 use Rattle.mmtel_transaction.proofs.Foremost.{answers_in, fired_answer, foremost_there, its_moment, no_alarm, none_before, retransmitted, retransmitted_at, timer_in, timer_there, which}
 use Rattle.mmtel_transaction.proofs.Having.{at_key, has_live, has_more, has_more_back, of_key, run_before, same_entry}
+use Rattle.mmtel_transaction.proofs.Identified.{status_is}
 use Rattle.mmtel_transaction.proofs.Lists.{keeps_answered, keeps_change}
 use Rattle.mmtel_transaction.proofs.Order.{is_next, none_due}
 use Rattle.mmtel_transaction.proofs.Repetition.{no_response}
@@ -236,14 +235,6 @@ pub finals_end : FinalsEndReliable
 finals_end h key e run q d = (is_open h run e (of_key h key e q).0).none (ne_eqb e.final_status 0 d)
 
 -- ---- a response with a number
-
-status_is : (m : Message Start) → (head_of m).status ≡ code_of m.start
-unfolding head_of
-status_is m = either (five_at m.lines)
-  where
-    either : (o : Option Five) → (head_with m.start o).status ≡ code_of m.start
-    either None = refl
-    either (Some five) = refl
 
 number_code : (m : Message Start) (own : ℕ) → reliable_number m ≡ Some own → nat_lt (code_of m.start) 200 ≡ true
 unfolding reliable_number

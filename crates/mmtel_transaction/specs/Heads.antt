@@ -69,6 +69,10 @@ head_by start ids = record {
 unfoldable pub head_of : Message Start → Head
 head_of m = head_with m.start (five_at m.lines)
 
+-- the To tag that a response leaves in its transaction: only a final one does
+abbrev pub recorded_tag : Message Start → List ℕ
+recorded_tag m = if is_provisional (head_of m).status then [] else (head_of m).to_tag
+
 -- the number of a reliable provisional response, by its first RSeq line (RFC 3262 §7.1)
 unfoldable pub reliable_number : Message Start → Option ℕ
 reliable_number m = if nat_le 101 (code_of m.start) && nat_lt (code_of m.start) 200 then first_value (codes "RSeq") m.lines >>= number_of 2147483647 else None

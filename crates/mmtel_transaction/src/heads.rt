@@ -1,10 +1,11 @@
 //! What the transactions read of a message.
 ghost use Rattle.std.specs.Prelude.{◌≡◌, [], IfOk, None};
 ghost use Rattle.std.specs.Option.{option_copied, unwrap_or};
-ghost use Rattle.mmtel_transaction.specs.Heads.{code_of, head_by, head_of, head_with, is_ack, is_cancel, is_invite, is_same_call, method_of, reliable_number};
+ghost use Rattle.mmtel_transaction.specs.Heads.{code_of, head_by, head_of, head_with, is_ack, is_cancel, is_invite, is_same_call, method_of, recorded_tag, reliable_number};
 
 use mmtel_base::{NoMemory, Text, number_up_to};
 use mmtel_message::{Identifiers, Msg, Start, five_ref, is_request};
+use mmtel_sip_rules::is_provisional;
 use std::alloc::Global;
 
 /// What the transactions read of a message.
@@ -105,22 +106,31 @@ fn head_by(alloc: Global, start: &Start, identifiers: &Identifiers<'_>) -> Resul
     })
 }
 
-/// The status and the To tag of a response, and nothing else of its head.
+/// The To tag of a response.
+#[tactic(auto, unfolding(crate::specs::Heads::head_of))]
+fn to_tag(alloc: Global, message: &Msg) -> Result<Text, NoMemory>
+    ensures { IfOk result (λ tag. tag ≡ (head_of message.now).to_tag) }
+{
+    match five_ref(&message.lines()) {
+        None => Ok(Text::new()),
+        Some(five) => or_empty(alloc, five.to().param(b"tag")),
+    }
+}
+
+/// The status of a response and the To tag that it leaves in its transaction, and nothing else of its head. The fields of a provisional response, which leaves none, are not read.
 ///
 /// # Errors
 ///
 /// Out of memory only.
-#[tactic(auto, unfolding(crate::specs::Heads::head_of))]
+#[tactic(auto, using(crate::proofs::Identified::status_is))]
 pub fn status_and_tag(alloc: Global, message: &Msg) -> Result<(u16, Text), NoMemory>
-    ensures { IfOk result (λ said. said ≡ ((head_of message.now).status, (head_of message.now).to_tag)) }
+    ensures { IfOk result (λ said. said ≡ ((head_of message.now).status, recorded_tag message.now)) }
 {
-    match five_ref(&message.lines()) {
-        None => Ok((code_of(message.start()), Text::new())),
-        Some(five) => {
-            let tag = or_empty(alloc, five.to().param(b"tag"))?;
-            Ok((code_of(message.start()), tag))
-        }
+    let status = code_of(message.start());
+    if is_provisional(status) {
+        return Ok((status, Text::new()));
     }
+    Ok((status, to_tag(alloc, message)?))
 }
 
 /// The greatest number of a reliable response (RFC 3262 §7.1).

@@ -135,8 +135,8 @@ fn invite_disposition_to(
     if is_factory(&directory.factory, target) {
         return audio_or_refusal(alloc, request, Disposition::OpenConference);
     }
-    if is_conference(alloc, directory.sip, target)? {
-        let room = conference_number(alloc, directory.sip, target)?;
+    if is_conference(alloc, directory.sip.addr(), target)? {
+        let room = conference_number(alloc, directory.sip.addr(), target)?;
         return audio_or_refusal(alloc, request, Disposition::JoinConference { room });
     }
     Ok(call_opening(is_full))

@@ -10,7 +10,7 @@ use crate::status_responses::StatusResponse;
 use mmtel_base::NoMemory;
 use mmtel_compose::{OwnResponse, ReceivedMessage, own_response, status_of};
 use mmtel_lex::name_addr_ref;
-use mmtel_message::{Msg, Reply, Start, response};
+use mmtel_message::{Msg, OwnAddress, Reply, Start, response};
 use mmtel_types::Addr;
 use std::alloc::Global;
 
@@ -41,7 +41,7 @@ pub fn is_untagged(message: &Msg) -> bool
 /// Out of memory only.
 pub fn response_to(
     alloc: Global,
-    sip: Addr,
+    sip: OwnAddress,
     tag: &[u8],
     request: &ReceivedMessage,
     status_response: &StatusResponse,

@@ -24,6 +24,7 @@ use mmtel_call::NotTalking;
 use mmtel_call_services::CallConfig;
 use mmtel_charging::Row;
 use mmtel_leg::{DialogName, Released};
+use mmtel_message::OwnAddress;
 use mmtel_output::StepOutput;
 use mmtel_sheet_values::SheetView;
 use mmtel_transaction::{Emits, TKey, Tokens};
@@ -36,7 +37,7 @@ use std::mem;
 /// The configuration for calls.
 #[derive(Drop)]
 struct Configuration {
-    sip: Addr,
+    sip: OwnAddress,
     home: Text,
     bound: u16,
     country: Option<Text>,
@@ -221,7 +222,7 @@ impl Calls {
     {
         Ok(Calls {
             configuration: Configuration {
-                sip,
+                sip: OwnAddress::of(sip),
                 home,
                 bound,
                 country,

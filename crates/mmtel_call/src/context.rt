@@ -2,7 +2,7 @@
 ghost use Rattle.std.specs.Prelude.{◌≡◌};
 
 use mmtel_call_services::{CallConfig, Snapshot};
-use mmtel_types::Addr;
+use mmtel_message::OwnAddress;
 use std::alloc::Global;
 
 /// The input of a step of a call, which is passed on unchanged: the allocator, the server's configuration, and the current state.
@@ -38,7 +38,7 @@ impl<'a> StepContext<'a> {
     }
 
     /// The server's address.
-    pub fn sip(&self) -> Addr
+    pub fn sip(&self) -> OwnAddress
         ensures { result ≡ self.now.config.now.sip }
     {
         let setting = self.config;

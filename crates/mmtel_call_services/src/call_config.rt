@@ -5,16 +5,17 @@ ghost use Rattle.mmtel_call_services.specs.CallConfig.{further_methods};
 use crate::busy::BusyCounts;
 use mmtel_base::Text;
 use mmtel_compose::FurtherMethods;
+use mmtel_message::OwnAddress;
 use mmtel_sheet_values::SheetView;
 use mmtel_trust::{Accounts, PeerTable};
-use mmtel_types::{Addr, Moment};
+use mmtel_types::Moment;
 use std::marker::Model;
 
 /// The server's configuration, as calls need it.
 #[derive(Drop)]
 pub struct CallConfig<'a> {
     /// The server's address.
-    pub sip: Addr,
+    pub sip: OwnAddress,
     /// The home domain.
     pub home: &'a [u8],
     /// The bound on diversions, at most 16.

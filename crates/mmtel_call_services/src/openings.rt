@@ -114,7 +114,7 @@ fn routes_of(
     ensures { IfOk result (λ routes. routes ≡ remaining_routes config.now.sip invite.now.parsed.routes) }
 {
     let values = line_texts(alloc, &invite.message.lines(), b"Route")?;
-    remaining_routes(alloc, config.sip, values)
+    remaining_routes(alloc, config.sip.addr(), values)
 }
 
 /// What is read as a call opens: the record of its caller's account, the kinds of media that it offers, and the Route values that are kept.

@@ -31,7 +31,7 @@ fn listen<L: Link>(directory: &Directory, link: &mut L) -> Result<(), Failed>
     ensures linked { OnOk result (IsLinked directory.now (link_state L.Link link.old) (link_state L.Link link.new)) }
     ensures failed { OnErr result (IsNotLinked directory.now (link_state L.Link link.old) (link_state L.Link link.new)) }
 {
-    link.bind(directory.sip, directory.web)
+    link.bind(directory.sip.addr(), directory.web)
 }
 
 /// The report once so many turns were done, the link was closed, or a turn failed: for a server of this configuration that was just made, over a link that was bound and a keeper

@@ -10,9 +10,9 @@ use mmtel_base::{List, NoMemory, Text, copied_texts};
 use mmtel_history::{with_cause, without_cause};
 use mmtel_leg::{Dialogue, request_numbered, request_uri};
 use mmtel_lex::{NameAddr, Uri, print_name_addr, print_uri};
-use mmtel_message::{Line, Msg, add_bytes, add_passed, is_request};
+use mmtel_message::{Line, Msg, OwnAddress, add_bytes, add_passed, is_request};
 use mmtel_trust::{attempt_from, display_and_uri, name_addr_in};
-use mmtel_types::{Addr, Peer, Side};
+use mmtel_types::{Peer, Side};
 use std::alloc::Global;
 
 /// The destination of an attempt.
@@ -207,7 +207,7 @@ fn attempt_lines(alloc: Global, passed: &[Line], waiting: bool) -> Result<List<L
 pub fn invite(
     alloc: Global,
     dialogue: &Dialogue,
-    sip: Addr,
+    sip: OwnAddress,
     branch: &Text,
     passed: &[Line],
     waiting: bool,

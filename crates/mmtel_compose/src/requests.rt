@@ -8,13 +8,13 @@ ghost use Rattle.mmtel_compose.specs.Requests.{bare_parts, cancel_of, final_ack_
 use crate::received_messages::{ReceivedMessage, remaining_hops};
 use mmtel_base::{List, NoMemory, Text};
 use mmtel_leg::{Dialogue, InDialog, LegOf, RequestParts, Standing, request_numbered};
-use mmtel_message::{Line, Msg};
-use mmtel_types::{Addr, Side};
+use mmtel_message::{Line, Msg, OwnAddress};
+use mmtel_types::Side;
 use std::alloc::Global;
 
 /// The parts of a request that relays none, with these named lines and this body.
 pub fn own_parts<'a>(
-    sip: Addr,
+    sip: OwnAddress,
     branch: &'a Text,
     named: &'a List<Line>,
     body: &'a [u8],
@@ -25,7 +25,7 @@ pub fn own_parts<'a>(
 }
 
 /// The parts of a request that relays none and has neither lines of its own nor a body.
-pub fn bare_parts<'a>(sip: Addr, branch: &'a Text) -> RequestParts<'a>
+pub fn bare_parts<'a>(sip: OwnAddress, branch: &'a Text) -> RequestParts<'a>
     ensures parts { result ≡ bare_parts sip branch.now }
 {
     RequestParts {
@@ -39,7 +39,7 @@ pub fn bare_parts<'a>(sip: Addr, branch: &'a Text) -> RequestParts<'a>
 
 /// The parts of a request that relays this one, with these lines of it: one hop less, and its body (RFC 3261 §16.6).
 pub fn relayed_parts<'a>(
-    sip: Addr,
+    sip: OwnAddress,
     branch: &'a Text,
     passed: &'a List<Line>,
     message: &'a ReceivedMessage,
@@ -64,7 +64,7 @@ pub fn own_request<P>(
     alloc: Global,
     leg: &mut LegOf<P, Standing>,
     method: &[u8],
-    sip: Addr,
+    sip: OwnAddress,
     branch: &Text,
     named: &List<Line>,
     body: &[u8],
@@ -85,7 +85,7 @@ pub fn relayed_request<P, S: InDialog>(
     alloc: Global,
     leg: &mut LegOf<P, S>,
     method: &[u8],
-    sip: Addr,
+    sip: OwnAddress,
     branch: &Text,
     passed: &List<Line>,
     message: &ReceivedMessage,
@@ -113,7 +113,7 @@ pub fn relayed_request<P, S: InDialog>(
 pub fn own_ack(
     alloc: Global,
     dialogue: &Dialogue,
-    sip: Addr,
+    sip: OwnAddress,
     branch: &Text,
 ) -> Result<Msg, NoMemory>
     ensures message { IfOk result (λ m. m ≡ ack_of dialogue.now (bare_parts sip branch.now)) }
@@ -129,7 +129,7 @@ pub fn own_ack(
 pub fn relayed_ack<P>(
     alloc: Global,
     leg: &LegOf<P, Standing>,
-    sip: Addr,
+    sip: OwnAddress,
     branch: &Text,
     passed: &List<Line>,
     message: &ReceivedMessage,
@@ -155,7 +155,7 @@ pub fn cancel(
     alloc: Global,
     dialogue: &Dialogue,
     number: u64,
-    sip: Addr,
+    sip: OwnAddress,
     branch: &Text,
 ) -> Result<Msg, NoMemory>
     ensures message { IfOk result (λ m. m ≡ cancel_of dialogue.now number sip branch.now) }
@@ -184,7 +184,7 @@ pub fn final_ack(
     alloc: Global,
     dialogue: &Dialogue,
     number: u64,
-    sip: Addr,
+    sip: OwnAddress,
     branch: &Text,
     to: Text,
 ) -> Result<Msg, NoMemory>

@@ -6,8 +6,7 @@ ghost use Rattle.mmtel_compose.specs.Responses.{allow_lines, method_names, own_r
 
 use crate::received_messages::{ReceivedMessage, phrase_in, status_of};
 use mmtel_base::{List, NoMemory};
-use mmtel_message::{Line, Msg, Reply, add_bytes, contact_text, phrase_of, response};
-use mmtel_types::Addr;
+use mmtel_message::{Line, Msg, OwnAddress, Reply, add_bytes, phrase_of, response};
 use std::alloc::Global;
 
 /// The content of a response of the server's own (RFC 3261 §8.2.6).
@@ -64,7 +63,7 @@ pub fn own_response_with_contact(
 /// Out of memory only.
 pub fn own_response(
     alloc: Global,
-    sip: Addr,
+    sip: OwnAddress,
     request: &ReceivedMessage,
     tag: &[u8],
     own: OwnResponse<'_>,
@@ -72,8 +71,7 @@ pub fn own_response(
     ensures message { IfOk result (λ m. m
         ≡ own_response (contact_text sip) request.now tag.now own.entry.code own.entry.passed.now own.entry.named.now own.entry.body.now) }
 {
-    let contact = contact_text(alloc, sip)?;
-    own_response_with_contact(alloc, contact.bytes(), request, tag, own)
+    own_response_with_contact(alloc, sip.contact(), request, tag, own)
 }
 
 /// The response that relays a received one, with these lines of it: its status, phrase and body, and the server's Contact where one is due (RFC 3261 §16.7).
@@ -83,7 +81,7 @@ pub fn own_response(
 /// Out of memory only.
 pub fn relayed_response(
     alloc: Global,
-    sip: Addr,
+    sip: OwnAddress,
     request: &ReceivedMessage,
     tag: &[u8],
     passed: &[Line],
@@ -91,13 +89,12 @@ pub fn relayed_response(
 ) -> Result<Msg, NoMemory>
     ensures message { IfOk result (λ m. m ≡ relayed_response (contact_text sip) request.now tag.now passed.now heard.now) }
 {
-    let contact = contact_text(alloc, sip)?;
     let reply = Reply {
         code: status_of(heard.message.start()),
         phrase: phrase_in(heard.message.start()),
         tag,
         source: Some(request.source),
-        contact: contact.bytes(),
+        contact: sip.contact(),
         passed,
         named: &[],
         body: heard.message.body(),

@@ -9,6 +9,7 @@ use crate::drafts::Draft;
 use crate::lines::next_line;
 use mmtel_base::{NoMemory, Text};
 use mmtel_lex::Uri;
+use mmtel_message::OwnAddress;
 use mmtel_sdp::Mixer;
 use mmtel_trust::{Accounts, PeerTable};
 use mmtel_types::Addr;
@@ -29,7 +30,7 @@ pub struct WebDirectory {
 #[derive(Drop)]
 pub struct Directory {
     /// The server's own address for SIP.
-    pub sip: Addr,
+    pub sip: OwnAddress,
     /// The server's own address for HTTP.
     pub web: Addr,
     /// The home domain.

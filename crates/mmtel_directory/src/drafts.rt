@@ -8,6 +8,7 @@ use crate::config_lines::{Extension, Line, read_line};
 use crate::directories::{Directory, DirectoryFault, WebDirectory};
 use mmtel_base::{List, NoMemory, Text};
 use mmtel_lex::Uri;
+use mmtel_message::OwnAddress;
 use mmtel_sdp::Mixer;
 use mmtel_trust::{Accounts, KnownPeer, PeerTable, Route, TableFault};
 use mmtel_types::limits::{ACCOUNTS, DIVERSIONS_DEFAULT, ROUTES};
@@ -230,7 +231,7 @@ impl Draft {
     {
         match (self.sip, self.home) {
             (Some(sip), Some(home)) => Ok(Directory {
-                sip,
+                sip: OwnAddress::of(sip),
                 web: web_or_default(self.web),
                 home,
                 peers: self.peers,

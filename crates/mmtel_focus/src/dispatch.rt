@@ -14,13 +14,14 @@ use crate::live::{LiveConferences, give_up_conference};
 use crate::signals::{BorrowedSignal, RoomSignal};
 use mmtel_base::{List, NoMemory};
 use mmtel_compose::ReceivedMessage;
+use mmtel_message::OwnAddress;
 use mmtel_output::{
     AbandonedInvite, Mark, abandoned_at, abandoned_of, awaited_request_branch, drop_at, push_item,
     timed_out_branch,
 };
 use mmtel_participants::{self as seats, Effects, ParticipantState, StepContext};
 use mmtel_transaction::{TKey, hash_of};
-use mmtel_types::{Addr, RoomNo};
+use mmtel_types::RoomNo;
 use std::alloc::Global;
 
 /// The place of the participant of a conference to which the INVITE of this branch was sent.
@@ -191,7 +192,7 @@ fn receive_by_branch(
 fn receive_abandoned_at(
     abandoned: &mut List<AbandonedInvite>,
     alloc: Global,
-    sip: Addr,
+    sip: OwnAddress,
     key: TKey,
     response: &ReceivedMessage,
     place: usize,

@@ -17,6 +17,7 @@ use mmtel_base::{List, NoMemory, Text};
 use mmtel_charging::{Row, drop_first};
 use mmtel_compose::FurtherMethods;
 use mmtel_leg::DialogName;
+use mmtel_message::OwnAddress;
 use mmtel_output::AbandonedInvite;
 use mmtel_participants::{ConferenceConfig, Effects, StepContext};
 use mmtel_sdp::Mixer;
@@ -29,7 +30,7 @@ use std::mem;
 
 /// The conferences of a server. The value is linear: it must be spent.
 pub struct Rooms {
-    sip: Addr,
+    sip: OwnAddress,
     mixer: Mixer,
     methods: FurtherMethods,
     live: LiveConferences,
@@ -70,7 +71,7 @@ impl Rooms {
             ≡ record { sip = sip; mixer = mixer; methods = no_further_methods; table = empty_table; has_failed = false }) }
     {
         Ok(Rooms {
-            sip,
+            sip: OwnAddress::of(sip),
             mixer,
             methods: FurtherMethods {
                 reliable: false,

@@ -10,8 +10,8 @@ use crate::remotes::Remote;
 use crate::requests::RequestParts;
 use mmtel_base::{List, NoMemory, Text};
 use mmtel_charging::Meter;
-use mmtel_message::{Line, Msg};
-use mmtel_types::{Addr, Peer};
+use mmtel_message::{Line, Msg, OwnAddress};
+use mmtel_types::Peer;
 use std::alloc::Global;
 use std::marker::{Model, PhantomData};
 use std::mem;
@@ -324,7 +324,7 @@ impl<P, S: InDialog> LegOf<P, S> {
         &mut self,
         alloc: Global,
         method: &[u8],
-        sip: Addr,
+        sip: OwnAddress,
         hops: u8,
         branch: &Text,
         shown: &List<Line>,
@@ -350,7 +350,7 @@ impl<P> LegOf<P, Standing> {
     pub fn ack(
         &self,
         alloc: Global,
-        sip: Addr,
+        sip: OwnAddress,
         hops: u8,
         branch: &Text,
         shown: &List<Line>,

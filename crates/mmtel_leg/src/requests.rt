@@ -10,10 +10,10 @@ ghost use Rattle.mmtel_leg.specs.Requests.{request_numbered, request_of, route_l
 use crate::dialogues::Dialogue;
 use mmtel_base::{List, NoMemory, Text, add_number};
 use mmtel_message::{
-    Line, Msg, Start, add_bytes, add_decimal, add_line, add_passed, contact_text, is_line,
-    tagged_value, via_text,
+    Line, Msg, OwnAddress, Start, add_bytes, add_decimal, add_line, add_passed, is_line,
+    tagged_value,
 };
-use mmtel_types::{Addr, Side};
+use mmtel_types::Side;
 use std::alloc::Global;
 use std::marker::Model;
 
@@ -21,7 +21,7 @@ use std::marker::Model;
 #[derive(Drop)]
 pub struct RequestParts<'a> {
     /// The server's address.
-    pub sip: Addr,
+    pub sip: OwnAddress,
     /// The value of Max-Forwards.
     pub hops: u8,
     /// What follows the cookie of the branch.
@@ -43,7 +43,7 @@ impl<'a> Model for RequestParts<'a> {
 impl<'a> RequestParts<'a> {
     /// These parts.
     pub fn of(
-        sip: Addr,
+        sip: OwnAddress,
         hops: u8,
         branch: &'a Text,
         shown: &'a List<Line>,
@@ -73,10 +73,15 @@ fn add_routes(alloc: Global, out: &mut List<Line>, routes: &[Text]) -> Result<()
     Ok(())
 }
 
-fn add_via(alloc: Global, out: &mut List<Line>, sip: Addr, branch: &[u8]) -> Result<(), NoMemory>
+fn add_via(
+    alloc: Global,
+    out: &mut List<Line>,
+    sip: OwnAddress,
+    branch: &[u8],
+) -> Result<(), NoMemory>
     ensures { OnOk result (out.new ≡ out.old ++ line (codes "Via") (via_text sip branch.now)) }
 {
-    let via = via_text(alloc, sip, branch)?;
+    let via = sip.via_text(alloc, branch)?;
     add_line(alloc, out, b"Via", via)
 }
 
@@ -91,7 +96,7 @@ fn add_routing(
     alloc: Global,
     out: &mut List<Line>,
     routes: &[Text],
-    sip: Addr,
+    sip: OwnAddress,
     hops: u8,
     branch: &[u8],
 ) -> Result<(), NoMemory>
@@ -171,14 +176,13 @@ fn add_contact(
     alloc: Global,
     out: &mut List<Line>,
     method: &[u8],
-    sip: Addr,
+    sip: OwnAddress,
     shown: &[Line],
 ) -> Result<(), NoMemory>
     ensures { OnOk result (out.new ≡ out.old ++ contact_lines method.now sip shown.now) }
 {
     if is_contacting(method) && !has_line(b"Contact", shown) {
-        let contact = contact_text(alloc, sip)?;
-        return add_line(alloc, out, b"Contact", contact);
+        return add_bytes(alloc, out, b"Contact", sip.contact());
     }
     Ok(())
 }
@@ -188,7 +192,7 @@ fn add_content(
     alloc: Global,
     out: &mut List<Line>,
     method: &[u8],
-    sip: Addr,
+    sip: OwnAddress,
     shown: &[Line],
     body: &[u8],
 ) -> Result<(), NoMemory>

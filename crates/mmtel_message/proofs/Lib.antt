@@ -1,3 +1,4 @@
+mod AddressTheorems
 mod TransactionNameTheorems
 mod BodyTheorems
 pub mod CanonicalTheorems

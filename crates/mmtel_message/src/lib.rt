@@ -28,7 +28,7 @@ mod transaction_names;
 mod values;
 mod vias;
 
-pub use addresses::{addr_text, contact_text, ip_text, via_text};
+pub use addresses::{OwnAddress, ip_text};
 pub use building::{add_bytes, add_decimal, add_line, add_named, add_passed};
 pub use entries::is_index_value;
 pub use faults::{is_method, is_readable, is_request};

@@ -15,7 +15,7 @@ use crate::subscriptions::{
 };
 use mmtel_base::{List, NoMemory, Text};
 use mmtel_leg::{CallerLeg, DialogName, DialogueFault, Ended, Standing};
-use mmtel_message::Msg;
+use mmtel_message::{Msg, OwnAddress};
 use mmtel_types::{Account, Addr, Cause, Moment, Peer, SubNo};
 use std::alloc::Global;
 use std::marker::Model;
@@ -34,7 +34,7 @@ pub enum SubFault {
 
 /// The counts uploaded for the mailboxes of a server, and the subscriptions to them (RFC 3842 §3). The value is linear: it must be spent.
 pub struct Boxes {
-    sip: Addr,
+    sip: OwnAddress,
     mailboxes: Mailboxes,
     made: u64,
     live: Vec<Subscription>,
@@ -110,7 +110,7 @@ impl Boxes {
         ensures nothing { result ≡ record { sip = sip; table = empty_table } }
     {
         Boxes {
-            sip,
+            sip: OwnAddress::of(sip),
             mailboxes: Mailboxes::new(alloc),
             made: 0,
             live: Vec::new(alloc),

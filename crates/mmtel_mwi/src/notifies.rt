@@ -9,8 +9,8 @@ use crate::counts::Counts;
 use mmtel_base::{List, NoMemory, Text, add_number};
 use mmtel_compose::own_request;
 use mmtel_leg::{CallerLeg, Standing};
-use mmtel_message::{Line, Msg, add_bytes, add_line};
-use mmtel_types::{Addr, Moment};
+use mmtel_message::{Line, Msg, OwnAddress, add_bytes, add_line};
+use mmtel_types::Moment;
 use std::alloc::Global;
 
 fn messages_waiting(fresh: u32) -> &'static [u8]
@@ -94,7 +94,7 @@ fn notify_lines(alloc: Global, last: bool, seconds: u64) -> Result<List<Line>, N
 /// The NOTIFY in the dialog of this leg.
 pub fn notify_request(
     alloc: Global,
-    sip: Addr,
+    sip: OwnAddress,
     leg: &mut CallerLeg<Standing>,
     branch: &Text,
     last: bool,

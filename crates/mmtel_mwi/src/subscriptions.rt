@@ -11,8 +11,8 @@ use crate::counts::Counts;
 use crate::notifies::{notify_request, remaining_seconds};
 use mmtel_base::{List, NoMemory, Text};
 use mmtel_leg::{CallerLeg, DialogName, DialogueFault, Ended, InFlight, Standing};
-use mmtel_message::Msg;
-use mmtel_types::{Account, Addr, Moment, SubNo};
+use mmtel_message::{Msg, OwnAddress};
+use mmtel_types::{Account, Moment, SubNo};
 use std::alloc::Global;
 
 /// A subscription to a mailbox. The value is linear: it must be spent.
@@ -166,7 +166,7 @@ impl Subscription {
     pub fn notify(
         &mut self,
         alloc: Global,
-        sip: Addr,
+        sip: OwnAddress,
         branch: &Text,
         last: bool,
         now: Moment,

@@ -15,9 +15,10 @@ use crate::sent_invites::{AbandonedInvite, early_remote, is_cancellable};
 use mmtel_base::{NoMemory, copied_texts};
 use mmtel_compose::{ReceivedMessage, as_callee, status_of};
 use mmtel_leg::{Dialogue, Remote};
+use mmtel_message::OwnAddress;
 use mmtel_sip_rules::is_of_dialog;
 use mmtel_transaction::TKey;
-use mmtel_types::{Addr, Side};
+use mmtel_types::Side;
 use std::alloc::Global;
 
 impl AbandonedInvite {
@@ -170,7 +171,7 @@ impl StepOutput {
     fn acknowledge_and_end(
         &mut self,
         alloc: Global,
-        sip: Addr,
+        sip: OwnAddress,
         dialogue: &mut Dialogue,
     ) -> Result<(), NoMemory>
         ensures done { OnOk result (self.new ≡ with_bye sip dialogue.old (with_ack sip dialogue.old self.old)) }
@@ -185,7 +186,7 @@ impl StepOutput {
     fn end_fork(
         &mut self,
         alloc: Global,
-        sip: Addr,
+        sip: OwnAddress,
         abandoned: &mut AbandonedInvite,
         dialogue: Dialogue,
     ) -> Result<(), NoMemory>
@@ -207,7 +208,7 @@ impl StepOutput {
     fn receive_success(
         &mut self,
         alloc: Global,
-        sip: Addr,
+        sip: OwnAddress,
         abandoned: &mut AbandonedInvite,
         remote: Remote,
     ) -> Result<(), NoMemory>
@@ -238,7 +239,7 @@ impl StepOutput {
     fn send_due_cancel(
         &mut self,
         alloc: Global,
-        sip: Addr,
+        sip: OwnAddress,
         abandoned: &mut AbandonedInvite,
     ) -> Result<(), NoMemory>
         requires { abandoned.old.invite.provisional ≡ true }
@@ -257,7 +258,7 @@ impl StepOutput {
     fn receive_below_300(
         &mut self,
         alloc: Global,
-        sip: Addr,
+        sip: OwnAddress,
         key: TKey,
         abandoned: &mut AbandonedInvite,
         received: &ReceivedMessage,
@@ -281,7 +282,7 @@ impl StepOutput {
     fn receive_in(
         &mut self,
         alloc: Global,
-        sip: Addr,
+        sip: OwnAddress,
         key: TKey,
         abandoned: &mut AbandonedInvite,
         received: &ReceivedMessage,
@@ -308,7 +309,7 @@ impl StepOutput {
     pub fn receive_abandoned(
         &mut self,
         alloc: Global,
-        sip: Addr,
+        sip: OwnAddress,
         key: TKey,
         abandoned: AbandonedInvite,
         received: &ReceivedMessage,

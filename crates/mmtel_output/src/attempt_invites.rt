@@ -9,9 +9,8 @@ use crate::sent_invites::SentInvite;
 use mmtel_base::NoMemory;
 use mmtel_compose::{Destination, ReceivedMessage, attempt_dialogue, invite};
 use mmtel_leg::Dialogue;
-use mmtel_message::Line;
+use mmtel_message::{Line, OwnAddress};
 use mmtel_transaction::Emit;
-use mmtel_types::Addr;
 use std::alloc::Global;
 
 /// The INVITE of an attempt, as it is made of the one that opened the call.
@@ -54,7 +53,7 @@ impl StepOutput {
     pub fn send_attempt_invite(
         &mut self,
         alloc: Global,
-        sip: Addr,
+        sip: OwnAddress,
         destination: Destination,
         attempt: AttemptInvite<'_>,
     ) -> Result<SentInvite, NoMemory>

@@ -7,9 +7,8 @@ use crate::outputs::StepOutput;
 use crate::sent_invites::{SentInvite, is_cancellable};
 use mmtel_base::{NoMemory, Text};
 use mmtel_compose::{ReceivedMessage, cancel, final_ack};
-use mmtel_message::Msg;
+use mmtel_message::{Msg, OwnAddress};
 use mmtel_transaction::{Emit, TKey};
-use mmtel_types::Addr;
 use std::alloc::Global;
 
 /// The value of To, or no bytes.
@@ -29,7 +28,12 @@ impl StepOutput {
     /// # Errors
     ///
     /// Out of memory only; the output is then as before.
-    pub fn cancel(&mut self, alloc: Global, sip: Addr, invite: &SentInvite) -> Result<(), NoMemory>
+    pub fn cancel(
+        &mut self,
+        alloc: Global,
+        sip: OwnAddress,
+        invite: &SentInvite,
+    ) -> Result<(), NoMemory>
         ensures done { OnOk result (self.new ≡ with_due_cancel sip invite.now self.old) }
         ensures refused { OnErr result (self.new ≡ self.old) }
     {
@@ -47,7 +51,7 @@ impl StepOutput {
     pub fn send_cancel(
         &mut self,
         alloc: Global,
-        sip: Addr,
+        sip: OwnAddress,
         invite: &SentInvite,
     ) -> Result<(), NoMemory>
         ensures done { OnOk result (self.new ≡ with_cancel sip invite.now self.old) }
@@ -71,7 +75,7 @@ impl StepOutput {
     pub fn acknowledge_final(
         &mut self,
         alloc: Global,
-        sip: Addr,
+        sip: OwnAddress,
         key: TKey,
         invite: &SentInvite,
         received: &ReceivedMessage,

@@ -13,14 +13,18 @@ use mmtel_compose::{
     own_response_with_contact, relayed_ack, relayed_request, relayed_response,
 };
 use mmtel_leg::{Dialogue, InDialog, LegOf, Standing};
-use mmtel_message::Line;
+use mmtel_message::{Line, OwnAddress};
 use mmtel_transaction::{Emit, TKey};
-use mmtel_types::Addr;
 use std::alloc::Global;
 
 /// The text of the ACK of a dialog's 2xx that relays none.
 #[tactic(auto, unfolding(crate::specs::Sending::ack_text))]
-fn ack_text(alloc: Global, sip: Addr, dialogue: &Dialogue, branch: &Text) -> Result<Text, NoMemory>
+fn ack_text(
+    alloc: Global,
+    sip: OwnAddress,
+    dialogue: &Dialogue,
+    branch: &Text,
+) -> Result<Text, NoMemory>
     ensures { IfOk result (λ t. t ≡ ack_text sip dialogue.now branch.now) }
 {
     let message = own_ack(alloc, dialogue, sip, branch)?;
@@ -31,7 +35,7 @@ fn ack_text(alloc: Global, sip: Addr, dialogue: &Dialogue, branch: &Text) -> Res
 #[tactic(auto, unfolding(crate::specs::Sending::relayed_ack_text))]
 fn relayed_ack_text<P>(
     alloc: Global,
-    sip: Addr,
+    sip: OwnAddress,
     leg: &LegOf<P, Standing>,
     branch: &Text,
     passed: &List<Line>,
@@ -74,7 +78,7 @@ impl StepOutput {
     pub fn respond(
         &mut self,
         alloc: Global,
-        sip: Addr,
+        sip: OwnAddress,
         key: TKey,
         request: &ReceivedMessage,
         tag: &[u8],
@@ -96,7 +100,7 @@ impl StepOutput {
     pub fn respond_with_status(
         &mut self,
         alloc: Global,
-        sip: Addr,
+        sip: OwnAddress,
         key: TKey,
         request: &ReceivedMessage,
         tag: &[u8],
@@ -122,7 +126,7 @@ impl StepOutput {
     pub fn relay_response(
         &mut self,
         alloc: Global,
-        sip: Addr,
+        sip: OwnAddress,
         key: TKey,
         request: &ReceivedMessage,
         tag: &[u8],
@@ -144,7 +148,7 @@ impl StepOutput {
     pub fn send_own_request<P>(
         &mut self,
         alloc: Global,
-        sip: Addr,
+        sip: OwnAddress,
         method: &[u8],
         leg: &mut LegOf<P, Standing>,
         named: &List<Line>,
@@ -172,7 +176,7 @@ impl StepOutput {
     pub fn send_bare_request<P>(
         &mut self,
         alloc: Global,
-        sip: Addr,
+        sip: OwnAddress,
         method: &[u8],
         leg: &mut LegOf<P, Standing>,
     ) -> Result<(), NoMemory>
@@ -194,7 +198,7 @@ impl StepOutput {
     pub fn send_bye<P>(
         &mut self,
         alloc: Global,
-        sip: Addr,
+        sip: OwnAddress,
         leg: &mut LegOf<P, Standing>,
     ) -> Result<(), NoMemory>
         ensures done { OnOk result (self.new ≡ with_bye sip leg.old.dialogue self.old) }
@@ -213,7 +217,7 @@ impl StepOutput {
     pub fn relay_request<P, S: InDialog>(
         &mut self,
         alloc: Global,
-        sip: Addr,
+        sip: OwnAddress,
         method: &[u8],
         leg: &mut LegOf<P, S>,
         passed: &List<Line>,
@@ -241,7 +245,7 @@ impl StepOutput {
     pub fn acknowledge_in(
         &mut self,
         alloc: Global,
-        sip: Addr,
+        sip: OwnAddress,
         dialogue: &Dialogue,
     ) -> Result<(), NoMemory>
         ensures done { OnOk result (self.new ≡ with_ack sip dialogue.now self.old) }
@@ -267,7 +271,7 @@ impl StepOutput {
     pub fn acknowledge_keeping(
         &mut self,
         alloc: Global,
-        sip: Addr,
+        sip: OwnAddress,
         dialogue: &Dialogue,
     ) -> Result<Text, NoMemory>
         ensures text { IfOk result (λ t. t ≡ ack_text sip dialogue.now (token self.old)) }
@@ -291,7 +295,7 @@ impl StepOutput {
     pub fn acknowledge<P>(
         &mut self,
         alloc: Global,
-        sip: Addr,
+        sip: OwnAddress,
         leg: &LegOf<P, Standing>,
     ) -> Result<(), NoMemory>
         ensures done { OnOk result (self.new ≡ with_ack sip leg.now.dialogue self.old) }
@@ -309,7 +313,7 @@ impl StepOutput {
     pub fn send_bye_in(
         &mut self,
         alloc: Global,
-        sip: Addr,
+        sip: OwnAddress,
         dialogue: &mut Dialogue,
     ) -> Result<(), NoMemory>
         ensures done { OnOk result (self.new ≡ with_bye sip dialogue.old self.old) }
@@ -332,7 +336,7 @@ impl StepOutput {
     pub fn relay_ack<P>(
         &mut self,
         alloc: Global,
-        sip: Addr,
+        sip: OwnAddress,
         leg: &LegOf<P, Standing>,
         passed: &List<Line>,
         received: &ReceivedMessage,

@@ -1,9 +1,10 @@
 //! The configuration and the context of each step of a conference.
 
 use mmtel_compose::FurtherMethods;
+use mmtel_message::OwnAddress;
 use mmtel_sdp::Mixer;
 use mmtel_trust::{Accounts, PeerTable};
-use mmtel_types::{Addr, Moment};
+use mmtel_types::Moment;
 use std::alloc::Global;
 use std::marker::Model;
 
@@ -11,7 +12,7 @@ use std::marker::Model;
 #[derive(Drop)]
 pub struct ConferenceConfig<'a> {
     /// The server's address.
-    pub sip: Addr,
+    pub sip: OwnAddress,
     /// Where the mixer receives media.
     pub mixer: Mixer,
     /// The methods that the server supports beside those that it always supports.

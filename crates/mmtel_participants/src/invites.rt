@@ -8,10 +8,11 @@ use crate::participants::{Invite, ParticipantState, Party};
 use mmtel_base::{NoMemory, Text};
 use mmtel_compose::ReceivedMessage;
 use mmtel_leg::Remote;
+use mmtel_message::OwnAddress;
 use mmtel_output::{SentInvite, StepOutput};
 use mmtel_sip_rules::is_cancel_due;
 use mmtel_transaction::TKey;
-use mmtel_types::{Account, Addr, Moment, RoomNo};
+use mmtel_types::{Account, Moment, RoomNo};
 use std::alloc::Global;
 use std::mem;
 
@@ -44,7 +45,7 @@ impl Invite {
     fn acknowledge_failure(
         &self,
         alloc: Global,
-        sip: Addr,
+        sip: OwnAddress,
         key: TKey,
         response: &ReceivedMessage,
         output: &mut StepOutput,
@@ -115,7 +116,7 @@ impl ParticipantState {
     pub fn acknowledge_failure(
         &self,
         alloc: Global,
-        sip: Addr,
+        sip: OwnAddress,
         key: TKey,
         response: &ReceivedMessage,
         output: &mut StepOutput,
@@ -129,7 +130,12 @@ impl ParticipantState {
     }
 
     /// Cancels the server's INVITE to the participant, where that is due.
-    pub fn cancel(&self, alloc: Global, sip: Addr, output: &mut StepOutput) -> Result<(), NoMemory>
+    pub fn cancel(
+        &self,
+        alloc: Global,
+        sip: OwnAddress,
+        output: &mut StepOutput,
+    ) -> Result<(), NoMemory>
         ensures cancelled { OnOk result (output.new ≡ with_invite_cancel sip self.now.invite output.old) }
     {
         match &self.invite {

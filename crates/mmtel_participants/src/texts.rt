@@ -3,26 +3,30 @@ ghost use Rattle.std.specs.Prelude.{◌≡◌, IfOk};
 ghost use Rattle.mmtel_participants.specs.Texts.{conference_from, conference_uri, contact_and_sdp_lines, contact_value, notify_lines, sdp_lines, sipfrag, subscription_state};
 
 use mmtel_base::{List, NoMemory, Text, add_number};
-use mmtel_message::{Line, add_bytes, add_line, addr_text};
-use mmtel_types::{Addr, RoomNo};
+use mmtel_message::{Line, OwnAddress, add_bytes, add_line};
+use mmtel_types::RoomNo;
 use std::alloc::Global;
 
 /// The URI of a conference (RFC 4579 §4.4).
 #[tactic(auto, unfolding(crate::specs::Texts::conference_uri))]
-fn conference_uri(alloc: Global, sip: Addr, room: RoomNo) -> Result<Text, NoMemory>
+fn conference_uri(alloc: Global, sip: OwnAddress, room: RoomNo) -> Result<Text, NoMemory>
     ensures { IfOk result (λ t. t ≡ conference_uri sip room) }
 {
-    let addr = addr_text(alloc, sip)?;
     let mut out = Text::of(alloc, b"sip:room-")?;
     add_number(alloc, &mut out, room.0)?;
     out.push(alloc, b"@")?;
-    out.push(alloc, addr.bytes())?;
+    out.push(alloc, sip.text())?;
     Ok(out)
 }
 
 /// The conference as From of an INVITE, with this tag.
 #[tactic(auto, unfolding(crate::specs::Texts::conference_from))]
-pub fn conference_from(alloc: Global, sip: Addr, room: RoomNo, tag: &[u8]) -> Result<Text, NoMemory>
+pub fn conference_from(
+    alloc: Global,
+    sip: OwnAddress,
+    room: RoomNo,
+    tag: &[u8],
+) -> Result<Text, NoMemory>
     ensures { IfOk result (λ t. t ≡ conference_from sip room tag.now) }
 {
     let uri = conference_uri(alloc, sip, room)?;
@@ -35,7 +39,7 @@ pub fn conference_from(alloc: Global, sip: Addr, room: RoomNo, tag: &[u8]) -> Re
 
 /// The conference as Contact (RFC 4579 §5.1).
 #[tactic(auto, unfolding(crate::specs::Texts::contact_value))]
-pub fn contact_value(alloc: Global, sip: Addr, room: RoomNo) -> Result<Text, NoMemory>
+pub fn contact_value(alloc: Global, sip: OwnAddress, room: RoomNo) -> Result<Text, NoMemory>
     ensures contact { IfOk result (λ t. t ≡ contact_value sip room) }
 {
     let uri = conference_uri(alloc, sip, room)?;
@@ -57,7 +61,11 @@ pub fn sdp_lines(alloc: Global) -> Result<List<Line>, NoMemory>
 
 /// The header fields of a request of a conference with a session description.
 #[tactic(auto, unfolding(mmtel_message::specs::Message::line))]
-pub fn contact_and_sdp_lines(alloc: Global, sip: Addr, room: RoomNo) -> Result<List<Line>, NoMemory>
+pub fn contact_and_sdp_lines(
+    alloc: Global,
+    sip: OwnAddress,
+    room: RoomNo,
+) -> Result<List<Line>, NoMemory>
     ensures lines { IfOk result (λ ls. ls ≡ contact_and_sdp_lines sip room) }
 {
     let contact = contact_value(alloc, sip, room)?;
@@ -82,7 +90,7 @@ fn subscription_state(is_active: bool) -> &'static [u8]
 #[tactic(auto, unfolding(crate::specs::Texts::notify_lines, mmtel_message::specs::Message::line))]
 pub fn notify_lines(
     alloc: Global,
-    sip: Addr,
+    sip: OwnAddress,
     room: RoomNo,
     is_active: bool,
 ) -> Result<List<Line>, NoMemory>

@@ -8,7 +8,7 @@ use mmtel_admission::{
 };
 use mmtel_base::{List, NoMemory};
 use mmtel_compose::ReceivedMessage;
-use mmtel_message::{Msg, add_bytes, reply_with};
+use mmtel_message::{Msg, OwnAddress, add_bytes, reply_with};
 use std::alloc::Global;
 
 /// An INVITE whose Via names another address than that from which it came.
@@ -146,7 +146,7 @@ fn write_completed(page: &mut Page, request: &ReceivedMessage) {
 fn write_hidden(page: &mut Page, request: &ReceivedMessage) {
     write_tag(page, request);
     let refusal = refusal(page);
-    let built = response_to(page.alloc, SIP, b"t1", request, &refusal);
+    let built = response_to(page.alloc, OwnAddress::of(SIP), b"t1", request, &refusal);
     drop(refusal);
     write_report(page, built);
     write_completed(page, request);
@@ -156,7 +156,7 @@ fn write_hidden(page: &mut Page, request: &ReceivedMessage) {
 fn write_open(page: &mut Page, request: &ReceivedMessage) {
     write_tag(page, request);
     let refusal = plain_response(503);
-    let built = response_to(page.alloc, SIP, b"t1", request, &refusal);
+    let built = response_to(page.alloc, OwnAddress::of(SIP), b"t1", request, &refusal);
     drop(refusal);
     write_report(page, built);
     write_dialog(page, request);

@@ -19,6 +19,7 @@ use mmtel_base::{List, NoMemory, skip_text, split_once_at};
 use mmtel_call::{Call, Phase, Signal, Stage};
 use mmtel_call_services::{Arrival, CallConfig, Snapshot};
 use mmtel_compose::ReceivedMessage;
+use mmtel_message::OwnAddress;
 use mmtel_test_tables::{Transcript, split_or_all};
 use mmtel_transaction::{DueWord, TKey};
 use mmtel_types::{CallNo, Moment, Side};
@@ -90,7 +91,7 @@ fn write_step(
 fn setting(world: &TestEnvironment) -> CallConfig<'_> {
     let bound = if world.bound < 16 { world.bound } else { 16 };
     CallConfig {
-        sip: SIP,
+        sip: OwnAddress::of(SIP),
         home: b"home.example",
         bound,
         country: None,

@@ -101,14 +101,14 @@ fn empty_tables(alloc: Global, directory: &Directory) -> Result<(Calls, Rooms), 
     let calls = Calls::new(
         alloc,
         home,
-        directory.sip,
+        directory.sip.addr(),
         directory.bound,
         country,
         directory.reliable,
         directory.timer,
     )?;
     let calls = calls.with_mwi(directory.names.mwi);
-    match Rooms::new(alloc, directory.mixer, directory.sip) {
+    match Rooms::new(alloc, directory.mixer, directory.sip.addr()) {
         Ok(rooms) => Ok((calls, rooms.with_methods(further_methods(directory)))),
         Err(error) => {
             calls.give_up();
@@ -152,7 +152,7 @@ impl Server {
                 return Err(error);
             }
         };
-        let boxes = Boxes::new(alloc, directory.sip);
+        let boxes = Boxes::new(alloc, directory.sip.addr());
         Ok(Server {
             directory,
             tokens: Tokens::new(token),

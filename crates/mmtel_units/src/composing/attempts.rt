@@ -1,9 +1,8 @@
 //! An attempt from its offer to its end, and late responses.
 
 use crate::asserting::assert_right;
-use crate::composing::received_messages::{
-    OPENING, SIP, received_message, step_output, write_output,
-};
+use crate::composing::legs::own_address;
+use crate::composing::received_messages::{OPENING, received_message, step_output, write_output};
 use mmtel_compose::{
     Destination, OwnResponse, ReceivedMessage, diverted_destination, first_destination,
     retry_after_lines,
@@ -76,7 +75,7 @@ fn offered(
         passed: &[],
         waiting: false,
     };
-    let sent = desk.send_attempt_invite(transcript.alloc, SIP, aim, attempt);
+    let sent = desk.send_attempt_invite(transcript.alloc, own_address(), aim, attempt);
     transcript.value_or_fail(sent)
 }
 
@@ -90,7 +89,7 @@ fn begin(
     let tag = transcript.value_or_fail(tag)?;
     let trying = desk.respond_with_status(
         transcript.alloc,
-        SIP,
+        own_address(),
         TKey(0),
         opening,
         tag.bytes(),
@@ -110,12 +109,26 @@ fn give_up(
 ) {
     let cancel = received_message(transcript, GIVEN_UP, 1, 5071, true);
     let tag = b"0123456789abcdef-1";
-    let done = desk.respond_with_status(transcript.alloc, SIP, TKey(2), &cancel, tag, 200);
+    let done = desk.respond_with_status(
+        transcript.alloc,
+        own_address(),
+        TKey(2),
+        &cancel,
+        tag,
+        200,
+    );
     drop(cancel);
     transcript.value_or_fail(done);
-    let done = desk.respond_with_status(transcript.alloc, SIP, TKey(0), opening, tag, 487);
+    let done = desk.respond_with_status(
+        transcript.alloc,
+        own_address(),
+        TKey(0),
+        opening,
+        tag,
+        487,
+    );
     transcript.value_or_fail(done);
-    let done = desk.cancel(transcript.alloc, SIP, sent);
+    let done = desk.cancel(transcript.alloc, own_address(), sent);
     transcript.value_or_fail(done);
 }
 
@@ -127,7 +140,7 @@ fn late(
     lines: &[u8],
 ) -> Option<AbandonedInvite> {
     let heard = received_message(transcript, lines, 2, 5072, false);
-    let left = desk.receive_abandoned(transcript.alloc, SIP, TKey(1), loose, &heard);
+    let left = desk.receive_abandoned(transcript.alloc, own_address(), TKey(1), loose, &heard);
     drop(heard);
     transcript.value_or_fail(left)?
 }
@@ -372,7 +385,7 @@ fn offer_diverted(
         passed: passed.items(),
         waiting: true,
     };
-    let sent = desk.send_attempt_invite(transcript.alloc, SIP, aim, attempt);
+    let sent = desk.send_attempt_invite(transcript.alloc, own_address(), aim, attempt);
     drop(passed);
     transcript.value_or_fail(sent)
 }
@@ -390,7 +403,7 @@ fn offer_first(
         passed: &[],
         waiting: false,
     };
-    let sent = desk.send_attempt_invite(transcript.alloc, SIP, aim, attempt);
+    let sent = desk.send_attempt_invite(transcript.alloc, own_address(), aim, attempt);
     transcript.value_or_fail(sent)
 }
 
@@ -420,7 +433,7 @@ fn refuse_by(
         named: named.items(),
         body: b"",
     };
-    let done = desk.respond(transcript.alloc, SIP, TKey(0), open, tag, own);
+    let done = desk.respond(transcript.alloc, own_address(), TKey(0), open, tag, own);
     transcript.fail_unless(done.is_ok());
 }
 

@@ -1,9 +1,8 @@
 //! Legs in a dialog, early or confirmed: what is relayed in it, and their end.
 
 use crate::asserting::assert_right;
-use crate::composing::received_messages::{
-    OPENING, SIP, received_message, step_output, write_output,
-};
+use crate::composing::legs::own_address;
+use crate::composing::received_messages::{OPENING, received_message, step_output, write_output};
 use mmtel_compose::{ReceivedMessage, as_callee, attempt_dialogue, first_destination};
 use mmtel_leg::{Asked, CalleeLeg, CallerLeg, Dialogue, Early, Ended, Released, Remote, Standing};
 use mmtel_lex::List;
@@ -251,18 +250,18 @@ fn end(transcript: &mut Transcript, ended: Ended) {
 /// The requests to the callee's leg: the caller's ACK, its BYE, and an ACK of the server's own.
 fn ask_callee(transcript: &mut Transcript, desk: &mut StepOutput, leg: &mut CalleeLeg<Standing>) {
     let ack = received_message(transcript, ACKED, 1, 5071, true);
-    let done = desk.relay_ack(transcript.alloc, SIP, leg, &List::new(), &ack);
+    let done = desk.relay_ack(transcript.alloc, own_address(), leg, &List::new(), &ack);
     drop(ack);
     transcript.value_or_fail(done);
     let bye = received_message(transcript, GOES, 1, 5071, true);
     let passed = line(transcript, b"Reason", b"SIP;cause=200");
-    let done = desk.relay_request(transcript.alloc, SIP, b"BYE", leg, &passed, &bye);
+    let done = desk.relay_request(transcript.alloc, own_address(), b"BYE", leg, &passed, &bye);
     drop(passed);
     transcript.value_or_fail(done);
-    let done = desk.respond_with_status(transcript.alloc, SIP, TKey(3), &bye, b"", 200);
+    let done = desk.respond_with_status(transcript.alloc, own_address(), TKey(3), &bye, b"", 200);
     drop(bye);
     transcript.value_or_fail(done);
-    let done = desk.acknowledge(transcript.alloc, SIP, leg);
+    let done = desk.acknowledge(transcript.alloc, own_address(), leg);
     transcript.value_or_fail(done);
 }
 
@@ -280,7 +279,7 @@ fn write_legs(
     }
     if let Some(leg) = caller(transcript, opening) {
         let mut leg = leg;
-        let done = desk.send_bye(transcript.alloc, SIP, &mut leg);
+        let done = desk.send_bye(transcript.alloc, own_address(), &mut leg);
         transcript.value_or_fail(done);
         end(transcript, Released::Caller(leg).leave());
     }
@@ -294,7 +293,15 @@ fn wrong_relays(alloc: Global) -> usize {
     let rings = received_message(&mut transcript, RINGS, 2, 5072, false);
     let mut desk = step_output(&mut transcript);
     let passed = line(&mut transcript, b"Content-Type", b"text/plain");
-    let done = desk.relay_response(alloc, SIP, TKey(0), &opening, b"t1", passed.items(), &rings);
+    let done = desk.relay_response(
+        alloc,
+        own_address(),
+        TKey(0),
+        &opening,
+        b"t1",
+        passed.items(),
+        &rings,
+    );
     drop(passed);
     transcript.value_or_fail(done);
     write_legs(&mut transcript, &mut desk, &opening, &rings);
@@ -317,7 +324,14 @@ fn ask_early(
 ) {
     let request = received_message(transcript, heard, 1, 5071, true);
     let passed = line(transcript, name, value);
-    let done = desk.relay_request(transcript.alloc, SIP, method, leg, &passed, &request);
+    let done = desk.relay_request(
+        transcript.alloc,
+        own_address(),
+        method,
+        leg,
+        &passed,
+        &request,
+    );
     drop(passed);
     drop(request);
     transcript.value_or_fail(done);

@@ -2,7 +2,7 @@
 
 use crate::asserting::assert_right;
 use crate::composing::legs::{
-    ANSWER, CAME, OFFERED, SIP, WritesLeg, moment, write_answered, write_leg, write_meter,
+    ANSWER, CAME, OFFERED, WritesLeg, moment, own_address, write_answered, write_leg, write_meter,
 };
 use crate::messages::drafts::message_of_lines;
 use mmtel_base::{List, Text};
@@ -66,7 +66,14 @@ struct Way;
 
 impl WritesLeg for Way {
     fn write_leg<P>(transcript: &mut Transcript, leg: &mut LegOf<P, Standing>) {
-        let ack = leg.ack(transcript.alloc, SIP, 70, &Text::new(), &List::new(), b"");
+        let ack = leg.ack(
+            transcript.alloc,
+            own_address(),
+            70,
+            &Text::new(),
+            &List::new(),
+            b"",
+        );
         if let Some(ack) = transcript.value_or_fail(ack) {
             write_next_hop(transcript, &ack);
             drop(ack);

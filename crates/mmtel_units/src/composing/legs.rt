@@ -5,7 +5,7 @@ ghost use Rattle.mmtel_types.specs.Moments.{last_moment};
 use crate::messages::drafts::message_of_lines;
 use mmtel_charging::Meter;
 use mmtel_leg::{Asked, CalleeLeg, CallerLeg, Ended, LegOf, Released, Remote, Standing};
-use mmtel_message::Msg;
+use mmtel_message::{Msg, OwnAddress};
 use mmtel_test_tables::Transcript;
 use mmtel_types::{Addr, Cause, Moment, Peer, Side};
 
@@ -14,6 +14,11 @@ pub const SIP: Addr = Addr {
     ip: [127, 0, 0, 1],
     port: 5060,
 };
+
+/// The server's address with its texts.
+pub fn own_address() -> OwnAddress {
+    OwnAddress::of(SIP)
+}
 
 /// A restricted INVITE as it is received.
 pub const CAME: &[u8] = br##"INVITE sip:bob@far.example SIP/2.0

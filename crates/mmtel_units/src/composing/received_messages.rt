@@ -9,12 +9,6 @@ use mmtel_test_tables::Transcript;
 use mmtel_transaction::{Emit, Tokens};
 use mmtel_types::{Addr, Peer};
 
-/// The server's address.
-pub const SIP: Addr = Addr {
-    ip: [127, 0, 0, 1],
-    port: 5060,
-};
-
 /// The INVITE of a caller who requests privacy.
 pub const OPENING: &[u8] = br##"INVITE sip:bob@far.example SIP/2.0
 Via: SIP/2.0/UDP 127.0.0.1:5071;branch=z9hG4bKa1

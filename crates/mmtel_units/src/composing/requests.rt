@@ -2,7 +2,8 @@
 
 use crate::asserting::assert_right;
 use crate::composing::legs::{
-    ANSWER, CAME, OFFERED, SIP, WritesLeg, remote_in, write_answered, write_leg, write_meter,
+    ANSWER, CAME, OFFERED, WritesLeg, own_address, remote_in, write_answered, write_leg,
+    write_meter,
 };
 use crate::messages::drafts::{message_of_lines, write_message};
 use mmtel_base::{List, NoMemory, Text};
@@ -47,7 +48,15 @@ fn write_request<P>(
     body: &[u8],
 ) {
     let branch = branch(transcript, number);
-    let request = leg.request(transcript.alloc, method, SIP, 70, &branch, lines, body);
+    let request = leg.request(
+        transcript.alloc,
+        method,
+        own_address(),
+        70,
+        &branch,
+        lines,
+        body,
+    );
     drop(branch);
     write_built(transcript, request);
 }
@@ -65,7 +74,14 @@ fn write_plain<P>(
 /// Writes the ACK of the last INVITE that the server sent.
 fn write_ack<P>(transcript: &mut Transcript, leg: &LegOf<P, Standing>, hops: u8, number: &[u8]) {
     let branch = branch(transcript, number);
-    let ack = leg.ack(transcript.alloc, SIP, hops, &branch, &List::new(), b"");
+    let ack = leg.ack(
+        transcript.alloc,
+        own_address(),
+        hops,
+        &branch,
+        &List::new(),
+        b"",
+    );
     drop(branch);
     write_built(transcript, ack);
 }
@@ -399,7 +415,7 @@ fn write_untagged(transcript: &mut Transcript) {
 fn write_cancel_to(transcript: &mut Transcript, dialogue: &Dialogue) {
     let branch = branch(transcript, b"4");
     let none = List::new();
-    let parts = RequestParts::of(SIP, 70, &branch, &none, b"");
+    let parts = RequestParts::of(own_address(), 70, &branch, &none, b"");
     let cancel = request_numbered(
         transcript.alloc,
         dialogue,

@@ -91,7 +91,8 @@ fn write_digits(transcript: &mut Transcript, country: &Option<Text>) {
 
 /// Writes what a configuration sets except peers, routes and identities.
 fn write_settings(transcript: &mut Transcript, directory: &Directory) {
-    write_addr(transcript, b"sip", directory.sip.ip, directory.sip.port);
+    let sip = directory.sip.addr();
+    write_addr(transcript, b"sip", sip.ip, sip.port);
     write_addr(transcript, b"web", directory.web.ip, directory.web.port);
     write_addr(
         transcript,

@@ -4,17 +4,23 @@ use crate::asserting::assert_right;
 use crate::messages::drafts::{request, write_lines_to};
 use mmtel_lex::{List, NoMemory, Text};
 use mmtel_message::{
-    Line, Msg, add_bytes, add_decimal, add_line, add_named, add_passed, addr_text, contact_text,
-    ip_text, tagged_value, via_text,
+    Line, Msg, OwnAddress, add_bytes, add_decimal, add_line, add_named, add_passed, ip_text,
+    tagged_value,
 };
 use mmtel_test_tables::Transcript;
 use mmtel_types::Addr;
 use std::alloc::Global;
 
-/// The greatest address that can be written.
+/// The longest address that can be written.
 const FAR: Addr = Addr {
-    ip: [192, 0, 2, 255],
+    ip: [192, 168, 200, 255],
     port: 65535,
+};
+
+/// The shortest one.
+const NEAR: Addr = Addr {
+    ip: [0, 0, 0, 0],
+    port: 1,
 };
 
 /// The server's own.
@@ -41,13 +47,25 @@ fn add(transcript: &mut Transcript, lines: &mut List<Line>, name: &[u8], value: 
     transcript.fail_unless(done.is_ok());
 }
 
+/// How a server of this address identifies itself.
+fn add_own(transcript: &mut Transcript, lines: &mut List<Line>, own: OwnAddress) {
+    add(transcript, lines, b"X-Addr", own.text());
+    add_made(
+        transcript,
+        lines,
+        b"Via",
+        own.via_text(transcript.alloc, b"T-4"),
+    );
+    add(transcript, lines, b"Contact", own.contact());
+}
+
 /// Header fields of each kind, as the server builds them.
 fn build(transcript: &mut Transcript, lines: &mut List<Line>) {
     let alloc = transcript.alloc;
     add_made(transcript, lines, b"X-Ip", ip_text(alloc, FAR.ip));
-    add_made(transcript, lines, b"X-Addr", addr_text(alloc, FAR));
-    add_made(transcript, lines, b"Via", via_text(alloc, SIP, b"T-4"));
-    add_made(transcript, lines, b"Contact", contact_text(alloc, SIP));
+    add_own(transcript, lines, OwnAddress::of(FAR));
+    add_own(transcript, lines, OwnAddress::of(NEAR));
+    add_own(transcript, lines, OwnAddress::of(SIP));
     let bare = transcript.copy(b"<sip:b@h>;x");
     add_made(transcript, lines, b"To", tagged_value(alloc, bare, b"t-1"));
     add(transcript, lines, b"CSeq", b"1 INVITE");
@@ -72,8 +90,14 @@ fn pass(transcript: &mut Transcript, lines: &mut List<Line>) {
 
 /// Via and Contact by RFC 3261 §8.1.1.7 and §8.1.1.8, and a tag after a To value (§19.3); then all that was received, and what of it has a name, which is compared without case
 /// (§7.3.1).
-const BUILT: &[u8] = b"X-Ip: 192.0.2.255
-X-Addr: 192.0.2.255:65535
+const BUILT: &[u8] = b"X-Ip: 192.168.200.255
+X-Addr: 192.168.200.255:65535
+Via: SIP/2.0/UDP 192.168.200.255:65535;branch=z9hG4bKT-4
+Contact: <sip:192.168.200.255:65535>
+X-Addr: 0.0.0.0:1
+Via: SIP/2.0/UDP 0.0.0.0:1;branch=z9hG4bKT-4
+Contact: <sip:0.0.0.0:1>
+X-Addr: 127.0.0.1:5060
 Via: SIP/2.0/UDP 127.0.0.1:5060;branch=z9hG4bKT-4
 Contact: <sip:127.0.0.1:5060>
 To: <sip:b@h>;x;tag=t-1

@@ -15,6 +15,14 @@ always (Err e) p = tt
 same : (o : Option AnsweredInvite) (s t : AnsweredInvite) → o ≡ Some s → o ≡ Some t → s ≡ t
 same o s t e f = cc
 
+-- nothing remains of it
+pub returns-in-None-clause-output : goal.returns-in-None-clause-output
+returns-in-None-clause-output c = λ t is.
+    c.in_ok-receive_abandoned.ensures.output
+    ∙ (ap (λ (a : Addr). (on_response a c.args.key c.args.message.now.parsed (as_abandoned c.remove-sent_invite.result) c.args.output.now).output) c.sip.ensures
+    ∙ ap (λ (u : AnsweredInvite). (on_response c.args.step.now.config.now.sip c.args.key c.args.message.now.parsed (as_abandoned u) c.args.output.now).output)
+    (same (slice_get c.args.self.now.answered_invites c.args.at) c.remove-sent_invite.result t c.remove-sent_invite.ensures.handed_out is))
+
 pub returns-in-Some-clause-output : goal.returns-in-Some-clause-output
 returns-in-Some-clause-output c = λ t is.
     always c.push_item.result
